@@ -1,0 +1,55 @@
+-- `read` meets its contract: each arm's range of the first byte gives its width. Assumes nothing.
+use Prim.Native.Nat.{ℕ, _<_}
+use mathlib.Core.Path.{_≡_, sym}
+use native.Mathlib.Omega.{arith}
+use borrow.Author.Needs.{needs}
+use lib.ListN.{getD}
+use Rattle.integer.proofs.Front.{short}
+use Rattle.integer.proofs.Widths.{wide-at, wide-form}
+use Rattle.integer.proofs.reader.read.Statement.{statement}
+use Rattle.integer.proofs.reader.read.Tie as tie
+
+returns : tie.Need-returns
+returns c = sym (short _ (omega (arith, wide-form (getD (c .before .before .args .s .now) 0 0) .some)))
+
+shared-slice-read-first : tie.Need-shared-slice-read-first
+shared-slice-read-first c = search needs
+
+gather-requires : tie.Need-gather-requires
+gather-requires c κs = (omega arith, sym (wide-at _ 0 (omega arith)))
+
+gather-requires-2 : tie.Need-gather-requires-2
+gather-requires-2 c κs = (omega arith, sym (wide-at _ 1 (omega arith)))
+
+gather-requires-3 : tie.Need-gather-requires-3
+gather-requires-3 c κs = (omega arith, sym (wide-at _ 2 (omega arith)))
+
+gather-requires-4 : tie.Need-gather-requires-4
+gather-requires-4 c κs = (omega arith, sym (wide-at _ 3 (omega (arith, c .before .before .before .shared-slice-known2 .given 0))))
+
+returns-2 : tie.Need-returns-2
+returns-2 c = search needs
+
+returns-3 : tie.Need-returns-3
+returns-3 c = search needs
+
+returns-4 : tie.Need-returns-4
+returns-4 c = search needs
+
+returns-5 : tie.Need-returns-5
+returns-5 c = search needs
+
+pub read-spec : {M : Type 1} → statement M
+read-spec =
+    tie.close
+    (tie.spec
+    returns
+    shared-slice-read-first
+    gather-requires
+    gather-requires-2
+    gather-requires-3
+    gather-requires-4
+    returns-2
+    returns-3
+    returns-4
+    returns-5)

@@ -1,0 +1,50 @@
+// An integer is written in the fewest bytes, at the front of what is lent.
+ghost use mathlib.Core.Path.{_≡_};
+ghost use Prim.Native.Nat.{_≤_};
+ghost use Rattle.integer.specs.Answer.{Leaves};
+ghost use Rattle.integer.specs.Integer.{sizeOf, writeOf, putOf, saying};
+use crate::Writing;
+
+// How many bytes n takes: RFC 9000's table. None, where it is too great to be written.
+pub fn size(n: u64) -> usize
+    ensures { λ r. ⌜ r ≡ sizeOf n ⌝ }
+{
+    match n {
+        0..=63 => 1,
+        64..=16_383 => 2,
+        16_384..=1_073_741_823 => 4,
+        1_073_741_824..=4_611_686_018_427_387_903 => 8,
+        _ => 0,
+    }
+}
+
+// n in as many bytes as its size, which stands in the first two bits; every byte after them stays.
+pub fn write(out: &mut [u8], n: u64) -> Writing
+    ensures { λ r. ⌜ Leaves (writeOf n (now (out .entry))) (saying r) (now (out .exit)) ⌝ }
+{
+    let width = size(n);
+    match width {
+        1 => put(out, 1, n),
+        2 => put(out, 2, 0x4000 + n),
+        4 => put(out, 4, 0x8000_0000 + n),
+        8 => put(out, 8, 0xC000_0000_0000_0000 + n),
+        _ => Writing::TooGreat,
+    }
+}
+
+// The low width bytes of m, most significant first, at the front of out.
+fn put(out: &mut [u8], width: usize, m: u64) -> Writing
+    ensures { λ r. ⌜ Leaves (putOf width m (now (out .entry))) (saying r) (now (out .exit)) ⌝ }
+{
+    if out.len() < width {
+        return Writing::TooShort;
+    }
+    let mut left = m;
+    let mut i = width;
+    while 0 < i {
+        i -= 1;
+        out[i] = (left % 256) as u8;
+        left = left / 256;
+    }
+    Writing::Done(width)
+}
