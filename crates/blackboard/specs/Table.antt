@@ -1,0 +1,65 @@
+-- The lines of document 01 that are marked P, and the edges beside them, as one table. One claim says that every line holds.
+-- Assumes nothing.
+use Prim.Native.Nat.{ℕ}
+use mathlib.Core.Path.{_≡_, refl}
+use mathlib.Core.Logic.{⊎-elim}
+use mathlib.Core.List.{List, [], _∷_, map, List·Memᴰ, List·Memᴰ·not-nil, List·Memᴰ·cases-cons}
+use Rattle.integer.specs.Answer.{Answer, whole, refused, wrote, Written}
+use Rattle.integer.specs.Integer.{wide, room, tag, sizeOf, spell, bytesOf, readOf, putOf, writeOf}
+
+-- a line: what is done, and what it comes to
+pub data Line : Type 0 where
+  -- an integer is read from bytes
+  reads : List ℕ → Answer ℕ → Line
+  -- a number is written into a buffer, which then holds this
+  writes : ℕ → List ℕ → Written → Line
+
+pub data Result : Type 0 where
+  read : Answer ℕ → Result
+  write : Written → Result
+
+-- what a line's doing comes to, by the definitions that the contracts cite
+unfoldable pub found : Line → Result
+found (reads s r) = read (readOf s)
+found (writes n before r) = write (writeOf n before)
+
+-- what the line says
+unfoldable pub stated : Line → Result
+stated (reads s r) = read r
+stated (writes n before r) = write r
+
+unfoldable pub lines : List Line
+lines =
+    -- P1 no bytes: 1
+    reads [] (refused 1)
+    -- P2 `3F` is 63, `40 40` is 64
+    ∷ reads (0x3F ∷ []) (whole 63 1)
+    ∷ reads (0x40 ∷ 0x40 ∷ []) (whole 64 2)
+    -- a longer form is read, a cut one is not
+    ∷ reads (0x40 ∷ 0x25 ∷ []) (whole 37 2)
+    ∷ reads (0x40 ∷ []) (refused 1)
+    -- P3 `7F FF` is 16,383, `80 00 40 00` is 16,384
+    ∷ reads (0x7F ∷ 0xFF ∷ []) (whole 16_383 2)
+    ∷ reads (0x80 ∷ 0x00 ∷ 0x40 ∷ 0x00 ∷ []) (whole 16_384 4)
+    -- P4 65,535 is written `80 00 FF FF`, 65,536 `80 01 00 00`; the byte after it stays
+    ∷ writes 65_535 (1 ∷ 2 ∷ 3 ∷ 4 ∷ 5 ∷ []) (record { says = wrote 4; holds = 0x80 ∷ 0x00 ∷ 0xFF ∷ 0xFF ∷ 5 ∷ [] })
+    ∷ writes 65_536 (1 ∷ 2 ∷ 3 ∷ 4 ∷ []) (record { says = wrote 4; holds = 0x80 ∷ 0x01 ∷ 0x00 ∷ 0x00 ∷ [] })
+    -- too short an output stays as it was
+    ∷ writes 64 (7 ∷ []) (record { says = refused 7; holds = 7 ∷ [] })
+    -- P5 eight `FF` read 4,611,686,018,427,387,903; one more can't be written
+    ∷ reads (0xFF ∷ 0xFF ∷ 0xFF ∷ 0xFF ∷ 0xFF ∷ 0xFF ∷ 0xFF ∷ 0xFF ∷ []) (whole 4_611_686_018_427_387_903 8)
+    ∷ writes 4_611_686_018_427_387_904 [] (record { says = refused 5; holds = [] })
+    ∷ []
+
+computed : map found lines ≡ map stated lines
+unfolding found stated lines wide room tag sizeOf spell bytesOf readOf putOf writeOf
+computed = refl
+
+-- two functions that map a list alike agree at each of its members
+alike : {A B : Type 0} (f g : A → B) (xs : List A) → map f xs ≡ map g xs → (x : A) → List·Memᴰ x xs → f x ≡ g x
+alike f g [] e x m = absurd (List·Memᴰ·not-nil m)
+alike f g (y ∷ ys) e x m = ⊎-elim (λ p. rw p (cc)) (λ q. alike f g ys (cc) x q) (List·Memᴰ·cases-cons m)
+
+-- THE CLAIM: every line of the table holds
+pub every-line : (line : Line) → List·Memᴰ line lines → found line ≡ stated line
+every-line = alike found stated lines computed
