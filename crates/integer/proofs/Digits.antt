@@ -2,10 +2,10 @@
 use Prim.Native.Nat.{ℕ, zero, suc, _+_, _-_, _*_, _/_, _%_, _^_, _≤_, _<_}
 use mathlib.Core.Path.{_≡_, refl, sym, ap, _∙_}
 use mathlib.Core.List.{List, [], _∷_, _++_, append-assoc}
-use native.Mathlib.Nat.{pow-suc, pow-succ', div-lt-iff-lt-mul, div-div-eq-div-mul, zero-lt-suc, not-suc-le-zero, le-refl, div-one, mod-lt, lt-of-lt-of-le}
+use native.Mathlib.Nat.{pow-suc, pow-succ', div-lt-iff-lt-mul, div-div-eq-div-mul, zero-lt-suc, not-suc-le-zero, le-refl, div-one, pow-le-pow-right}
 use native.Mathlib.Numerals.{add-one, sub-one}
 use native.Mathlib.Omega.{arith}
-use lib.Arith.{digits-div, digits-mod, mod-mul}
+use lib.Arith.{digits-lt}
 use lib.Dec.{lit<}
 use lib.ListN.{length, getD, take, drop, set, length-append, length-set, List·getD-append}
 use lib.Pow.{pow-add, pow-pos, pow-mono}
@@ -24,6 +24,14 @@ spell-snoc n (y ∷ ys) x = spell-snoc (n * 256 + y) ys x
 pub spell-next : (s : List ℕ) (i : ℕ) → i < length s → spell 0 (take (i + 1) s) ≡ spell 0 (take i s) * 256 + getD s i 0
 spell-next s i h = rw (add-one, take-suc s i 0, spell-snoc)
 
+-- so many bytes spell less than this
+pub spell-fits : (n i : ℕ) {x : ℕ} → n < 256 ^ i → x < 256 → n * 256 + x < 256 ^ (i + 1)
+spell-fits n i h k = rw (add-one, pow-suc) (digits-lt h k)
+
+-- and eight of them fit a machine's number
+pub eight-fit : (i : ℕ) → i < 8 → 256 ^ (i + 1) ≤ 2 ^ 64
+eight-fit i h = pow-le-pow-right (zero-lt-suc 255) {i = i + 1} {j = 8} (omega arith)
+
 -- ---- what a form has room for
 
 pub room-pos : (w : ℕ) → 0 < room w
@@ -36,35 +44,9 @@ room-suc zero = refl
 room-suc (suc k) =
     ap (λ (e : ℕ). 2 ^ e) (omega arith) ∙ pow-add 2 (8 * suc k - 2) 8 ∙ rw (room-suc k, pow-succ' 256 k) (omega arith)
 
--- one byte more is 256 times the room
-pub room-next : (i : ℕ) → 0 < i → room (i + 1) ≡ room i * 256
-room-next zero h = absurd (not-suc-le-zero h)
-room-next (suc k) h = rw (add-one, room-suc (suc k), room-suc k, pow-succ' 256 k) (omega arith)
-
 pub room-top : (w : ℕ) → w ≤ 8 → room w ≤ 2 ^ 62
 unfolding room
 room-top w h = pow-mono {i = 8 * w - 2} {j = 62} (omega arith)
-
--- a number less what is beyond a room, one byte later
-beyond-next : (n r : ℕ) {x : ℕ} → 0 < r → x < 256 → (n * 256 + x) % (r * 256) ≡ n % r * 256 + x
-beyond-next n r {x} h k =
-    let p : 0 < 256 = lit< tt in
-    rw (mod-mul (n * 256 + x), digits-div n k, digits-mod n k)
-
--- what is gathered after the first byte,
-pub gather-first : (s : List ℕ) → 0 < length s → getD s 0 0 % 64 ≡ spell 0 (take 1 s) % room 1
-unfolding spell room
-gather-first [] h = absurd (not-suc-le-zero h)
-gather-first (x ∷ xs) h = ap (λ (n : ℕ). n % 64) (omega arith)
-
--- and after a turn of the loop
-pub gather-next : (s : List ℕ) (i : ℕ) → 0 < i → i < length s → getD s i 0 < 256 → spell 0 (take i s) % room i * 256 + getD s i 0 ≡ spell 0 (take (i + 1) s) % room (i + 1)
-gather-next s i p h b = sym (rw (spell-next s i h, room-next i p) (beyond-next (spell 0 (take i s)) (room i) (room-pos i) b))
-
--- which fits
-pub gather-fits : (s : List ℕ) (i : ℕ) → 0 < i → i < 8 → i < length s → getD s i 0 < 256 → spell 0 (take i s) % room i * 256 + getD s i 0 < 2 ^ 62
-gather-fits s i p l h b =
-    rw (gather-next s i p h b) (lt-of-lt-of-le (mod-lt (spell 0 (take (i + 1) s)) (room-pos (i + 1))) (room-top (i + 1) (omega arith)))
 
 -- ---- the bytes of a number
 

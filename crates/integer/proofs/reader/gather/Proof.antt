@@ -1,56 +1,52 @@
--- `gather` meets its contract. The loop has gathered the first i bytes, less what the first two bits add to them.
--- Assumes nothing.
-use Prim.Native.Nat.{ℕ, _+_, _-_, _*_, _%_, _^_, _≤_, _<_}
-use mathlib.Core.Path.{_≡_, sym, ap, _∙_}
+-- `gather` meets its contract. The loop has the number that the first i bytes spell. Assumes nothing.
+use Prim.Native.Nat.{ℕ, _+_, _-_, _*_, _^_, _≤_, _<_}
+use mathlib.Core.Path.{_≡_, refl, sym, ap, _∙_}
 use native.Mathlib.Omega.{arith}
-use lib.ListN.{length, getD, take}
-use Rattle.integer.specs.Answer.{whole}
-use Rattle.integer.specs.Integer.{wide, room, spell}
-use Rattle.integer.proofs.Digits.{gather-first, gather-next, gather-fits}
+use lib.Dec.{lit<}
+use lib.ListN.{getD, take}
+use Rattle.integer.specs.Integer.{spell}
+use Rattle.integer.proofs.Digits.{spell-next, spell-fits, eight-fit, room-pos}
 use Rattle.integer.proofs.Widths.{wide-form}
 use Rattle.integer.proofs.Front.{short, joined}
 use Rattle.integer.proofs.reader.gather.Statement.{statement}
 use Rattle.integer.proofs.reader.gather.Tie as tie
 
 abbrev Inv-loop : tie.InvT-loop
-Inv-loop s width first number₀ i₀ number i = (0 < i) × (i ≤ width) × (number ≡ spell 0 (take i s) % room i)
+Inv-loop s width room number₀ i₀ number i = (i ≤ width) × (number ≡ spell 0 (take i s)) × (number < 256 ^ i)
 
 abbrev μ-loop : tie.MeasureT-loop
-μ-loop s width first number₀ i₀ number i = width - i
+μ-loop s width room number₀ i₀ number i = width - i
 
 returns : tie.Need-returns Inv-loop μ-loop
-returns c = sym (short _ (rw (← c .before .pre .1) (c .if1 .taken)))
-
-shared-slice-read-first : tie.Need-shared-slice-read-first Inv-loop μ-loop
-shared-slice-read-first c = omega arith
-
-cast-number : tie.Need-cast-number Inv-loop μ-loop
-cast-number c = omega arith
+returns c = sym (short _ (rw (← c .before .pre .0) (c .if1 .taken)))
 
 loop-holds : tie.Need-loop-holds Inv-loop μ-loop
-loop-holds c =
-    let h = c .before .before .pre in
-    (omega arith, omega (arith, h .1, wide-form (getD (c .before .before .args .s .now) 0 0) .some), gather-first (c .before .before .args .s .now) (h .0))
+unfolding spell
+loop-holds c = (omega arith, refl, lit< tt)
 
 shared-slice-read-x : tie.Need-shared-slice-read-x Inv-loop μ-loop
 shared-slice-read-x c = omega arith
 
 cast-x : tie.Need-cast-x Inv-loop μ-loop
-cast-x c = omega (arith, c .shared-slice-known2 .given (c .before .before .loop .i))
+cast-x c = omega (arith, c .shared-slice-known .given (c .before .before .loop .i))
 
--- what the turn makes of the number fits
-fits : (c : tie.After-shared-slice-known2 Inv-loop μ-loop) → c .before .before .loop .number * 256 + getD (c .before .before .before .before .before .args .s .now) (c .before .before .loop .i) 0 < 2 ^ 62
-fits c =
+-- what the turn makes of the number
+turn : (c : tie.After-shared-slice-known Inv-loop μ-loop) → c .before .before .loop .number * 256 + getD (c .before .before .before .before .args .s .now) (c .before .before .loop .i) 0 < 256 ^ (c .before .before .loop .i + 1)
+turn c =
     let l = c .before .before .loop in
-    let p = c .before .before .before .before .before .pre in
-    let w = wide-form (getD (c .before .before .before .before .before .args .s .now) 0 0) .few in
-    rw (l .inv .2) (gather-fits _ (l .i) (l .inv .0) (omega (arith, p .1)) (omega arith) (omega (arith, c .shared-slice-known2 .given (l .i))))
+    spell-fits (l .number) (l .i) (l .inv .2) (omega (arith, c .shared-slice-known .given (l .i)))
+
+-- which fits
+fits : (c : tie.After-shared-slice-known Inv-loop μ-loop) → 256 ^ (c .before .before .loop .i + 1) ≤ 2 ^ 64
+fits c =
+    let a = c .before .before .before .before in
+    eight-fit (c .before .before .loop .i) (omega (arith, a .pre .0, wide-form (getD (a .args .s .now) 0 0) .few))
 
 mul-number : tie.Need-mul-number Inv-loop μ-loop
-mul-number c = omega (arith, fits c)
+mul-number c = omega (arith, turn c, fits c)
 
 add-number : tie.Need-add-number Inv-loop μ-loop
-add-number c = omega (arith, fits c)
+add-number c = omega (arith, turn c, fits c)
 
 add-i : tie.Need-add-i Inv-loop μ-loop
 add-i c = omega arith
@@ -61,13 +57,17 @@ loop-less c = omega arith
 loop-again : tie.Need-loop-again Inv-loop μ-loop
 loop-again c =
     let l = c .before .before .loop in
-    (omega arith, omega arith, ap (λ (n : ℕ). n * 256 + getD (c .before .before .before .before .before .args .s .now) (l .i) 0) (l .inv .2) ∙ gather-next _ (l .i) (l .inv .0) (omega arith) (omega (arith, c .shared-slice-known2 .given (l .i))))
+    (omega arith, rw (l .inv .1) (sym (spell-next _ (l .i) (omega arith))), turn c)
+
+rem-t13 : tie.Need-rem-t13 Inv-loop μ-loop
+rem-t13 c = rw (c .before .before .before .pre .1) (room-pos (c .before .before .before .args .width))
 
 returns-2 : tie.Need-returns-2 Inv-loop μ-loop
 returns-2 c =
     let l = c .before .loop in
-    let e : l .i ≡ c .before .before .before .before .args .width = omega arith in
-    sym (joined (record { width = c .before .before .before .before .pre .1; within = omega arith; value = rw e at (l .inv .2) }))
+    let p = c .before .before .before .pre in
+    let e : l .i ≡ c .before .before .before .args .width = omega arith in
+    sym (joined (record { width = p .0; within = omega arith; value = rw (p .1, ← e, l .inv .1) }))
 
 pub gather-spec : {M : Type 1} → statement M
 gather-spec =
@@ -76,8 +76,6 @@ gather-spec =
     Inv-loop
     μ-loop
     returns
-    shared-slice-read-first
-    cast-number
     loop-holds
     shared-slice-read-x
     cast-x
@@ -86,4 +84,5 @@ gather-spec =
     add-i
     loop-less
     loop-again
+    rem-t13
     returns-2)

@@ -1,9 +1,10 @@
 -- `read` meets its contract: each arm's range of the first byte gives its width. Assumes nothing.
 use Prim.Native.Nat.{ℕ, _<_}
-use mathlib.Core.Path.{_≡_, sym}
+use mathlib.Core.Path.{_≡_, refl, sym}
 use native.Mathlib.Omega.{arith}
 use borrow.Author.Needs.{needs}
 use lib.ListN.{getD}
+use Rattle.integer.specs.Integer.{room}
 use Rattle.integer.proofs.Front.{short}
 use Rattle.integer.proofs.Widths.{wide-at, wide-form}
 use Rattle.integer.proofs.reader.read.Statement.{statement}
@@ -16,16 +17,20 @@ shared-slice-read-first : tie.Need-shared-slice-read-first
 shared-slice-read-first c = search needs
 
 gather-requires : tie.Need-gather-requires
-gather-requires c κs = (omega arith, sym (wide-at _ 0 (omega arith)))
+unfolding room
+gather-requires c κs = (sym (wide-at _ 0 (omega arith)), refl)
 
 gather-requires-2 : tie.Need-gather-requires-2
-gather-requires-2 c κs = (omega arith, sym (wide-at _ 1 (omega arith)))
+unfolding room
+gather-requires-2 c κs = (sym (wide-at _ 1 (omega arith)), refl)
 
 gather-requires-3 : tie.Need-gather-requires-3
-gather-requires-3 c κs = (omega arith, sym (wide-at _ 2 (omega arith)))
+unfolding room
+gather-requires-3 c κs = (sym (wide-at _ 2 (omega arith)), refl)
 
 gather-requires-4 : tie.Need-gather-requires-4
-gather-requires-4 c κs = (omega arith, sym (wide-at _ 3 (omega (arith, c .before .before .before .shared-slice-known2 .given 0))))
+unfolding room
+gather-requires-4 c κs = (sym (wide-at _ 3 (omega (arith, c .before .before .before .shared-slice-known2 .given 0))), refl)
 
 returns-2 : tie.Need-returns-2
 returns-2 c = search needs
