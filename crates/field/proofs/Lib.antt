@@ -1,0 +1,12 @@
+pub mod Found
+pub mod Unjudged
+pub mod Lengths
+pub mod Answers
+pub mod Together
+pub mod Walks
+pub mod Lists
+pub mod Once
+pub mod Pieces
+pub mod Back
+pub mod Shortest
+pub mod Stable

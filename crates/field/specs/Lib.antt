@@ -1,0 +1,5 @@
+pub mod Outcome
+pub mod Entries
+pub mod Fields
+pub mod Value
+pub mod Told
