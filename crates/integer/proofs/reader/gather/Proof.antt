@@ -72,17 +72,4 @@ returns-2 c =
 pub gather-spec : {M : Type 1} → statement M
 gather-spec =
     tie.close
-    (tie.spec
-    Inv-loop
-    μ-loop
-    returns
-    loop-holds
-    shared-slice-read-x
-    cast-x
-    mul-number
-    add-number
-    add-i
-    loop-less
-    loop-again
-    rem-t13
-    returns-2)
+    (tie.spec Inv-loop μ-loop returns loop-holds shared-slice-read-x cast-x mul-number add-number add-i loop-less loop-again rem-t13 returns-2)

@@ -16,21 +16,21 @@ returns c = sym (short _ (omega (arith, wide-form (getD (c .before .before .args
 shared-slice-read-first : tie.Need-shared-slice-read-first
 shared-slice-read-first c = search needs
 
-gather-requires : tie.Need-gather-requires
+asks : tie.Need-gather-requires
 unfolding room
-gather-requires c κs = (sym (wide-at _ 0 (omega arith)), refl)
+asks c κs = (sym (wide-at _ 0 (omega arith)), refl)
 
-gather-requires-2 : tie.Need-gather-requires-2
+asks-2 : tie.Need-gather-requires-2
 unfolding room
-gather-requires-2 c κs = (sym (wide-at _ 1 (omega arith)), refl)
+asks-2 c κs = (sym (wide-at _ 1 (omega arith)), refl)
 
-gather-requires-3 : tie.Need-gather-requires-3
+asks-3 : tie.Need-gather-requires-3
 unfolding room
-gather-requires-3 c κs = (sym (wide-at _ 2 (omega arith)), refl)
+asks-3 c κs = (sym (wide-at _ 2 (omega arith)), refl)
 
-gather-requires-4 : tie.Need-gather-requires-4
+asks-4 : tie.Need-gather-requires-4
 unfolding room
-gather-requires-4 c κs = (sym (wide-at _ 3 (omega (arith, c .before .before .before .shared-slice-known2 .given 0))), refl)
+asks-4 c κs = (sym (wide-at _ 3 (omega (arith, c .before .before .before .shared-slice-known2 .given 0))), refl)
 
 returns-2 : tie.Need-returns-2
 returns-2 c = search needs
@@ -47,14 +47,4 @@ returns-5 c = search needs
 pub read-spec : {M : Type 1} → statement M
 read-spec =
     tie.close
-    (tie.spec
-    returns
-    shared-slice-read-first
-    gather-requires
-    gather-requires-2
-    gather-requires-3
-    gather-requires-4
-    returns-2
-    returns-3
-    returns-4
-    returns-5)
+    (tie.spec returns shared-slice-read-first asks asks-2 asks-3 asks-4 returns-2 returns-3 returns-4 returns-5)

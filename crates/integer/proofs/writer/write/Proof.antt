@@ -11,32 +11,32 @@ use Rattle.integer.proofs.Writes.{write-great, write-arm, arm-fits}
 use Rattle.integer.proofs.writer.write.Statement.{statement}
 use Rattle.integer.proofs.writer.write.Tie as tie
 
-size-requires : tie.Need-size-requires
-size-requires c κs = search needs
+asks : tie.Need-size-requires
+asks c κs = search needs
 
-put-requires : tie.Need-put-requires
-put-requires c κs = search needs
+asks-2 : tie.Need-put-requires
+asks-2 c κs = search needs
 
 add-put : tie.Need-add-put
 unfolding room
 add-put c = omega (arith, arm-fits (c .before .before .before .before .args .n) 2 (sym (c .before .match .keys2) ∙ c .before .before .size .ensures) (lit< tt))
 
-put-requires-2 : tie.Need-put-requires-2
-put-requires-2 c κs = search needs
+asks-3 : tie.Need-put-requires-2
+asks-3 c κs = search needs
 
 add-put-2 : tie.Need-add-put-2
 unfolding room
 add-put-2 c = omega (arith, arm-fits (c .before .before .before .before .args .n) 4 (sym (c .before .match .keys3) ∙ c .before .before .size .ensures) (lit< tt))
 
-put-requires-3 : tie.Need-put-requires-3
-put-requires-3 c κs = search needs
+asks-4 : tie.Need-put-requires-3
+asks-4 c κs = search needs
 
 add-put-3 : tie.Need-add-put-3
 unfolding room
 add-put-3 c = omega (arith, arm-fits (c .before .before .before .before .args .n) 8 (sym (c .before .match .keys4) ∙ c .before .before .size .ensures) (lit< tt))
 
-put-requires-4 : tie.Need-put-requires-4
-put-requires-4 c κs = search needs
+asks-5 : tie.Need-put-requires-4
+asks-5 c κs = search needs
 
 same-length : tie.Need-same-length
 same-length c = search needs
@@ -74,21 +74,4 @@ returns-5 c =
 pub write-spec : {M : Type 1} → statement M
 write-spec =
     tie.close
-    (tie.spec
-    size-requires
-    put-requires
-    add-put
-    put-requires-2
-    add-put-2
-    put-requires-3
-    add-put-3
-    put-requires-4
-    same-length
-    returns
-    same-length-2
-    returns-2
-    same-length-3
-    returns-3
-    same-length-4
-    returns-4
-    returns-5)
+    (tie.spec asks asks-2 add-put asks-3 add-put-2 asks-4 add-put-3 asks-5 same-length returns same-length-2 returns-2 same-length-3 returns-3 same-length-4 returns-4 returns-5)

@@ -1,0 +1,43 @@
+-- A grammar as data: what a body or a header is made of, field by field, and what bytes mean by it.
+use Prim.Native.Nat.{ℕ}
+use mathlib.Core.List.{List, [], _∷_, map}
+use mathlib.Core.Bool.{Bool}
+use Rattle.integer.specs.Answer.{pick}
+use Rattle.field.specs.Outcome.{Outcome, whole, no, andThen}
+use Rattle.field.specs.Fields.{Form, fieldAt}
+use Rattle.field.specs.Value.{Value, number, octet, text, items, fullName, mean}
+use Rattle.field.specs.declared.Fault.the-variants.{Forbidden}
+use Rattle.field.specs.declared.Piece.{Piece}
+use Rattle.field.specs.declared.Piece.the-variants.{Number, Byte, Bytes, List as Listing, Track as Tracked}
+
+-- the end; a forbidden value; a field, and what follows it, which may depend on the number or the byte that it holds; the one
+-- or the other, by a test of the numbers before
+pub data Layout : Type 0 where
+  done : Layout
+  forbidden : Layout
+  field : Form → (ℕ → Layout) → Layout
+  when : Bool → Layout → Layout → Layout
+
+-- what a field hands on to the layout that follows it
+abbrev pub control : Piece → ℕ
+control (Number n) = n
+control (Byte b) = b
+control (Bytes p) = 0
+control (Listing kind l) = 0
+control (Tracked t) = 0
+
+-- WHAT BYTES MEAN: the fields from an offset on, left to right, the first fault deciding
+unfoldable pub scan : Layout → List ℕ → ℕ → Outcome (List Piece)
+scan done s at = whole [] at
+scan forbidden s at = no Forbidden
+scan (field form next) s at =
+    andThen (fieldAt form s at) λ p end. andThen (scan (next (control p)) s end) λ ps last. whole (p ∷ ps) last
+scan (when test l m) s at = pick test (scan l s at) (scan m s at)
+
+-- the same by value
+abbrev pub valued : List ℕ → Outcome (List Piece) → Outcome (List Value)
+valued s (whole ps end) = whole (map (mean s) ps) end
+valued s (no fault) = no fault
+
+unfoldable pub readBy : Layout → List ℕ → ℕ → Outcome (List Value)
+readBy l s at = valued s (scan l s at)
