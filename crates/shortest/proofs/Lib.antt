@@ -1,0 +1,13 @@
+pub mod Tests
+pub mod Sizes
+pub mod Judges
+pub mod Spans
+pub mod Puts
+pub mod Copies
+pub mod Items
+pub mod Runs
+pub mod Lists
+pub mod Going
+pub mod Pieces
+pub mod Writer
+pub mod Once

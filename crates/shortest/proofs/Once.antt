@@ -1,0 +1,27 @@
+-- One possible answer: 01's number and values of a judgement lose nothing. Assumes nothing.
+use Prim.Native.Nat.{ℕ}
+use mathlib.Core.Path.{_≡_, refl, sym, ap, _∙_}
+use borrow.Author.Tests.{ne-eqb}
+use lib.Dec.{eqb}
+use Rattle.integer.specs.Answer.{pick, Answer, whole, refused, Nothing}
+use Rattle.shortest.specs.Putting.{saying}
+use Rattle.shortest.specs.declared.Measured.{Measured}
+use Rattle.shortest.specs.declared.Measured.the-variants.{Takes, TooLong, Oversize, Forbidden}
+
+-- the judgement that was said
+heard : Answer Nothing → Measured
+heard (whole nothing used) = Takes used
+heard (refused n) = pick (eqb n 5) Forbidden (pick (eqb n 6) Oversize TooLong)
+
+module _ (long : ℕ) (not-five : long ≡ 5 → ⊥) (not-six : long ≡ 6 → ⊥) where
+  -- is the one that was meant, where the number for what is too long is neither 5 nor 6
+  heard-saying : (a : Measured) → heard (saying long a) ≡ a
+  unfolding heard
+  heard-saying (Takes n) = refl
+  heard-saying TooLong = rw (ne-eqb long 5 not-five, ne-eqb long 6 not-six)
+  heard-saying Oversize = refl
+  heard-saying Forbidden = refl
+
+  -- so two judgements that say the same are the same
+  pub saying-once : (a b : Measured) → saying long a ≡ saying long b → a ≡ b
+  saying-once a b e = sym (heard-saying a) ∙ ap heard e ∙ heard-saying b

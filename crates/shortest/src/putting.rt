@@ -1,0 +1,147 @@
+// The shortest form of a field is put at the front of what is lent. Each writer lends on what is left behind what it put.
+ghost use mathlib.Core.Path.{_≡_};
+ghost use mathlib.Core.Bool.{true};
+ghost use Prim.Native.Nat.{_-_, _≤_};
+ghost use lib.ListN.{length};
+ghost use Rattle.integer.specs.Answer.{Leaves};
+ghost use Rattle.integer.specs.Integer.{encOf, greatest, over};
+ghost use Rattle.field.specs.Value.{part, item, contents, mean, encText, encItem, encItems, encList, encField};
+ghost use Rattle.shortest.specs.Judging.{rightSpan, rightList, right};
+ghost use Rattle.shortest.specs.Putting.{Put, putOf, saying};
+use crate::Measured;
+use crate::judging::measure;
+use field::Entries;
+use field::Entry;
+use field::EntryRead;
+use field::Kind;
+use field::Piece;
+use field::Span;
+
+// An integer.
+fn put_number(out: &mut [u8], n: u64) -> usize
+    requires { ⌜ (n ≤ greatest) × (length (encOf n) ≤ length (now out)) ⌝ }
+    ensures { λ r. ⌜ Put (encOf n) (now (out .entry)) r (now (out .exit)) ⌝ }
+{
+    integer::write(out, n);
+    integer::size(n)
+}
+
+// A part of the bytes, as it is.
+fn copy(out: &mut [u8], bytes: &[u8], start: usize, end: usize)
+    requires { ⌜ (start ≤ end) × (end ≤ length (now bytes)) ⌝ }
+    requires { ⌜ end - start ≤ length (now out) ⌝ }
+    ensures { λ _. ⌜ now (out .exit) ≡ over (part (now (bytes .entry)) (record { start = start; end = end })) (now (out .entry)) ⌝ }
+{
+    let n = end - start;
+    let mut i: usize = 0;
+    while i < n {
+        out[i] = bytes[start + i];
+        i += 1;
+    }
+}
+
+// A length and the bytes of a part.
+fn put_text(out: &mut [u8], bytes: &[u8], p: Span) -> usize
+    requires { ⌜ rightSpan (now bytes) p ≡ true ⌝ }
+    requires { ⌜ length (encText (part (now bytes) p)) ≤ length (now out) ⌝ }
+    ensures { λ r. ⌜ Put (encText (part (now (bytes .entry)) p)) (now (out .entry)) r (now (out .exit)) ⌝ }
+{
+    let start = p.start;
+    let end = p.end;
+    let n = end - start;
+    let head = put_number(out, n as u64);
+    copy(&mut out[head..], bytes, start, end);
+    head + n
+}
+
+fn put_entry(out: &mut [u8], bytes: &[u8], kind: Kind, e: Entry) -> usize
+    requires { ⌜ (e .number ≤ greatest) × (rightSpan (now bytes) (e .bytes) ≡ true) ⌝ }
+    requires { ⌜ length (encItem kind (item (now bytes) e)) ≤ length (now out) ⌝ }
+    ensures { λ r. ⌜ Put (encItem kind (item (now (bytes .entry)) e)) (now (out .entry)) r (now (out .exit)) ⌝ }
+{
+    let number = e.number;
+    let p = e.bytes;
+    match kind {
+        Kind::Namespace => put_text(out, bytes, p),
+        Kind::Parameters => {
+            let head = put_number(out, number);
+            let n = put_text(&mut out[head..], bytes, p);
+            head + n
+        }
+        Kind::Versions => put_number(out, number),
+    }
+}
+
+// The entries of a part, each in its shortest form.
+fn put_entries(out: &mut [u8], bytes: &[u8], kind: Kind, l: Entries) -> usize
+    requires { ⌜ rightList (now bytes) kind l ≡ true ⌝ }
+    requires { ⌜ length (encItems kind (contents (now bytes) kind l)) ≤ length (now out) ⌝ }
+    ensures { λ r. ⌜ Put (encItems kind (contents (now (bytes .entry)) kind l)) (now (out .entry)) r (now (out .exit)) ⌝ }
+{
+    let mut at: usize = 0;
+    let mut here = l.start;
+    let mut left = l.count;
+    while left > 0 {
+        let EntryRead::Whole(e) = field::entry_at(bytes, kind, integer::GREATEST, here) else {
+            return at;
+        };
+        let n = put_entry(&mut out[at..], bytes, kind, e);
+        let p = e.bytes;
+        at = at + n;
+        here = p.end;
+        left = left - 1;
+    }
+    at
+}
+
+// A count and the entries of a part.
+fn put_list(out: &mut [u8], bytes: &[u8], kind: Kind, l: Entries) -> usize
+    requires { ⌜ rightList (now bytes) kind l ≡ true ⌝ }
+    requires { ⌜ length (encList kind (contents (now bytes) kind l)) ≤ length (now out) ⌝ }
+    ensures { λ r. ⌜ Put (encList kind (contents (now (bytes .entry)) kind l)) (now (out .entry)) r (now (out .exit)) ⌝ }
+{
+    let count = l.count;
+    let head = put_number(out, count);
+    let n = put_entries(&mut out[head..], bytes, kind, l);
+    head + n
+}
+
+// A field that was judged to be right, and to fit.
+pub fn put_piece(out: &mut [u8], bytes: &[u8], p: Piece) -> usize
+    requires { ⌜ right (now bytes) p ≡ true ⌝ }
+    requires { ⌜ length (encField (mean (now bytes) p)) ≤ length (now out) ⌝ }
+    ensures { λ r. ⌜ Put (encField (mean (now (bytes .entry)) p)) (now (out .entry)) r (now (out .exit)) ⌝ }
+{
+    match p {
+        Piece::Number(n) => put_number(out, n),
+        Piece::Byte(b) => {
+            out[0] = b;
+            1
+        }
+        Piece::Bytes(b) => put_text(out, bytes, b),
+        Piece::List(kind, l) => put_list(out, bytes, kind, l),
+        Piece::Track(t) => {
+            let namespace = t.namespace;
+            let name = t.name;
+            let head = put_list(out, bytes, Kind::Namespace, namespace);
+            let n = put_text(&mut out[head..], bytes, name);
+            head + n
+        }
+    }
+}
+
+// The shortest form of a field, at the front of out; every byte after it stays, and a refusal changes none.
+pub fn put(out: &mut [u8], bytes: &[u8], p: Piece) -> Measured
+    ensures { λ r. ⌜ Leaves (putOf (now (bytes .entry)) p (now (out .entry))) (saying 7 r) (now (out .exit)) ⌝ }
+{
+    let room = out.len();
+    match measure(bytes, p, room) {
+        Measured::Takes(n) => {
+            put_piece(out, bytes, p);
+            Measured::Takes(n)
+        }
+        Measured::TooLong => Measured::TooLong,
+        Measured::Oversize => Measured::Oversize,
+        Measured::Forbidden => Measured::Forbidden,
+    }
+}
