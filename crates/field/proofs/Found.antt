@@ -13,6 +13,7 @@ use Rattle.integer.proofs.Parts.{reach}
 use Rattle.field.specs.Outcome.{Outcome, whole, no, andThen}
 use Rattle.field.specs.Entries.{size, numberAt, textAt, numberedAt, entryAt}
 use Rattle.field.specs.Value.{itemSize}
+use Rattle.field.specs.declared.Fault.{Fault}
 use Rattle.field.specs.declared.Fault.the-variants.{Cut, Oversize}
 use Rattle.field.specs.declared.Span.{Span}
 use Rattle.field.specs.declared.Entry.{Entry}
@@ -31,6 +32,15 @@ pub record Steps {A B : Type 0} (o : Outcome A) (next : A → ℕ → Outcome B)
 pub steps : {A B : Type 0} (o : Outcome A) (next : A → ℕ → Outcome B) {b : B} {last : ℕ} → andThen o next ≡ whole b last → Steps o next b last
 steps (whole a e) next h = record { found = a; end = e; first = refl; then = h }
 steps (no fault) next h = absurd (let z : _≡_ {A = ℕ} 0 1 = cc in omega arith)
+
+-- where one of two steps is refused
+pub data StopsIn {A B : Type 0} (o : Outcome A) (next : A → ℕ → Outcome B) (fault : Fault) : Type 0 where
+  at-first : o ≡ no fault → StopsIn o next fault
+  at-next : {a : A} {end : ℕ} → o ≡ whole a end → next a end ≡ no fault → StopsIn o next fault
+
+pub stops-in : {A B : Type 0} (o : Outcome A) (next : A → ℕ → Outcome B) {fault : Fault} → andThen o next ≡ no fault → StopsIn o next fault
+stops-in (whole a e) next h = at-next refl h
+stops-in (no f) next h = at-first (cc)
 
 -- ---- an integer
 

@@ -10,3 +10,4 @@ pub mod Pieces
 pub mod Back
 pub mod Shortest
 pub mod Stable
+pub mod Cuts

@@ -73,7 +73,7 @@ stays-room false u r f = cut
 
 module _ (s t : List ℕ) where
   -- an integer
-  number-stays : (at : ℕ) → Stays (numberAt s at) (numberAt (s ++ t) at)
+  pub number-stays : (at : ℕ) → Stays (numberAt s at) (numberAt (s ++ t) at)
   number-stays at = go (readOf (drop at s)) refl
     where
       go : (r : Answer ℕ) → readOf (drop at s) ≡ r → Stays (numberAt s at) (numberAt (s ++ t) at)
@@ -84,7 +84,7 @@ module _ (s t : List ℕ) where
       go (refused k) e = rw (number-cut s at e) cut
 
   -- a length and bytes
-  text-stays : (most at : ℕ) → Stays (textAt most s at) (textAt most (s ++ t) at)
+  pub text-stays : (most at : ℕ) → Stays (textAt most s at) (textAt most (s ++ t) at)
   unfolding textAt
   text-stays most at =
       stays-then (number-stays at)
@@ -100,14 +100,14 @@ module _ (s t : List ℕ) where
   unfolding numberedAt
   numbered-stays number most at = stays-then (text-stays most at) (λ p end. same)
 
-  entry-stays : (kind : Kind) (most at : ℕ) → Stays (entryAt kind most s at) (entryAt kind most (s ++ t) at)
+  pub entry-stays : (kind : Kind) (most at : ℕ) → Stays (entryAt kind most s at) (entryAt kind most (s ++ t) at)
   unfolding entryAt
   entry-stays Namespace most at = numbered-stays 0 most at
   entry-stays Parameters most at = stays-then (number-stays at) (λ type next. numbered-stays type most next)
   entry-stays Versions most at = stays-then (number-stays at) (λ version end. same)
 
   -- a run of entries
-  entries-stays : (sized : Bool) (kind : Kind) (count held at : ℕ) → Stays (entriesAt sized kind count held s at) (entriesAt sized kind count held (s ++ t) at)
+  pub entries-stays : (sized : Bool) (kind : Kind) (count held at : ℕ) → Stays (entriesAt sized kind count held s at) (entriesAt sized kind count held (s ++ t) at)
   unfolding entriesAt
   entries-stays sized kind zero held at = same
   entries-stays sized kind (suc count) held at =
@@ -115,7 +115,7 @@ module _ (s t : List ℕ) where
       (λ e end. entries-stays sized kind count (held + size (e .bytes)) end)
 
   -- a count and entries
-  list-stays : (kind : Kind) (at : ℕ) → Stays (listAt kind s at) (listAt kind (s ++ t) at)
+  pub list-stays : (kind : Kind) (at : ℕ) → Stays (listAt kind s at) (listAt kind (s ++ t) at)
   unfolding listAt
   list-stays kind at =
       stays-then (number-stays at)

@@ -19,16 +19,11 @@ use Rattle.field.specs.declared.Span.{Span}
 use Rattle.field.specs.declared.Entry.{Entry}
 use Rattle.field.specs.declared.Kind.{Kind}
 use Rattle.field.specs.declared.Kind.the-variants.{Namespace, Parameters, Versions}
-use Rattle.field.proofs.Found.{steps, number-at, span, text-at, text-of}
+use Rattle.field.proofs.Found.{steps, StopsIn, at-first, at-next, stops-in, number-at, span, text-at, text-of}
 
 -- what was found was not refused
 pub apart : {A : Type 0} {a : A} {end : ℕ} {fault : Fault} → whole a end ≡ no fault → ⊥
 apart h = let z : _≡_ {A = ℕ} 0 1 = cc in omega arith
-
--- where what follows can't be refused, a refusal is of what comes first
-only-cut : {A B : Type 0} (o : Outcome A) (next : A → ℕ → Outcome B) {fault : Fault} → andThen o next ≡ no fault → ((a : A) (end : ℕ) → next a end ≡ no fault → ⊥) → o ≡ no fault
-only-cut (whole a end) next h never = absurd (never a end h)
-only-cut (no f) next h never = cc
 
 -- ---- what is refused is cut
 
@@ -77,30 +72,55 @@ entry-any Parameters most s at h =
     rw (t .first) (numbered-any (t .found) most s (t .end) (t .then))
 entry-any Versions most s at h = h
 
--- ---- a field that is an integer or bytes, and its outcome as such
+-- ---- a field that is an integer or bytes, and its outcome as such: each way round
 
--- found,
-pub found-number : (s : List ℕ) (at : ℕ) {n end : ℕ} → fieldAt integer s at ≡ whole (Number n) end → numberAt s at ≡ whole n end
-unfolding fieldAt
-found-number s at {n} {end} h =
-    let t = steps (numberAt s at) _ h in
-    let e : t .found ≡ n = cc in
-    let f : t .end ≡ end = cc in
-    t .first ∙ rw (e, f)
+module _ (s : List ℕ) (at : ℕ) where
+  -- found,
+  pub as-number : {n end : ℕ} → numberAt s at ≡ whole n end → fieldAt integer s at ≡ whole (Number n) end
+  unfolding fieldAt
+  as-number h = rw h
 
-pub found-text : (s : List ℕ) (at : ℕ) {p : Span} {end : ℕ} → fieldAt bytes s at ≡ whole (Bytes p) end → textAt greatest s at ≡ whole p end
-unfolding fieldAt
-found-text s at {p} {end} h =
-    let t = steps (textAt greatest s at) _ h in
-    let e : t .found ≡ p = cc in
-    let f : t .end ≡ end = cc in
-    t .first ∙ rw (e, f)
+  pub found-number : {n end : ℕ} → fieldAt integer s at ≡ whole (Number n) end → numberAt s at ≡ whole n end
+  unfolding fieldAt
+  found-number {n} {end} h =
+      let t = steps (numberAt s at) _ h in
+      let e : t .found ≡ n = cc in
+      let f : t .end ≡ end = cc in
+      t .first ∙ rw (e, f)
 
--- and cut
-pub cut-number : (s : List ℕ) (at : ℕ) → fieldAt integer s at ≡ no Cut → numberAt s at ≡ no Cut
-unfolding fieldAt
-cut-number s at h = only-cut (numberAt s at) _ h (λ a end. apart)
+  pub as-text : {p : Span} {end : ℕ} → textAt greatest s at ≡ whole p end → fieldAt bytes s at ≡ whole (Bytes p) end
+  unfolding fieldAt
+  as-text h = rw h
 
-pub cut-text : (s : List ℕ) (at : ℕ) → fieldAt bytes s at ≡ no Cut → textAt greatest s at ≡ no Cut
-unfolding fieldAt
-cut-text s at h = only-cut (textAt greatest s at) _ h (λ a end. apart)
+  pub found-text : {p : Span} {end : ℕ} → fieldAt bytes s at ≡ whole (Bytes p) end → textAt greatest s at ≡ whole p end
+  unfolding fieldAt
+  found-text {p} {end} h =
+      let t = steps (textAt greatest s at) _ h in
+      let e : t .found ≡ p = cc in
+      let f : t .end ≡ end = cc in
+      t .first ∙ rw (e, f)
+
+  -- and refused
+  pub as-no-number : {fault : Fault} → numberAt s at ≡ no fault → fieldAt integer s at ≡ no fault
+  unfolding fieldAt
+  as-no-number h = rw h
+
+  pub cut-number : fieldAt integer s at ≡ no Cut → numberAt s at ≡ no Cut
+  unfolding fieldAt
+  cut-number h = only (stops-in (numberAt s at) _ h)
+    where
+      only : StopsIn (numberAt s at) (λ n end. whole (Number n) end) Cut → numberAt s at ≡ no Cut
+      only (at-first e) = e
+      only (at-next e f) = absurd (apart f)
+
+  pub as-no-text : {fault : Fault} → textAt greatest s at ≡ no fault → fieldAt bytes s at ≡ no fault
+  unfolding fieldAt
+  as-no-text h = rw h
+
+  pub cut-text : fieldAt bytes s at ≡ no Cut → textAt greatest s at ≡ no Cut
+  unfolding fieldAt
+  cut-text h = only (stops-in (textAt greatest s at) _ h)
+    where
+      only : StopsIn (textAt greatest s at) (λ p end. whole (Bytes p) end) Cut → textAt greatest s at ≡ no Cut
+      only (at-first e) = e
+      only (at-next e f) = absurd (apart f)

@@ -3,3 +3,4 @@ pub mod Entries
 pub mod Fields
 pub mod Value
 pub mod Told
+pub mod Rules

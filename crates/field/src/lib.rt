@@ -2,6 +2,7 @@
 // as they are, bytes as parts of the caller's. Nothing is copied.
 mod pairs;
 mod reader;
+mod rules;
 mod walking;
 
 pub use pairs::read_failure;
@@ -12,6 +13,8 @@ pub use reader::read_bytes;
 pub use reader::read_list;
 pub use reader::read_number;
 pub use reader::read_track;
+pub use rules::is_askable;
+pub use rules::is_givable;
 pub use walking::entry_at;
 pub use walking::walk;
 

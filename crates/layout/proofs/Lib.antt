@@ -3,5 +3,9 @@ pub mod Good
 pub mod Back
 pub mod Shortest
 pub mod Stable
+pub mod Cuts
 pub mod Inside
 pub mod Theorems
+pub mod Steps
+pub mod Family
+pub mod Parts

@@ -15,6 +15,7 @@ use Rattle.layout.specs.Inside.{Inside}
 use Rattle.layout.proofs.Back as back
 use Rattle.layout.proofs.Shortest as shorter
 use Rattle.layout.proofs.Stable as stable
+use Rattle.layout.proofs.Cuts as cuts
 use Rattle.layout.proofs.Inside as within
 
 module _ (l : Layout) where
@@ -42,6 +43,10 @@ module _ (l : Layout) where
   -- so where bytes are cut, all that begins them is cut too: a cut is never another answer later than the bytes that decide it.
   pub cut-before : (s t : List ℕ) (at : ℕ) → scan l (s ++ t) at ≡ no Cut → scan l s at ≡ no Cut
   cut-before = stable.cut-before l
+
+  -- And where they are cut, more bytes could still decide: there are zeros enough.
+  pub more-decides : (s : List ℕ) (at : ℕ) → (t : List ℕ) × (scan l (s ++ t) at ≡ no Cut → ⊥)
+  more-decides = cuts.more-decides l
 
   -- 4. The reading of given bytes is unique,
   pub once : (s : List ℕ) (at : ℕ) {vs ws : List Value} {e f : ℕ} → readBy l s at ≡ whole vs e → readBy l s at ≡ whole ws f → (vs ≡ ws) × (e ≡ f)

@@ -4,7 +4,7 @@ use mathlib.Core.List.{List, [], _∷_, map}
 use mathlib.Core.Bool.{Bool}
 use Rattle.integer.specs.Answer.{pick}
 use Rattle.field.specs.Outcome.{Outcome, whole, no, andThen}
-use Rattle.field.specs.Fields.{Form, fieldAt}
+use Rattle.field.specs.Fields.{Form, integer, bytes, fieldAt}
 use Rattle.field.specs.Value.{Value, number, octet, text, items, fullName, mean}
 use Rattle.field.specs.declared.Fault.the-variants.{Forbidden}
 use Rattle.field.specs.declared.Piece.{Piece}
@@ -17,6 +17,14 @@ pub data Layout : Type 0 where
   forbidden : Layout
   field : Form → (ℕ → Layout) → Layout
   when : Bool → Layout → Layout → Layout
+
+-- two fields that stand together in many messages: a group and an object,
+unfoldable pub place : (ℕ → ℕ → Layout) → Layout
+place next = field integer λ group. field integer λ object. next group object
+
+-- and an error code and a reason
+unfoldable pub failure : Layout → Layout
+failure next = field integer λ code. field bytes λ _. next
 
 -- what a field hands on to the layout that follows it
 abbrev pub control : Piece → ℕ

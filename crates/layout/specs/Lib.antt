@@ -1,3 +1,4 @@
 pub mod Layout
 pub mod Permitted
 pub mod Inside
+pub mod Typed
