@@ -1,0 +1,87 @@
+-- Each message as the number of its type and its fields, in the order of its layout; and what a reader answers.
+use Prim.Native.Nat.{ℕ}
+use mathlib.Core.List.{List, [], _∷_, _++_}
+use mathlib.Core.Bool.{Bool, true, false}
+use Rattle.integer.specs.Answer.{pick}
+use Rattle.field.specs.Outcome.{Outcome, whole, no}
+use Rattle.field.specs.declared.Kind.the-variants.{Parameters}
+use Rattle.field.specs.declared.Piece.{Piece}
+use Rattle.field.specs.declared.Piece.the-variants.{Number, Byte, Bytes, List as Listing, Track as Tracked}
+use Rattle.layout.specs.Typed.{Typed}
+use Rattle.fetch.specs.declared.Head.{Head}
+use Rattle.fetch.specs.declared.Range.{Range}
+use Rattle.fetch.specs.declared.Range.the-variants.{Standalone, Joining}
+use Rattle.fetch.specs.declared.Fetch.{Fetch}
+use Rattle.fetch.specs.declared.FetchOk.{FetchOk}
+use Rattle.fetch.specs.declared.FetchError.{FetchError}
+use Rattle.fetch.specs.declared.TrackStatus.{TrackStatus}
+use Rattle.fetch.specs.declared.FetchMessage.{FetchMessage}
+use Rattle.fetch.specs.declared.FetchMessage.the-variants.{Fetch as AFetch, FetchOk as AFetchOk, FetchError as AFetchError, FetchCancel as AFetchCancel, TrackStatusRequest as ATrackStatusRequest, TrackStatus as ATrackStatus}
+use Rattle.fetch.specs.declared.FetchRead.{FetchRead}
+use Rattle.fetch.specs.declared.FetchRead.the-variants.{Whole, No}
+use Rattle.fetch.specs.declared.RangeRead.{RangeRead}
+use Rattle.fetch.specs.declared.RangeRead.the-variants.{Whole as WholeRange, No as NoRange}
+use Rattle.fetch.specs.declared.OkRead.{OkRead}
+use Rattle.fetch.specs.declared.OkRead.the-variants.{Whole as WholeOk, No as NoOk}
+use Rattle.fetch.specs.declared.ErrorRead.{ErrorRead}
+use Rattle.fetch.specs.declared.ErrorRead.the-variants.{Whole as WholeError, No as NoError}
+use Rattle.fetch.specs.declared.StatusRead.{StatusRead}
+use Rattle.fetch.specs.declared.StatusRead.the-variants.{Whole as WholeStatus, No as NoStatus}
+
+abbrev pub headPieces : Head → List Piece
+headPieces h = Number (h .id) ∷ Byte (h .priority) ∷ Byte (h .order) ∷ []
+
+-- the fetch type of a joining fetch
+abbrev pub joiningType : Bool → ℕ
+joiningType absolute = pick absolute 3 2
+
+abbrev pub rangePieces : Range → List Piece
+rangePieces (Standalone r) =
+    Number 1 ∷ Tracked (r .track) ∷ Number (r .start .group) ∷ Number (r .start .object) ∷ Number (r .end .group) ∷ Number (r .end .object) ∷ []
+rangePieces (Joining j) = Number (joiningType (j .absolute)) ∷ Number (j .id) ∷ Number (j .start) ∷ []
+
+abbrev pub fetchPieces : Fetch → List Piece
+fetchPieces m =
+    Number (m .id) ∷ Byte (m .priority) ∷ Byte (m .order) ∷ (rangePieces (m .range) ++ Listing Parameters (m .parameters) ∷ [])
+
+abbrev pub okPieces : FetchOk → List Piece
+okPieces m =
+    Number (m .id) ∷ Byte (m .order) ∷ Byte (m .«end_of_track») ∷ Number (m .largest .group) ∷ Number (m .largest .object)
+    ∷ Listing Parameters (m .parameters) ∷ []
+
+abbrev pub errorPieces : FetchError → List Piece
+errorPieces m = Number (m .id) ∷ Number (m .failure .code) ∷ Bytes (m .failure .reason) ∷ []
+
+abbrev pub statusPieces : TrackStatus → List Piece
+statusPieces m =
+    Tracked (m .track) ∷ Number (m .status) ∷ Number (m .largest .group) ∷ Number (m .largest .object) ∷ []
+
+abbrev pub saidOf : FetchMessage → Typed
+saidOf (AFetch m) = record { type = 0x16; pieces = fetchPieces m }
+saidOf (AFetchOk m) = record { type = 0x18; pieces = okPieces m }
+saidOf (AFetchError m) = record { type = 0x19; pieces = errorPieces m }
+saidOf (AFetchCancel id) = record { type = 0x17; pieces = Number id ∷ [] }
+saidOf (ATrackStatusRequest t) = record { type = 0xD; pieces = Tracked t ∷ [] }
+saidOf (ATrackStatus m) = record { type = 0xE; pieces = statusPieces m }
+
+-- ---- what readers answer
+
+abbrev pub told : FetchRead → Outcome Typed
+told (Whole m end) = whole (saidOf m) end
+told (No fault) = no fault
+
+abbrev pub toldRange : RangeRead → Outcome (List Piece)
+toldRange (WholeRange m end) = whole (fetchPieces m) end
+toldRange (NoRange fault) = no fault
+
+abbrev pub toldOk : OkRead → Outcome (List Piece)
+toldOk (WholeOk m end) = whole (okPieces m) end
+toldOk (NoOk fault) = no fault
+
+abbrev pub toldError : ErrorRead → Outcome (List Piece)
+toldError (WholeError m end) = whole (errorPieces m) end
+toldError (NoError fault) = no fault
+
+abbrev pub toldStatus : StatusRead → Outcome (List Piece)
+toldStatus (WholeStatus m end) = whole (statusPieces m) end
+toldStatus (NoStatus fault) = no fault

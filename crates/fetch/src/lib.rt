@@ -1,0 +1,109 @@
+// The messages that retrieve what was published: FETCH and the answers to it, and the status of a track.
+mod reader;
+mod rules;
+
+use field::Entries;
+use field::Failure;
+use field::Fault;
+use field::Place;
+use field::Track;
+pub use reader::read;
+pub use rules::is_status;
+pub use rules::may_hold;
+
+// Objects of a track, from one place to another.
+pub struct Standalone {
+    pub track: Track,
+    pub start: Place,
+    pub end: Place,
+}
+
+// What joins a subscription: its ID, and where the fetch starts, as a group or so many groups before the subscription.
+pub struct Joining {
+    pub absolute: bool,
+    pub id: u64,
+    pub start: u64,
+}
+
+pub enum Range {
+    Standalone(Standalone),
+    Joining(Joining),
+}
+
+pub struct Fetch {
+    pub id: u64,
+    pub priority: u8,
+    pub order: u8,
+    pub range: Range,
+    pub parameters: Entries,
+}
+
+pub struct FetchOk {
+    pub id: u64,
+    pub order: u8,
+    pub end_of_track: u8,
+    pub largest: Place,
+    pub parameters: Entries,
+}
+
+pub struct FetchError {
+    pub id: u64,
+    pub failure: Failure,
+}
+
+pub struct TrackStatus {
+    pub track: Track,
+    pub status: u64,
+    pub largest: Place,
+}
+
+pub enum FetchMessage {
+    Fetch(Fetch),
+    FetchOk(FetchOk),
+    FetchError(FetchError),
+    FetchCancel(u64),
+    TrackStatusRequest(Track),
+    TrackStatus(TrackStatus),
+}
+
+pub enum FetchKind {
+    Fetch,
+    FetchOk,
+    FetchError,
+    FetchCancel,
+    TrackStatusRequest,
+    TrackStatus,
+}
+
+// A message and where it ends, or why it is refused.
+pub enum FetchRead {
+    Whole(FetchMessage, usize),
+    No(Fault),
+}
+
+// What stands before the fetch type.
+struct Head {
+    id: u64,
+    priority: u8,
+    order: u8,
+}
+
+enum RangeRead {
+    Whole(Fetch, usize),
+    No(Fault),
+}
+
+enum OkRead {
+    Whole(FetchOk, usize),
+    No(Fault),
+}
+
+enum ErrorRead {
+    Whole(FetchError, usize),
+    No(Fault),
+}
+
+enum StatusRead {
+    Whole(TrackStatus, usize),
+    No(Fault),
+}

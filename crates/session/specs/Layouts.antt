@@ -1,0 +1,29 @@
+-- The layouts of CLIENT_SETUP, SERVER_SETUP and GOAWAY: sections 8.2 and 8.3 of source document 004.
+use Prim.Native.Nat.{ℕ}
+use Rattle.field.specs.Fields.{integer, bytes, list}
+use Rattle.field.specs.declared.Kind.the-variants.{Parameters, Versions}
+use Rattle.layout.specs.Layout.{Layout, done, field}
+use Rattle.session.specs.declared.SessionKind.{SessionKind}
+use Rattle.session.specs.declared.SessionKind.the-variants.{ClientSetup, ServerSetup, GoAway}
+
+-- Supported Versions, Setup Parameters
+unfoldable pub clientSetup : Layout
+clientSetup = field (list Versions) λ _. field (list Parameters) λ _. done
+
+-- Selected Version, Setup Parameters
+unfoldable pub serverSetup : Layout
+serverSetup = field integer λ version. field (list Parameters) λ _. done
+
+-- New Session URI
+unfoldable pub goAway : Layout
+goAway = field bytes λ _. done
+
+unfoldable pub numberOf : SessionKind → ℕ
+numberOf ClientSetup = 0x40
+numberOf ServerSetup = 0x41
+numberOf GoAway = 0x10
+
+unfoldable pub layoutOf : SessionKind → Layout
+layoutOf ClientSetup = clientSetup
+layoutOf ServerSetup = serverSetup
+layoutOf GoAway = goAway

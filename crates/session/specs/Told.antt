@@ -1,0 +1,42 @@
+-- Each message as the number of its type and its fields, in the order of its layout; and what a reader answers.
+use mathlib.Core.List.{List, [], _∷_}
+use Rattle.field.specs.Outcome.{Outcome, whole, no}
+use Rattle.field.specs.declared.Kind.the-variants.{Parameters, Versions}
+use Rattle.field.specs.declared.Piece.{Piece}
+use Rattle.field.specs.declared.Piece.the-variants.{Number, Bytes, List as Listing}
+use Rattle.layout.specs.Typed.{Typed}
+use Rattle.session.specs.declared.ClientSetup.{ClientSetup}
+use Rattle.session.specs.declared.ServerSetup.{ServerSetup}
+use Rattle.session.specs.declared.SessionMessage.{SessionMessage}
+use Rattle.session.specs.declared.SessionMessage.the-variants.{ClientSetup as AClientSetup, ServerSetup as AServerSetup, GoAway as AGoAway}
+use Rattle.session.specs.declared.SessionRead.{SessionRead}
+use Rattle.session.specs.declared.SessionRead.the-variants.{Whole, No}
+use Rattle.session.specs.declared.ClientRead.{ClientRead}
+use Rattle.session.specs.declared.ClientRead.the-variants.{Whole as WholeClient, No as NoClient}
+use Rattle.session.specs.declared.ServerRead.{ServerRead}
+use Rattle.session.specs.declared.ServerRead.the-variants.{Whole as WholeServer, No as NoServer}
+
+abbrev pub clientPieces : ClientSetup → List Piece
+clientPieces m = Listing Versions (m .versions) ∷ Listing Parameters (m .parameters) ∷ []
+
+abbrev pub serverPieces : ServerSetup → List Piece
+serverPieces m = Number (m .version) ∷ Listing Parameters (m .parameters) ∷ []
+
+abbrev pub saidOf : SessionMessage → Typed
+saidOf (AClientSetup m) = record { type = 0x40; pieces = clientPieces m }
+saidOf (AServerSetup m) = record { type = 0x41; pieces = serverPieces m }
+saidOf (AGoAway uri) = record { type = 0x10; pieces = Bytes uri ∷ [] }
+
+-- ---- what readers answer
+
+abbrev pub told : SessionRead → Outcome Typed
+told (Whole m end) = whole (saidOf m) end
+told (No fault) = no fault
+
+abbrev pub toldClient : ClientRead → Outcome (List Piece)
+toldClient (WholeClient m end) = whole (clientPieces m) end
+toldClient (NoClient fault) = no fault
+
+abbrev pub toldServer : ServerRead → Outcome (List Piece)
+toldServer (WholeServer m end) = whole (serverPieces m) end
+toldServer (NoServer fault) = no fault

@@ -1,0 +1,46 @@
+// The messages that begin and end a session: CLIENT_SETUP, SERVER_SETUP and GOAWAY.
+mod reader;
+
+use field::Entries;
+use field::Fault;
+use field::Span;
+pub use reader::read;
+
+pub struct ClientSetup {
+    pub versions: Entries,
+    pub parameters: Entries,
+}
+
+pub struct ServerSetup {
+    pub version: u64,
+    pub parameters: Entries,
+}
+
+// Of a GOAWAY, the new session's URI.
+pub enum SessionMessage {
+    ClientSetup(ClientSetup),
+    ServerSetup(ServerSetup),
+    GoAway(Span),
+}
+
+pub enum SessionKind {
+    ClientSetup,
+    ServerSetup,
+    GoAway,
+}
+
+// A message and where it ends, or why it is refused.
+pub enum SessionRead {
+    Whole(SessionMessage, usize),
+    No(Fault),
+}
+
+enum ClientRead {
+    Whole(ClientSetup, usize),
+    No(Fault),
+}
+
+enum ServerRead {
+    Whole(ServerSetup, usize),
+    No(Fault),
+}

@@ -1,0 +1,17 @@
+-- `read_done` meets its contract. Assumes nothing.
+use borrow.Author.Needs.{needs}
+use Rattle.layout.proofs.Steps.{is-no, is-whole, stopping, going}
+use Rattle.subscription.specs.Layouts.{subscribeDone}
+use Rattle.subscription.proofs.reader.read_done.Statement.{statement}
+use Rattle.subscription.proofs.reader.read_done.Tie as tie
+
+pub read-done-spec : {M : Type 1} → statement M
+unfolding subscribeDone
+read-done-spec =
+    tie.close
+    (tie.spec
+    (λ c κs. search needs) (λ c. search needs) (λ c. search needs) (λ c. is-no (search stopping depth 20))
+    (λ c κs. search needs) (λ c. search needs) (λ c. search needs) (λ c. is-no (search stopping depth 20))
+    (λ c κs. search needs) (λ c. search needs) (λ c. search needs) (λ c. is-no (search stopping depth 20))
+    (λ c κs. search needs) (λ c. search needs) (λ c. search needs) (λ c. is-no (search stopping depth 20))
+    (λ c. is-whole (search going depth 20)))

@@ -1,0 +1,15 @@
+-- `read_ending` meets its contract. Assumes nothing.
+use borrow.Author.Needs.{needs}
+use Rattle.layout.proofs.Steps.{led-no, passed-on, stopping, going}
+use Rattle.subscription.specs.Layouts.{ending}
+use Rattle.subscription.proofs.reader.read_ending.Statement.{statement}
+use Rattle.subscription.proofs.reader.read_ending.Tie as tie
+
+pub read-ending-spec : {M : Type 1} → statement M
+unfolding ending
+read-ending-spec =
+    tie.close
+    (tie.spec
+    (λ c κs. search needs) (λ c. search needs) (λ c. search needs) (λ c. led-no _ (search stopping depth 20))
+    (λ c κs. search needs) (λ c. led-no _ (search stopping depth 20))
+    (λ c κs. search needs) (λ c. search (passed-on, going) depth 20))

@@ -1,0 +1,17 @@
+-- `read_ok` meets its contract. Assumes nothing.
+use borrow.Author.Needs.{needs}
+use Rattle.layout.proofs.Steps.{is-no, handed-on, stopping, going}
+use Rattle.subscription.specs.Layouts.{subscribeOk}
+use Rattle.subscription.proofs.reader.read_ok.Statement.{statement}
+use Rattle.subscription.proofs.reader.read_ok.Tie as tie
+
+pub read-ok-spec : {M : Type 1} → statement M
+unfolding subscribeOk
+read-ok-spec =
+    tie.close
+    (tie.spec
+    (λ c κs. search needs) (λ c. search needs) (λ c. search needs) (λ c. is-no (search stopping depth 20))
+    (λ c κs. search needs) (λ c. search needs) (λ c. search needs) (λ c. is-no (search stopping depth 20))
+    (λ c κs. search needs) (λ c. search needs) (λ c. search needs) (λ c. is-no (search stopping depth 20))
+    (λ c κs. search needs) (λ c. is-no (search stopping depth 20))
+    (λ c κs. search needs) (λ c. search (handed-on, going) depth 20))

@@ -1,0 +1,9 @@
+-- `ends_after` meets its contract. Assumes nothing.
+use mathlib.Core.Path.{refl}
+use Rattle.subscription.specs.Rules.{endsAfter}
+use Rattle.subscription.proofs.rules.ends_after.Statement.{statement}
+use Rattle.subscription.proofs.rules.ends_after.Tie as tie
+
+pub ends-after-spec : {M : Type 1} → statement M
+unfolding endsAfter
+ends-after-spec = tie.close (tie.spec (λ c. refl))

@@ -1,0 +1,109 @@
+-- Each message as the number of its type and its fields, in the order of its layout; and what a reader answers.
+use mathlib.Core.List.{List, [], _∷_, _++_}
+use Rattle.field.specs.Outcome.{Outcome, whole, no}
+use Rattle.field.specs.declared.Kind.the-variants.{Parameters}
+use Rattle.field.specs.declared.Piece.{Piece}
+use Rattle.field.specs.declared.Piece.the-variants.{Number, Byte, Bytes, List as Listing, Track as Tracked}
+use Rattle.layout.specs.Typed.{Typed}
+use Rattle.subscription.specs.declared.Head.{Head}
+use Rattle.subscription.specs.declared.Granted.{Granted}
+use Rattle.subscription.specs.declared.Filter.{Filter}
+use Rattle.subscription.specs.declared.Filter.the-variants.{Latest, From, Range}
+use Rattle.subscription.specs.declared.Content.{Content}
+use Rattle.subscription.specs.declared.Content.the-variants.{Nothing, Largest}
+use Rattle.subscription.specs.declared.Subscribe.{Subscribe}
+use Rattle.subscription.specs.declared.SubscribeOk.{SubscribeOk}
+use Rattle.subscription.specs.declared.SubscribeError.{SubscribeError}
+use Rattle.subscription.specs.declared.SubscribeUpdate.{SubscribeUpdate}
+use Rattle.subscription.specs.declared.SubscribeDone.{SubscribeDone}
+use Rattle.subscription.specs.declared.SubscriptionMessage.{SubscriptionMessage}
+use Rattle.subscription.specs.declared.SubscriptionMessage.the-variants.{SubscribeUpdate as ASubscribeUpdate, Subscribe as ASubscribe, SubscribeOk as ASubscribeOk, SubscribeError as ASubscribeError, Unsubscribe as AUnsubscribe, SubscribeDone as ASubscribeDone, MaxSubscribeId as AMaxSubscribeId, SubscribesBlocked as ASubscribesBlocked}
+use Rattle.subscription.specs.declared.SubscriptionRead.{SubscriptionRead}
+use Rattle.subscription.specs.declared.SubscriptionRead.the-variants.{Whole, No}
+use Rattle.subscription.specs.declared.SubscribeRead.{SubscribeRead}
+use Rattle.subscription.specs.declared.SubscribeRead.the-variants.{Whole as WholeSubscribe, No as NoSubscribe}
+use Rattle.subscription.specs.declared.OkRead.{OkRead}
+use Rattle.subscription.specs.declared.OkRead.the-variants.{Whole as WholeOk, No as NoOk}
+use Rattle.subscription.specs.declared.ErrorRead.{ErrorRead}
+use Rattle.subscription.specs.declared.ErrorRead.the-variants.{Whole as WholeError, No as NoError}
+use Rattle.subscription.specs.declared.UpdateRead.{UpdateRead}
+use Rattle.subscription.specs.declared.UpdateRead.the-variants.{Whole as WholeUpdate, No as NoUpdate}
+use Rattle.subscription.specs.declared.DoneRead.{DoneRead}
+use Rattle.subscription.specs.declared.DoneRead.the-variants.{Whole as WholeDone, No as NoDone}
+
+-- ---- SUBSCRIBE
+
+abbrev pub headPieces : Head → List Piece
+headPieces h = Number (h .id) ∷ Number (h .alias) ∷ Tracked (h .track) ∷ Byte (h .priority) ∷ Byte (h .order) ∷ []
+
+abbrev pub filterPieces : Filter → List Piece
+filterPieces Latest = Number 2 ∷ []
+filterPieces (From p) = Number 3 ∷ Number (p .group) ∷ Number (p .object) ∷ []
+filterPieces (Range p last) = Number 4 ∷ Number (p .group) ∷ Number (p .object) ∷ Number last ∷ []
+
+abbrev pub subscribePieces : Subscribe → List Piece
+subscribePieces m =
+    Number (m .id) ∷ Number (m .alias) ∷ Tracked (m .track) ∷ Byte (m .priority) ∷ Byte (m .order)
+    ∷ (filterPieces (m .filter) ++ Listing Parameters (m .parameters) ∷ [])
+
+-- ---- SUBSCRIBE_OK
+
+abbrev pub grantedPieces : Granted → List Piece
+grantedPieces g = Number (g .id) ∷ Number (g .expires) ∷ Byte (g .order) ∷ []
+
+abbrev pub contentPieces : Content → List Piece
+contentPieces Nothing = Byte 0 ∷ []
+contentPieces (Largest p) = Byte 1 ∷ Number (p .group) ∷ Number (p .object) ∷ []
+
+abbrev pub okPieces : SubscribeOk → List Piece
+okPieces m =
+    Number (m .id) ∷ Number (m .expires) ∷ Byte (m .order) ∷ (contentPieces (m .content) ++ Listing Parameters (m .parameters) ∷ [])
+
+-- ---- the others
+
+abbrev pub errorPieces : SubscribeError → List Piece
+errorPieces m = Number (m .id) ∷ Number (m .failure .code) ∷ Bytes (m .failure .reason) ∷ Number (m .alias) ∷ []
+
+abbrev pub updatePieces : SubscribeUpdate → List Piece
+updatePieces m =
+    Number (m .id) ∷ Number (m .start .group) ∷ Number (m .start .object) ∷ Number (m .«end_group») ∷ Byte (m .priority)
+    ∷ Listing Parameters (m .parameters) ∷ []
+
+abbrev pub donePieces : SubscribeDone → List Piece
+donePieces m = Number (m .id) ∷ Number (m .status) ∷ Number (m .streams) ∷ Bytes (m .reason) ∷ []
+
+abbrev pub saidOf : SubscriptionMessage → Typed
+saidOf (ASubscribeUpdate m) = record { type = 0x2; pieces = updatePieces m }
+saidOf (ASubscribe m) = record { type = 0x3; pieces = subscribePieces m }
+saidOf (ASubscribeOk m) = record { type = 0x4; pieces = okPieces m }
+saidOf (ASubscribeError m) = record { type = 0x5; pieces = errorPieces m }
+saidOf (AUnsubscribe id) = record { type = 0xA; pieces = Number id ∷ [] }
+saidOf (ASubscribeDone m) = record { type = 0xB; pieces = donePieces m }
+saidOf (AMaxSubscribeId id) = record { type = 0x15; pieces = Number id ∷ [] }
+saidOf (ASubscribesBlocked id) = record { type = 0x1A; pieces = Number id ∷ [] }
+
+-- ---- what readers answer
+
+abbrev pub told : SubscriptionRead → Outcome Typed
+told (Whole m end) = whole (saidOf m) end
+told (No fault) = no fault
+
+abbrev pub toldSubscribe : SubscribeRead → Outcome (List Piece)
+toldSubscribe (WholeSubscribe m end) = whole (subscribePieces m) end
+toldSubscribe (NoSubscribe fault) = no fault
+
+abbrev pub toldOk : OkRead → Outcome (List Piece)
+toldOk (WholeOk m end) = whole (okPieces m) end
+toldOk (NoOk fault) = no fault
+
+abbrev pub toldError : ErrorRead → Outcome (List Piece)
+toldError (WholeError m end) = whole (errorPieces m) end
+toldError (NoError fault) = no fault
+
+abbrev pub toldUpdate : UpdateRead → Outcome (List Piece)
+toldUpdate (WholeUpdate m end) = whole (updatePieces m) end
+toldUpdate (NoUpdate fault) = no fault
+
+abbrev pub toldDone : DoneRead → Outcome (List Piece)
+toldDone (WholeDone m end) = whole (donePieces m) end
+toldDone (NoDone fault) = no fault
