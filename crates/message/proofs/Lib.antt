@@ -1,0 +1,11 @@
+pub mod Layouts
+pub mod Known
+pub mod Bodies
+pub mod Filling
+pub mod Front
+pub mod Answers
+pub mod Stable
+pub mod Numbers
+pub mod Enough
+pub mod Fields
+pub mod Theorems

@@ -1,0 +1,59 @@
+-- What holds of reading a control message, for every byte string. Each theorem with its sentence, and nothing else.
+-- Assumes nothing.
+use Prim.Native.Nat.{ℕ, _≤_}
+use mathlib.Core.Path.{_≡_}
+use mathlib.Core.List.{List, _++_, map}
+use mathlib.Core.Bool.{true}
+use lib.ListN.{length, take}
+use Rattle.integer.specs.Answer.{whole as answered, refused}
+use Rattle.field.specs.Outcome.{whole}
+use Rattle.field.specs.Entries.{numberAt}
+use Rattle.field.specs.Value.{mean}
+use Rattle.layout.specs.Permitted.{permitted}
+use Rattle.layout.specs.Inside.{Inside}
+use Rattle.layout.specs.Typed.{Typed}
+use Rattle.message.specs.Types.{known, layoutOf}
+use Rattle.message.specs.Reading.{readOf}
+use Rattle.message.proofs.Front as front
+use Rattle.message.proofs.Stable as stable
+use Rattle.message.proofs.Numbers as refusals
+use Rattle.message.proofs.Enough as enough
+use Rattle.message.proofs.Fields as fields
+
+module _ (s : List ℕ) where
+  -- 1. Every refusal is one of 1 to 6.
+  pub numbers : {n : ℕ} → readOf s ≡ refused n → (1 ≤ n) × (n ≤ 6)
+  numbers = refusals.numbers s
+
+  -- 2. Bytes that follow change nothing of a whole message,
+  pub whole-stays : (x : List ℕ) {t : Typed} {used : ℕ} → readOf s ≡ answered t used → readOf (s ++ x) ≡ answered t used
+  whole-stays = stable.whole-stays s
+
+  -- nor of a refusal from 2 to 6;
+  pub refusal-stays : (x : List ℕ) {n : ℕ} → (n ≡ 1 → ⊥) → readOf s ≡ refused n → readOf (s ++ x) ≡ refused n
+  refusal-stays = stable.refusal-stays s
+
+  -- and where 1 is answered, more bytes can still decide: so it is answered exactly there.
+  pub more : readOf s ≡ refused 1 → (x : List ℕ) × (readOf (s ++ x) ≡ refused 1 → ⊥)
+  more _ = enough.more s
+
+  -- No more than 16,399 bytes are ever wanted.
+  pub decided : 16_399 ≤ length s → readOf s ≡ refused 1 → ⊥
+  decided = enough.decided s
+
+  module _ {t : Typed} {used : ℕ} where
+    -- 3. A whole message is of a known type,
+    pub is-known : readOf s ≡ answered t used → known (t .type) ≡ true
+    is-known h = front.parts s h .head .is-known
+
+    -- and its fields are permitted: no number is above the greatest, no value is forbidden, nothing is over a size.
+    pub allowed : readOf s ≡ answered t used → permitted (layoutOf (t .type)) (map (mean (take used s)) (t .pieces)) ≡ true
+    allowed h = fields.allowed s (front.parts s h)
+
+    -- 4. Its bytes are there, and they are two at least;
+    pub used-there : readOf s ≡ answered t used → (2 ≤ used) × (used ≤ length s)
+    used-there h = fields.used-there s (front.parts s h)
+
+    -- every part that was found lies within them, behind Type and Length.
+    pub inside : {next size at : ℕ} → numberAt s 0 ≡ whole (t .type) next → numberAt s next ≡ whole size at → readOf s ≡ answered t used → Inside at used (t .pieces)
+    inside e f h = fields.inside s e f (front.parts s h)

@@ -1,0 +1,58 @@
+-- `type_of` meets its contract: a known number stands for its message, and every other for none. Assumes nothing.
+use Prim.Native.Nat.{ℕ, _≤_}
+use mathlib.Core.Path.{_≡_, refl}
+use native.Mathlib.Omega.{arith}
+use Rattle.subscription.specs.declared.SubscriptionKind.the-variants as subscription
+use Rattle.fetch.specs.declared.FetchKind.the-variants as fetch
+use Rattle.announce.specs.declared.AnnounceKind.the-variants as announce
+use Rattle.session.specs.declared.SessionKind.the-variants as session
+use Rattle.subscription.specs.Layouts.{numberOf as subscriptionNumber}
+use Rattle.fetch.specs.Layouts.{numberOf as fetchNumber}
+use Rattle.announce.specs.Layouts.{numberOf as announceNumber}
+use Rattle.session.specs.Layouts.{numberOf as sessionNumber}
+use Rattle.message.specs.Types.{known, numberOf}
+use Rattle.message.specs.declared.Kind.the-variants.{Subscription, Fetch, Announce, Session}
+use Rattle.message.proofs.Known.{type-known, type-gap, type-low, type-middle, type-high, past}
+use Rattle.message.proofs.types.type_of.Statement.{statement}
+use Rattle.message.proofs.types.type_of.Tie as tie
+
+pub type-of-spec : {M : Type 1} → statement M
+unfolding known numberOf subscriptionNumber fetchNumber announceNumber sessionNumber
+type-of-spec =
+    tie.close
+    (tie.spec
+    (λ c. type-known (Subscription subscription.SubscribeUpdate) (c .match .keys1))
+    (λ c. type-known (Subscription subscription.Subscribe) (c .match .keys2))
+    (λ c. type-known (Subscription subscription.SubscribeOk) (c .match .keys3))
+    (λ c. type-known (Subscription subscription.SubscribeError) (c .match .keys4))
+    (λ c. type-known (Announce announce.Announce) (c .match .keys5))
+    (λ c. type-known (Announce announce.AnnounceOk) (c .match .keys6))
+    (λ c. type-known (Announce announce.AnnounceError) (c .match .keys7))
+    (λ c. type-known (Announce announce.Unannounce) (c .match .keys8))
+    (λ c. type-known (Subscription subscription.Unsubscribe) (c .match .keys9))
+    (λ c. type-known (Subscription subscription.SubscribeDone) (c .match .keys10))
+    (λ c. type-known (Announce announce.AnnounceCancel) (c .match .keys11))
+    (λ c. type-known (Fetch fetch.TrackStatusRequest) (c .match .keys12))
+    (λ c. type-known (Fetch fetch.TrackStatus) (c .match .keys13))
+    (λ c. type-gap 0xF (c .match .keys14) refl)
+    (λ c. type-known (Session session.GoAway) (c .match .keys15))
+    (λ c. type-known (Announce announce.SubscribeAnnounces) (c .match .keys16))
+    (λ c. type-known (Announce announce.SubscribeAnnouncesOk) (c .match .keys17))
+    (λ c. type-known (Announce announce.SubscribeAnnouncesError) (c .match .keys18))
+    (λ c. type-known (Announce announce.UnsubscribeAnnounces) (c .match .keys19))
+    (λ c. type-known (Subscription subscription.MaxSubscribeId) (c .match .keys20))
+    (λ c. type-known (Fetch fetch.Fetch) (c .match .keys21))
+    (λ c. type-known (Fetch fetch.FetchCancel) (c .match .keys22))
+    (λ c. type-known (Fetch fetch.FetchOk) (c .match .keys23))
+    (λ c. type-known (Fetch fetch.FetchError) (c .match .keys24))
+    (λ c. type-known (Subscription subscription.SubscribesBlocked) (c .match .keys25))
+    (λ c. type-known (Session session.ClientSetup) (c .match .keys26))
+    (λ c. type-known (Session session.ServerSetup) (c .match .keys27))
+    (λ c. type-low (omega arith))
+    (λ c.
+    let r = c .before .before .match .rest in
+    let h : 2 ≤ c .before .before .before .args .number = c .before .if1 .left in
+    type-middle (past (past (past (past (past (past (past (past (past (past (past (past (past (past (past (past (past (past (past (past (past (past (past (past (past h (r .0 .0 .0 .0 .0 .0 .0 .0 .0 .0 .0 .0 .0 .0 .0 .0 .0 .0 .0 .0 .0 .0 .0 .0 .0 .0 .1)) (r .0 .0 .0 .0 .0 .0 .0 .0 .0 .0 .0 .0 .0 .0 .0 .0 .0 .0 .0 .0 .0 .0 .0 .0 .0 .1)) (r .0 .0 .0 .0 .0 .0 .0 .0 .0 .0 .0 .0 .0 .0 .0 .0 .0 .0 .0 .0 .0 .0 .0 .0 .1)) (r .0 .0 .0 .0 .0 .0 .0 .0 .0 .0 .0 .0 .0 .0 .0 .0 .0 .0 .0 .0 .0 .0 .0 .1)) (r .0 .0 .0 .0 .0 .0 .0 .0 .0 .0 .0 .0 .0 .0 .0 .0 .0 .0 .0 .0 .0 .0 .1)) (r .0 .0 .0 .0 .0 .0 .0 .0 .0 .0 .0 .0 .0 .0 .0 .0 .0 .0 .0 .0 .0 .1)) (r .0 .0 .0 .0 .0 .0 .0 .0 .0 .0 .0 .0 .0 .0 .0 .0 .0 .0 .0 .0 .1)) (r .0 .0 .0 .0 .0 .0 .0 .0 .0 .0 .0 .0 .0 .0 .0 .0 .0 .0 .0 .1)) (r .0 .0 .0 .0 .0 .0 .0 .0 .0 .0 .0 .0 .0 .0 .0 .0 .0 .0 .1)) (r .0 .0 .0 .0 .0 .0 .0 .0 .0 .0 .0 .0 .0 .0 .0 .0 .0 .1)) (r .0 .0 .0 .0 .0 .0 .0 .0 .0 .0 .0 .0 .0 .0 .0 .0 .1)) (r .0 .0 .0 .0 .0 .0 .0 .0 .0 .0 .0 .0 .0 .0 .0 .1)) (r .0 .0 .0 .0 .0 .0 .0 .0 .0 .0 .0 .0 .0 .0 .1)) (r .0 .0 .0 .0 .0 .0 .0 .0 .0 .0 .0 .0 .0 .1)) (r .0 .0 .0 .0 .0 .0 .0 .0 .0 .0 .0 .0 .1)) (r .0 .0 .0 .0 .0 .0 .0 .0 .0 .0 .0 .1)) (r .0 .0 .0 .0 .0 .0 .0 .0 .0 .0 .1)) (r .0 .0 .0 .0 .0 .0 .0 .0 .0 .1)) (r .0 .0 .0 .0 .0 .0 .0 .0 .1)) (r .0 .0 .0 .0 .0 .0 .0 .1)) (r .0 .0 .0 .0 .0 .0 .1)) (r .0 .0 .0 .0 .0 .1)) (r .0 .0 .0 .0 .1)) (r .0 .0 .0 .1)) (r .0 .0 .1)) (c .if2 .taken))
+    (λ c.
+    let r = c .before .before .match .rest in
+    type-high (past (past (c .if2 .left) (r .0 .1)) (r .1))))

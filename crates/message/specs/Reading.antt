@@ -1,0 +1,54 @@
+-- What reading a control message answers: "Type, known or not; Length, at most 16,383; whole body present; fields left to
+-- right, the first fault deciding; no byte left over".
+use Prim.Native.Nat.{ℕ, _+_, _-_}
+use mathlib.Core.List.{List}
+use lib.ListN.{length, take}
+use lib.Dec.{leb, eqb}
+use Rattle.integer.specs.Answer.{pick, Answer, whole as answered, refused}
+use Rattle.field.specs.Outcome.{Outcome, whole, no, number}
+use Rattle.field.specs.Entries.{numberAt}
+use Rattle.field.specs.Value.{onFound}
+use Rattle.layout.specs.Layout.{scan}
+use Rattle.layout.specs.Typed.{Typed, typed}
+use Rattle.message.specs.Types.{known, layoutOf, saidOf}
+use Rattle.message.specs.declared.BodyRead.{BodyRead}
+use Rattle.message.specs.declared.BodyRead.the-variants.{Whole as WholeBody, No as NoBody}
+use Rattle.message.specs.declared.Reading.{Reading}
+use Rattle.message.specs.declared.Reading.the-variants.{Whole, More, Unknown, TooLong, Unfilled, Forbidden, Oversize}
+
+-- the longest body
+abbrev pub longest : ℕ
+longest = 16_383
+
+-- a body that ends at `end` must be filled: 4 where its fields end before, or are cut
+abbrev pub filledBy : ℕ → Outcome Typed → Answer Typed
+filledBy end (whole m last) = pick (eqb last end) (answered m end) (refused 4)
+filledBy end (no fault) = refused (number 4 fault)
+
+-- the body of a message of a type, from an offset on, when its Length is known
+unfoldable pub bodyOf : List ℕ → ℕ → ℕ → ℕ → Answer Typed
+bodyOf s type size at =
+    pick (leb size longest)
+    (pick (leb size (length s - at)) (filledBy (at + size) (typed type (scan (layoutOf type) (take (at + size) s) at))) (refused 1))
+    (refused 3)
+
+unfoldable pub readOf : List ℕ → Answer Typed
+readOf s =
+    onFound (numberAt s 0)
+    (λ type next. pick (known type) (onFound (numberAt s next) (λ size at. bodyOf s type size at) (refused 1)) (refused 2))
+    (refused 1)
+
+-- ---- 01's number and values of what is answered
+
+abbrev pub told : Reading → Answer Typed
+told (Whole m used) = answered (saidOf m) used
+told More = refused 1
+told Unknown = refused 2
+told TooLong = refused 3
+told Unfilled = refused 4
+told Forbidden = refused 5
+told Oversize = refused 6
+
+abbrev pub toldBody : BodyRead → Outcome Typed
+toldBody (WholeBody m end) = whole (saidOf m) end
+toldBody (NoBody fault) = no fault

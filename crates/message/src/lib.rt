@@ -1,0 +1,55 @@
+// Control messages: section 8 of source document 004. A message is Type, Length and a body of Length bytes.
+mod reader;
+mod types;
+
+use announce::AnnounceKind;
+use announce::AnnounceMessage;
+use fetch::FetchKind;
+use fetch::FetchMessage;
+use field::Fault;
+pub use reader::read;
+use session::SessionKind;
+use session::SessionMessage;
+use subscription::SubscriptionKind;
+use subscription::SubscriptionMessage;
+
+// The longest body that is read or written.
+pub const LONGEST: u64 = 16_383;
+
+pub enum Message {
+    Subscription(SubscriptionMessage),
+    Fetch(FetchMessage),
+    Announce(AnnounceMessage),
+    Session(SessionMessage),
+}
+
+// What reading bytes answers: a message and the bytes it took; or that more bytes are needed; that its type is unknown; that
+// its body is too long; that its fields don't fill the body; that a value is forbidden; that it is over a size.
+pub enum Reading {
+    Whole(Message, usize),
+    More,
+    Unknown,
+    TooLong,
+    Unfilled,
+    Forbidden,
+    Oversize,
+}
+
+// Which message a type number stands for.
+enum Kind {
+    Subscription(SubscriptionKind),
+    Fetch(FetchKind),
+    Announce(AnnounceKind),
+    Session(SessionKind),
+}
+
+enum Found {
+    Known(Kind),
+    Unknown,
+}
+
+// A body that was read, and where its fields end.
+enum BodyRead {
+    Whole(Message, usize),
+    No(Fault),
+}

@@ -1,0 +1,87 @@
+// A message is read in this order: Type, known or not; Length, at most 16,383; the whole body present; its fields, left to
+// right, the first fault deciding; no byte left over.
+ghost use mathlib.Core.Path.{_≡_};
+ghost use Rattle.layout.specs.Layout.{scan};
+ghost use Rattle.layout.specs.Typed.{typed};
+ghost use Rattle.message.specs.Types.{numberOf, layoutOf};
+ghost use Rattle.message.specs.Reading.{told, toldBody, filledBy, readOf};
+use crate::BodyRead;
+use crate::Found;
+use crate::Kind;
+use crate::LONGEST;
+use crate::Message;
+use crate::Reading;
+use crate::types::type_of;
+use announce::AnnounceRead;
+use fetch::FetchRead;
+use field::Fault;
+use field::NumberRead;
+use session::SessionRead;
+use subscription::SubscriptionRead;
+
+pub fn read(s: &[u8]) -> Reading
+    ensures { λ r. ⌜ told r ≡ readOf (now (s .entry)) ⌝ }
+{
+    let NumberRead::Whole(number, a) = field::read_number(s, 0) else {
+        return Reading::More;
+    };
+    let Found::Known(kind) = type_of(number) else {
+        return Reading::Unknown;
+    };
+    let NumberRead::Whole(length, b) = field::read_number(s, a) else {
+        return Reading::More;
+    };
+    if length > LONGEST {
+        return Reading::TooLong;
+    }
+    let left = s.len() - b;
+    if length > left as u64 {
+        return Reading::More;
+    }
+    let end = b + length as usize;
+    filled(read_body(kind, &s[..end], b), end)
+}
+
+// The body, which must end where the fields do.
+fn filled(body: BodyRead, end: usize) -> Reading
+    ensures { λ r. ⌜ told r ≡ filledBy end (toldBody body) ⌝ }
+{
+    match body {
+        BodyRead::Whole(m, last) => {
+            if last == end {
+                Reading::Whole(m, end)
+            } else {
+                Reading::Unfilled
+            }
+        }
+        BodyRead::No(fault) => match fault {
+            Fault::Cut => Reading::Unfilled,
+            Fault::Forbidden => Reading::Forbidden,
+            Fault::Oversize => Reading::Oversize,
+        },
+    }
+}
+
+// The fields of a body, by the kind of its message.
+fn read_body(kind: Kind, s: &[u8], at: usize) -> BodyRead
+    ensures { λ r. ⌜ toldBody r ≡ typed (numberOf kind) (scan (layoutOf (numberOf kind)) (now (s .entry)) at) ⌝ }
+{
+    match kind {
+        Kind::Subscription(k) => match subscription::read(k, s, at) {
+            SubscriptionRead::Whole(m, end) => BodyRead::Whole(Message::Subscription(m), end),
+            SubscriptionRead::No(fault) => BodyRead::No(fault),
+        },
+        Kind::Fetch(k) => match fetch::read(k, s, at) {
+            FetchRead::Whole(m, end) => BodyRead::Whole(Message::Fetch(m), end),
+            FetchRead::No(fault) => BodyRead::No(fault),
+        },
+        Kind::Announce(k) => match announce::read(k, s, at) {
+            AnnounceRead::Whole(m, end) => BodyRead::Whole(Message::Announce(m), end),
+            AnnounceRead::No(fault) => BodyRead::No(fault),
+        },
+        Kind::Session(k) => match session::read(k, s, at) {
+            SessionRead::Whole(m, end) => BodyRead::Whole(Message::Session(m), end),
+            SessionRead::No(fault) => BodyRead::No(fault),
+        },
+    }
+}

@@ -1,0 +1,47 @@
+// Types fall into known numbers, gaps between them and numbers beyond the last.
+ghost use mathlib.Core.Path.{_≡_};
+ghost use Rattle.message.specs.Types.{typeOf, toldType};
+use crate::Found;
+use crate::Kind;
+use announce::AnnounceKind;
+use fetch::FetchKind;
+use session::SessionKind;
+use subscription::SubscriptionKind;
+
+// Which message a number is the type of.
+pub fn type_of(number: u64) -> Found
+    ensures { λ r. ⌜ toldType r ≡ typeOf number ⌝ }
+{
+    match number {
+        0x0..=0x1 => Found::Unknown,
+        0x2 => Found::Known(Kind::Subscription(SubscriptionKind::SubscribeUpdate)),
+        0x3 => Found::Known(Kind::Subscription(SubscriptionKind::Subscribe)),
+        0x4 => Found::Known(Kind::Subscription(SubscriptionKind::SubscribeOk)),
+        0x5 => Found::Known(Kind::Subscription(SubscriptionKind::SubscribeError)),
+        0x6 => Found::Known(Kind::Announce(AnnounceKind::Announce)),
+        0x7 => Found::Known(Kind::Announce(AnnounceKind::AnnounceOk)),
+        0x8 => Found::Known(Kind::Announce(AnnounceKind::AnnounceError)),
+        0x9 => Found::Known(Kind::Announce(AnnounceKind::Unannounce)),
+        0xA => Found::Known(Kind::Subscription(SubscriptionKind::Unsubscribe)),
+        0xB => Found::Known(Kind::Subscription(SubscriptionKind::SubscribeDone)),
+        0xC => Found::Known(Kind::Announce(AnnounceKind::AnnounceCancel)),
+        0xD => Found::Known(Kind::Fetch(FetchKind::TrackStatusRequest)),
+        0xE => Found::Known(Kind::Fetch(FetchKind::TrackStatus)),
+        0xF..=0xF => Found::Unknown,
+        0x10 => Found::Known(Kind::Session(SessionKind::GoAway)),
+        0x11 => Found::Known(Kind::Announce(AnnounceKind::SubscribeAnnounces)),
+        0x12 => Found::Known(Kind::Announce(AnnounceKind::SubscribeAnnouncesOk)),
+        0x13 => Found::Known(Kind::Announce(AnnounceKind::SubscribeAnnouncesError)),
+        0x14 => Found::Known(Kind::Announce(AnnounceKind::UnsubscribeAnnounces)),
+        0x15 => Found::Known(Kind::Subscription(SubscriptionKind::MaxSubscribeId)),
+        0x16 => Found::Known(Kind::Fetch(FetchKind::Fetch)),
+        0x17 => Found::Known(Kind::Fetch(FetchKind::FetchCancel)),
+        0x18 => Found::Known(Kind::Fetch(FetchKind::FetchOk)),
+        0x19 => Found::Known(Kind::Fetch(FetchKind::FetchError)),
+        0x1A => Found::Known(Kind::Subscription(SubscriptionKind::SubscribesBlocked)),
+        0x1B..=0x3F => Found::Unknown,
+        0x40 => Found::Known(Kind::Session(SessionKind::ClientSetup)),
+        0x41 => Found::Known(Kind::Session(SessionKind::ServerSetup)),
+        _ => Found::Unknown,
+    }
+}
