@@ -5,6 +5,14 @@ use mathlib.Core.Path.{_≡_, refl}
 use mathlib.Core.Logic.{⊎-elim}
 use mathlib.Core.List.{List, [], _∷_, map, List·Memᴰ, List·Memᴰ·not-nil, List·Memᴰ·cases-cons}
 use Rattle.integer.specs.Answer.{Answer, whole, refused, wrote, Written}
+use Rattle.field.specs.Entries.{numberAt}
+use Rattle.field.specs.Fields.{fieldAt}
+use Rattle.field.specs.declared.Piece.the-variants.{Number}
+use Rattle.layout.specs.Layout.{scan}
+use Rattle.layout.specs.Typed.{Typed}
+use Rattle.fetch.specs.Layouts.{fetchCancel}
+use Rattle.message.specs.Types.{known, layoutOf}
+use Rattle.message.specs.Reading.{bodyOf, readOf as messageOf}
 use Rattle.integer.specs.Integer.{wide, room, tag, sizeOf, spell, bytesOf, readOf, putOf, writeOf}
 
 -- a line: what is done, and what it comes to
@@ -13,20 +21,25 @@ pub data Line : Type 0 where
   reads : List ℕ → Answer ℕ → Line
   -- a number is written into a buffer, which then holds this
   writes : ℕ → List ℕ → Written → Line
+  -- a control message is read from bytes
+  receives : List ℕ → Answer Typed → Line
 
 pub data Result : Type 0 where
   read : Answer ℕ → Result
   write : Written → Result
+  receive : Answer Typed → Result
 
 -- what a line's doing comes to, by the definitions that the contracts cite
 unfoldable pub found : Line → Result
 found (reads s r) = read (readOf s)
 found (writes n before r) = write (writeOf n before)
+found (receives s r) = receive (messageOf s)
 
 -- what the line says
 unfoldable pub stated : Line → Result
 stated (reads s r) = read r
 stated (writes n before r) = write r
+stated (receives s r) = receive r
 
 unfoldable pub lines : List Line
 lines =
@@ -49,10 +62,22 @@ lines =
     -- P5 eight `FF` read 4,611,686,018,427,387,903; one more can't be written
     ∷ reads (0xFF ∷ 0xFF ∷ 0xFF ∷ 0xFF ∷ 0xFF ∷ 0xFF ∷ 0xFF ∷ 0xFF ∷ []) (whole 4_611_686_018_427_387_903 8)
     ∷ writes 4_611_686_018_427_387_904 [] (record { says = refused 5; holds = [] })
+    -- P6 `17 01 05`: whole, ID 5
+    ∷ receives (0x17 ∷ 0x01 ∷ 0x05 ∷ []) (whole (record { type = 0x17; pieces = Number 5 ∷ [] }) 3)
+    -- P7 `17 02 05 00` and `17 00`: 4
+    ∷ receives (0x17 ∷ 0x02 ∷ 0x05 ∷ 0x00 ∷ []) (refused 4)
+    ∷ receives (0x17 ∷ 0x00 ∷ []) (refused 4)
+    -- P8 `17 02 40 05` reads ID 5
+    ∷ receives (0x17 ∷ 0x02 ∷ 0x40 ∷ 0x05 ∷ []) (whole (record { type = 0x17; pieces = Number 5 ∷ [] }) 4)
+    -- P9 `3F`: 2
+    ∷ receives (0x3F ∷ []) (refused 2)
+    -- P10 `17 7F FF`: 1; `17 80 00 40 00`: 3
+    ∷ receives (0x17 ∷ 0x7F ∷ 0xFF ∷ []) (refused 1)
+    ∷ receives (0x17 ∷ 0x80 ∷ 0x00 ∷ 0x40 ∷ 0x00 ∷ []) (refused 3)
     ∷ []
 
 computed : map found lines ≡ map stated lines
-unfolding found stated lines wide room tag sizeOf spell bytesOf readOf putOf writeOf
+unfolding found stated lines wide room tag sizeOf spell bytesOf readOf putOf writeOf numberAt fieldAt scan fetchCancel known layoutOf bodyOf messageOf
 computed = refl
 
 -- two functions that map a list alike agree at each of its members
