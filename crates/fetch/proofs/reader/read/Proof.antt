@@ -14,14 +14,11 @@ read-spec =
     tie.close
     (tie.spec
     (λ c. search needs) (λ c κs. search needs) (λ c. search needs) (λ c. search needs) (λ c. search needs) (λ c κs. search needs) (λ c. search needs) (λ c. search needs) (λ c. search needs) (λ c κs. search needs) (λ c. search needs) (λ c. search needs) (λ c. search needs) (λ c κs. search needs) (λ c. search needs) (λ c. search needs) (λ c. search needs) (λ c κs. search needs) (λ c. search needs) (λ c. search needs) (λ c. search needs) (λ c κs. search needs) (λ c. search needs) (λ c. search needs) (λ c. search (by-reader numberOf layoutOf toldRange))
-    (λ c. search (by-reader numberOf layoutOf toldRange))
-    (λ c. search (by-reader numberOf layoutOf toldOk))
-    (λ c. search (by-reader numberOf layoutOf toldOk))
-    (λ c. search (by-reader numberOf layoutOf toldError))
+    (λ c. search (by-reader numberOf layoutOf toldRange)) (λ c. search (by-reader numberOf layoutOf toldOk))
+    (λ c. search (by-reader numberOf layoutOf toldOk)) (λ c. search (by-reader numberOf layoutOf toldError))
     (λ c. search (by-reader numberOf layoutOf toldError))
     (λ c. by-fields numberOf layoutOf _ _ (c .before .before .before .before .enum-told4 .given .1) (search going depth 10) refl)
     (λ c. search (by-fault numberOf layoutOf, stopping) depth 10)
     (λ c. by-fields numberOf layoutOf _ _ (c .before .before .before .before .before .enum-told6 .given .1) (search going depth 10) refl)
     (λ c. search (by-fault numberOf layoutOf, stopping) depth 10)
-    (λ c. search (by-reader numberOf layoutOf toldStatus))
-    (λ c. search (by-reader numberOf layoutOf toldStatus)))
+    (λ c. search (by-reader numberOf layoutOf toldStatus)) (λ c. search (by-reader numberOf layoutOf toldStatus)))
