@@ -26,7 +26,7 @@ abbrev refused : List Piece → Refused
 refused ps = record { namespace = entriesIn ps 0; failure = record { code = numberIn ps 1; reason = bytesIn ps 2 } }
 
 -- the message that a type and fields say
-heard : Typed → AnnounceMessage
+pub heard : Typed → AnnounceMessage
 heard t =
     let ps = t .pieces in
     pick (eqb (t .type) 0x6) (AnAnnounce (asked ps))
@@ -40,7 +40,7 @@ heard t =
     (UnsubscribeAnnounces (named ps)))))))))
 
 -- is the one that was said,
-heard-said : (m : AnnounceMessage) → heard (saidOf m) ≡ m
+pub heard-said : (m : AnnounceMessage) → heard (saidOf m) ≡ m
 unfolding heard
 heard-said (AnAnnounce m) = refl
 heard-said (AnnounceOk n) = refl

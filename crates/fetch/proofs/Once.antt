@@ -33,7 +33,7 @@ fetchOf ps =
     }
 
 -- by the number of its type, TRACK_STATUS where it is none of the others
-messageOf : Typed → FetchMessage
+pub messageOf : Typed → FetchMessage
 messageOf t =
     let ps = t .pieces in
     pick (eqb (t .type) 0x16) (AFetch (fetchOf ps))
@@ -61,7 +61,7 @@ fetch-back m (Joining j) e = go (j .absolute) refl
     go false f = rw (e, f)
 
 -- a message,
-message-back : (m : FetchMessage) → messageOf (saidOf m) ≡ m
+pub message-back : (m : FetchMessage) → messageOf (saidOf m) ≡ m
 unfolding messageOf
 message-back (AFetch m) = ap AFetch (fetch-back m (m .range) refl)
 message-back (AFetchOk m) = refl

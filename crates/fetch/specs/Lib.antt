@@ -1,3 +1,4 @@
 pub mod Rules
 pub mod Layouts
 pub mod Told
+pub mod Names

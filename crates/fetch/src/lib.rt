@@ -1,4 +1,5 @@
 // The messages that retrieve what was published: FETCH and the answers to it, and the status of a track.
+mod name;
 mod reader;
 mod rules;
 
@@ -7,6 +8,7 @@ use field::Failure;
 use field::Fault;
 use field::Place;
 use field::Track;
+pub use name::name_of;
 pub use reader::read;
 pub use rules::is_status;
 pub use rules::may_hold;

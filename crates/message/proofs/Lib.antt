@@ -9,3 +9,5 @@ pub mod Numbers
 pub mod Enough
 pub mod Fields
 pub mod Theorems
+pub mod Naming
+pub mod Once

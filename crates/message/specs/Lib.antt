@@ -1,2 +1,3 @@
 pub mod Types
 pub mod Reading
+pub mod Names

@@ -1,4 +1,5 @@
 // Control messages: section 8 of source document 004. A message is Type, Length and a body of Length bytes.
+mod name;
 mod reader;
 mod types;
 
@@ -7,6 +8,7 @@ use announce::AnnounceMessage;
 use fetch::FetchKind;
 use fetch::FetchMessage;
 use field::Fault;
+pub use name::track_name;
 pub use reader::read;
 use session::SessionKind;
 use session::SessionMessage;

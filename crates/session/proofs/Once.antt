@@ -11,7 +11,7 @@ use Rattle.session.specs.declared.SessionRead.{SessionRead}
 use Rattle.session.specs.declared.SessionRead.the-variants.{Whole, No}
 
 -- the message that a type and fields say
-heard : Typed → SessionMessage
+pub heard : Typed → SessionMessage
 heard t =
     let ps = t .pieces in
     pick (eqb (t .type) 0x40) (ClientSetup (record { versions = entriesIn ps 0; parameters = entriesIn ps 1 }))
@@ -19,7 +19,7 @@ heard t =
     (GoAway (bytesIn ps 0)))
 
 -- is the one that was said,
-heard-said : (m : SessionMessage) → heard (saidOf m) ≡ m
+pub heard-said : (m : SessionMessage) → heard (saidOf m) ≡ m
 unfolding heard
 heard-said (ClientSetup m) = refl
 heard-said (ServerSetup m) = refl

@@ -52,7 +52,7 @@ module _ (ps : List Piece) where
       (pick (eqb type 0xB) (ASubscribeDone (record { id = numberIn ps 0; status = numberIn ps 1; streams = numberIn ps 2; reason = bytesIn ps 3 }))
       (pick (eqb type 0x15) (AMaxSubscribeId (numberIn ps 0)) (ASubscribesBlocked (numberIn ps 0))))))))
 
-messageOf : Typed → SubscriptionMessage
+pub messageOf : Typed → SubscriptionMessage
 messageOf t = messageIn (t .pieces) (t .type)
 
 -- ---- and it is the message that has them
@@ -68,7 +68,7 @@ unfolding messageOf
 ok-back m Nothing e = rw e
 ok-back m (Largest p) e = rw e
 
-back : (m : SubscriptionMessage) → messageOf (saidOf m) ≡ m
+pub back : (m : SubscriptionMessage) → messageOf (saidOf m) ≡ m
 unfolding messageOf
 back (ASubscribeUpdate m) = refl
 back (ASubscribe m) = subscribe-back m (m .filter) refl

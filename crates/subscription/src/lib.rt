@@ -1,4 +1,5 @@
 // The messages of subscriptions: SUBSCRIBE and the answers to it, and how many there may be.
+mod name;
 mod reader;
 mod rules;
 
@@ -8,6 +9,7 @@ use field::Fault;
 use field::Place;
 use field::Span;
 use field::Track;
+pub use name::name_of;
 pub use reader::read;
 pub use rules::ends_after;
 

@@ -1,0 +1,145 @@
+-- One possible answer: 01's number and values lose nothing. A type and fields are those of one message, which is made of them
+-- again, by its family; and so is the answer that tells it. Assumes nothing.
+use Prim.Native.Nat.{ℕ}
+use mathlib.Core.Path.{_≡_, refl}
+use lib.Dec.{eqb, leb}
+use Rattle.integer.specs.Answer.{pick, Answer, whole as answered, refused}
+use Rattle.layout.specs.Typed.{Typed}
+use Rattle.layout.proofs.Parts.{once}
+use Rattle.subscription.proofs.Once.{messageOf as subscriptionOf, back as subscription-back}
+use Rattle.subscription.specs.Told.{saidOf as subscriptionSaid}
+use Rattle.subscription.specs.declared.SubscriptionMessage.{SubscriptionMessage}
+use Rattle.subscription.specs.declared.SubscriptionMessage.the-variants as subscription
+use Rattle.fetch.proofs.Once.{messageOf as fetchOf, message-back as fetch-back}
+use Rattle.fetch.specs.Told.{saidOf as fetchSaid}
+use Rattle.fetch.specs.declared.FetchMessage.{FetchMessage}
+use Rattle.fetch.specs.declared.FetchMessage.the-variants as fetch
+use Rattle.announce.proofs.Once.{heard as announceOf, heard-said as announce-back}
+use Rattle.announce.specs.Told.{saidOf as announceSaid}
+use Rattle.announce.specs.declared.AnnounceMessage.{AnnounceMessage}
+use Rattle.announce.specs.declared.AnnounceMessage.the-variants as announce
+use Rattle.session.proofs.Once.{heard as sessionOf, heard-said as session-back}
+use Rattle.session.specs.Told.{saidOf as sessionSaid}
+use Rattle.session.specs.declared.SessionMessage.{SessionMessage}
+use Rattle.session.specs.declared.SessionMessage.the-variants as session
+use Rattle.message.specs.Types.{saidOf}
+use Rattle.message.specs.Reading.{told}
+use Rattle.message.specs.declared.Message.{Message}
+use Rattle.message.specs.declared.Message.the-variants.{Subscription, Fetch, Announce, Session}
+use Rattle.message.specs.declared.Reading.{Reading}
+use Rattle.message.specs.declared.Reading.the-variants.{Whole, More, Unknown, TooLong, Unfilled, Forbidden, Oversize}
+
+-- ---- the families, by the numbers of their types
+
+-- what a message is about
+data Family : Type 0 where
+  subscribing : Family
+  retrieving : Family
+  announcing : Family
+  setting : Family
+
+-- the family whose a number is; of a number that is no type, any
+familyOf : ℕ → Family
+familyOf type =
+    pick (leb type 0x5) subscribing
+    (pick (leb type 0x9) announcing
+    (pick (leb type 0xB) subscribing
+    (pick (leb type 0xC) announcing
+    (pick (leb type 0xE) retrieving
+    (pick (leb type 0x10) setting
+    (pick (leb type 0x14) announcing
+    (pick (leb type 0x15) subscribing
+    (pick (leb type 0x19) retrieving
+    (pick (leb type 0x1A) subscribing setting)))))))))
+
+-- each message has a number of its family
+of-subscription : (m : SubscriptionMessage) → familyOf (subscriptionSaid m .type) ≡ subscribing
+unfolding familyOf
+of-subscription (subscription.SubscribeUpdate m) = refl
+of-subscription (subscription.Subscribe m) = refl
+of-subscription (subscription.SubscribeOk m) = refl
+of-subscription (subscription.SubscribeError m) = refl
+of-subscription (subscription.Unsubscribe id) = refl
+of-subscription (subscription.SubscribeDone m) = refl
+of-subscription (subscription.MaxSubscribeId id) = refl
+of-subscription (subscription.SubscribesBlocked id) = refl
+
+of-fetch : (m : FetchMessage) → familyOf (fetchSaid m .type) ≡ retrieving
+unfolding familyOf
+of-fetch (fetch.Fetch m) = refl
+of-fetch (fetch.FetchOk m) = refl
+of-fetch (fetch.FetchError m) = refl
+of-fetch (fetch.FetchCancel id) = refl
+of-fetch (fetch.TrackStatusRequest t) = refl
+of-fetch (fetch.TrackStatus m) = refl
+
+of-announce : (m : AnnounceMessage) → familyOf (announceSaid m .type) ≡ announcing
+unfolding familyOf
+of-announce (announce.Announce m) = refl
+of-announce (announce.AnnounceOk n) = refl
+of-announce (announce.AnnounceError m) = refl
+of-announce (announce.Unannounce n) = refl
+of-announce (announce.AnnounceCancel m) = refl
+of-announce (announce.SubscribeAnnounces m) = refl
+of-announce (announce.SubscribeAnnouncesOk n) = refl
+of-announce (announce.SubscribeAnnouncesError m) = refl
+of-announce (announce.UnsubscribeAnnounces n) = refl
+
+of-session : (m : SessionMessage) → familyOf (sessionSaid m .type) ≡ setting
+unfolding familyOf
+of-session (session.ClientSetup m) = refl
+of-session (session.ServerSetup m) = refl
+of-session (session.GoAway uri) = refl
+
+-- ---- the message that a type and fields are of
+
+-- made by its family
+abbrev messageBy : Family → Typed → Message
+messageBy subscribing t = Subscription (subscriptionOf t)
+messageBy retrieving t = Fetch (fetchOf t)
+messageBy announcing t = Announce (announceOf t)
+messageBy setting t = Session (sessionOf t)
+
+messageOf : Typed → Message
+messageOf t = messageBy (familyOf (t .type)) t
+
+-- and the answer that says so
+abbrev refusalOf : ℕ → Reading
+refusalOf n =
+    pick (eqb n 1) More
+    (pick (eqb n 2) Unknown (pick (eqb n 3) TooLong (pick (eqb n 4) Unfilled (pick (eqb n 5) Forbidden Oversize))))
+
+answerOf : Answer Typed → Reading
+answerOf (answered t used) = Whole (messageOf t) used
+answerOf (refused n) = refusalOf n
+
+-- ---- they are the ones that were told
+
+-- a message,
+message-back : (m : Message) → messageOf (saidOf m) ≡ m
+unfolding messageOf
+message-back (Subscription m) = rw (of-subscription m, subscription-back m)
+message-back (Fetch m) = rw (of-fetch m, fetch-back m)
+message-back (Announce m) = rw (of-announce m, announce-back m)
+message-back (Session m) = rw (of-session m, session-back m)
+
+-- and an answer
+answer-back : (a : Reading) → answerOf (told a) ≡ a
+unfolding answerOf
+answer-back (Whole m used) = rw message-back
+answer-back More = refl
+answer-back Unknown = refl
+answer-back TooLong = refl
+answer-back Unfilled = refl
+answer-back Forbidden = refl
+answer-back Oversize = refl
+
+-- ---- so nothing is lost
+
+-- a type and fields are those of one message,
+pub said-once : (m n : Message) → saidOf m ≡ saidOf n → m ≡ n
+said-once = once saidOf messageOf message-back
+
+-- and what is answered is answered in one way
+pub told-once : (a b : Reading) → told a ≡ told b → a ≡ b
+told-once = once told answerOf answer-back

@@ -1,0 +1,25 @@
+-- The name of the track that a message names, as a part of the bytes that it was read from.
+use Prim.Native.Nat.{ℕ}
+use mathlib.Core.List.{List, []}
+use lib.ListN.{length}
+use lib.Dec.{leb}
+use Rattle.integer.specs.Answer.{pick}
+use Rattle.field.specs.Outcome.{both}
+use Rattle.field.specs.Value.{part}
+use Rattle.field.specs.declared.Span.{Span}
+use Rattle.subscription.specs.Names.{nameOf as subscriptionName, nowhere}
+use Rattle.fetch.specs.Names.{nameOf as fetchName}
+use Rattle.message.specs.declared.Message.{Message}
+use Rattle.message.specs.declared.Message.the-variants.{Subscription, Fetch, Announce, Session}
+
+-- where it stands: the messages of subscriptions and those that retrieve can name a track, the others name none
+abbrev pub nameOf : Message → Span
+nameOf (Subscription m) = subscriptionName m
+nameOf (Fetch m) = fetchName m
+nameOf (Announce m) = nowhere
+nameOf (Session m) = nowhere
+
+-- and its bytes: none where it does not stand within s
+unfoldable pub namedIn : List ℕ → Message → List ℕ
+namedIn s m =
+    pick (both (leb (nameOf m .start) (nameOf m .end)) (leb (nameOf m .end) (length s))) (part s (nameOf m)) []
