@@ -8,12 +8,16 @@ use lib.ListN.{length, take}
 use Rattle.integer.specs.Answer.{whole as answered, refused}
 use Rattle.field.specs.Outcome.{whole}
 use Rattle.field.specs.Entries.{numberAt}
-use Rattle.field.specs.Value.{mean}
+use Rattle.field.specs.Value.{part, mean}
 use Rattle.layout.specs.Permitted.{permitted}
 use Rattle.layout.specs.Inside.{Inside}
 use Rattle.layout.specs.Typed.{Typed}
-use Rattle.message.specs.Types.{known, layoutOf}
+use Rattle.message.specs.Types.{known, layoutOf, saidOf}
 use Rattle.message.specs.Reading.{readOf}
+use Rattle.message.specs.Names.{nameOf, namedIn}
+use Rattle.message.specs.declared.Message.{Message}
+use Rattle.message.proofs.Naming as naming
+use Rattle.message.proofs.Front.{WholeAt}
 use Rattle.message.proofs.Front as front
 use Rattle.message.proofs.Stable as stable
 use Rattle.message.proofs.Numbers as refusals
@@ -42,7 +46,11 @@ module _ (s : List ℕ) where
   decided = enough.decided s
 
   module _ {t : Typed} {used : ℕ} where
-    -- 3. A whole message is of a known type,
+    -- 3. A whole message is its Type, its Length, and a body of so many bytes, which its fields fill; those are the bytes used.
+    pub framed : readOf s ≡ answered t used → WholeAt s t used
+    framed = front.parts s
+
+    -- It is of a known type,
     pub is-known : readOf s ≡ answered t used → known (t .type) ≡ true
     is-known h = front.parts s h .head .is-known
 
@@ -57,3 +65,7 @@ module _ (s : List ℕ) where
     -- every part that was found lies within them, behind Type and Length.
     pub inside : {next size at : ℕ} → numberAt s 0 ≡ whole (t .type) next → numberAt s next ≡ whole size at → readOf s ≡ answered t used → Inside at used (t .pieces)
     inside e f h = fields.inside s e f (front.parts s h)
+
+  -- 5. The name that is handed back of a message that was read is that part of the bytes.
+  pub named : (m : Message) {used : ℕ} → readOf s ≡ answered (saidOf m) used → namedIn s m ≡ part s (nameOf m)
+  named m = naming.name-is s m
