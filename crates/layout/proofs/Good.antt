@@ -46,7 +46,7 @@ good-item Versions most s at {e} h =
     rw (le-leb (e .number) greatest (f .small), length-part s (e .bytes) (omega arith)) (eq-eqb (size (e .bytes)) 0 (version-plain most s at h))
 
 -- and so do all entries of a run
-good-items : (sized : Bool) (kind : Kind) (count held : ℕ) (s : List ℕ) (at : ℕ) {holds end : ℕ} → entriesAt sized kind count held s at ≡ whole holds end → goodItems kind (itemsOf kind count s at) ≡ true
+pub good-items : (sized : Bool) (kind : Kind) (count held : ℕ) (s : List ℕ) (at : ℕ) {holds end : ℕ} → entriesAt sized kind count held s at ≡ whole holds end → goodItems kind (itemsOf kind count s at) ≡ true
 unfolding entriesAt itemsOf goodItems
 good-items sized kind zero held s at h = refl
 good-items sized kind (suc count) held s at h =

@@ -9,3 +9,4 @@ pub mod Theorems
 pub mod Steps
 pub mod Family
 pub mod Parts
+pub mod Said

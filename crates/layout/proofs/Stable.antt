@@ -35,7 +35,7 @@ pub cut-before : (l : Layout) (s t : List ℕ) (at : ℕ) → scan l (s ++ t) at
 cut-before l s t at = was-cut (stays l s t at)
 
 -- What was read whole stays by value too: its byte fields have the same bytes.
-values-stay : {s : List ℕ} (t : List ℕ) {l : Layout} {at : ℕ} {ps : List Piece} {end : ℕ} → Scanned s l at ps end → map (mean (s ++ t)) ps ≡ map (mean s) ps
+pub values-stay : {s : List ℕ} (t : List ℕ) {l : Layout} {at : ℕ} {ps : List Piece} {end : ℕ} → Scanned s l at ps end → map (mean (s ++ t)) ps ≡ map (mean s) ps
 values-stay t at-end = refl
 values-stay {s} t (one-more f r) = rw (mean-stays s t f, values-stay t r)
 values-stay t (taken r) = values-stay t r

@@ -60,6 +60,32 @@ judged-takes true true n room {m} =
 judged-takes true false n room = λ e. absurd (let z : _≡_ {A = ℕ} 0 1 = cc in omega arith)
 judged-takes false isSized n room = λ e. absurd (let z : _≡_ {A = ℕ} 0 1 = cc in omega arith)
 
+-- what is forbidden is not right
+pub judged-wrong : (isRight isSized : Bool) (n room : ℕ) → judged isRight isSized n room ≡ Forbidden → isRight ≡ false
+unfolding judged
+judged-wrong true true n room =
+    fit-cases (λ a. a ≡ Forbidden → true ≡ false) n room (λ h e. cc) (λ h e. cc)
+judged-wrong true false n room = λ e. cc
+judged-wrong false isSized n room = λ e. refl
+
+-- what is over a size is right, and not sized
+pub judged-great : (isRight isSized : Bool) (n room : ℕ) → judged isRight isSized n room ≡ Oversize → (isRight ≡ true) × (isSized ≡ false)
+unfolding judged
+judged-great true true n room =
+    fit-cases (λ a. a ≡ Oversize → (true ≡ true) × (true ≡ false)) n room (λ h e. (refl, cc)) (λ h e. (refl, cc))
+judged-great true false n room = λ e. (refl, refl)
+judged-great false isSized n room = λ e. (cc, cc)
+
+-- what is too long is right and sized, and is longer than the room
+pub judged-long : (isRight isSized : Bool) (n room : ℕ) → judged isRight isSized n room ≡ TooLong → ((isRight ≡ true) × (isSized ≡ true)) × (room < n)
+unfolding judged
+judged-long true true n room =
+    fit-cases (λ a. a ≡ TooLong → ((true ≡ true) × (true ≡ true)) × (room < n)) n room
+    (λ h e. absurd (let z : _≡_ {A = ℕ} 0 1 = cc in omega arith))
+    (λ h e. ((refl, refl), h))
+judged-long true false n room = λ e. absurd (let z : _≡_ {A = ℕ} 0 1 = cc in omega arith)
+judged-long false isSized n room = λ e. absurd (let z : _≡_ {A = ℕ} 0 1 = cc in omega arith)
+
 -- ---- TWO JUDGEMENTS JOINED are the judgement of both together
 
 -- two sizes

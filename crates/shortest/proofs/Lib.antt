@@ -8,6 +8,14 @@ pub mod Items
 pub mod Runs
 pub mod Lists
 pub mod Going
+pub mod Entering
 pub mod Pieces
-pub mod Writer
+pub mod Single
+pub mod Rows
+pub mod SoFar
+pub mod Filling
+pub mod Written
 pub mod Once
+pub mod Good
+pub mod Again
+pub mod Longer

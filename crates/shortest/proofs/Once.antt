@@ -1,12 +1,17 @@
--- One possible answer: 01's number and values of a judgement lose nothing. Assumes nothing.
+-- One possible answer: 01's number and values, of a judgement and of what a writer answers, lose nothing. Assumes nothing.
 use Prim.Native.Nat.{ℕ}
 use mathlib.Core.Path.{_≡_, refl, sym, ap, _∙_}
 use borrow.Author.Tests.{ne-eqb}
 use lib.Dec.{eqb}
 use Rattle.integer.specs.Answer.{pick, Answer, whole, refused, Nothing}
 use Rattle.shortest.specs.Putting.{saying}
+use Rattle.shortest.specs.Writing.{answering}
 use Rattle.shortest.specs.declared.Measured.{Measured}
 use Rattle.shortest.specs.declared.Measured.the-variants.{Takes, TooLong, Oversize, Forbidden}
+use Rattle.shortest.specs.declared.Writing.{Writing}
+use Rattle.shortest.specs.declared.Writing.the-variants.{Done, Forbidden as Barred, Oversize as Great, TooLong as Long, TooShort}
+
+-- ---- a judgement
 
 -- the judgement that was said
 heard : Answer Nothing → Measured
@@ -25,3 +30,23 @@ module _ (long : ℕ) (not-five : long ≡ 5 → ⊥) (not-six : long ≡ 6 → 
   -- so two judgements that say the same are the same
   pub saying-once : (a b : Measured) → saying long a ≡ saying long b → a ≡ b
   saying-once a b e = sym (heard-saying a) ∙ ap heard e ∙ heard-saying b
+
+-- ---- what a writer answers
+
+-- the answer that was heard
+answered : Answer Nothing → Writing
+answered (whole nothing used) = Done used
+answered (refused n) = pick (eqb n 5) Barred (pick (eqb n 6) Great (pick (eqb n 3) Long TooShort))
+
+-- is the one that was given
+answered-answering : (a : Writing) → answered (answering a) ≡ a
+unfolding answered
+answered-answering (Done n) = refl
+answered-answering Barred = refl
+answered-answering Great = refl
+answered-answering Long = refl
+answered-answering TooShort = refl
+
+-- so two answers with the same number and values are the same
+pub answering-once : (a b : Writing) → answering a ≡ answering b → a ≡ b
+answering-once a b e = sym (answered-answering a) ∙ ap answered e ∙ answered-answering b

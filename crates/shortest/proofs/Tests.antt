@@ -24,3 +24,8 @@ both-true false = refl
 pub both-false : (a : Bool) → both a false ≡ false
 both-false true = refl
 both-false false = refl
+
+-- three tests, by two and one or by one and two
+pub both-joined : (a b d : Bool) → both (both a b) d ≡ both a (both b d)
+both-joined true b d = refl
+both-joined false b d = refl

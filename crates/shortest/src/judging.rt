@@ -24,7 +24,7 @@ fn add(a: usize, b: usize, room: usize) -> Measured
 }
 
 // Two judgements as one.
-fn join(a: Measured, b: Measured, room: usize) -> Measured
+pub fn join(a: Measured, b: Measured, room: usize) -> Measured
     ensures { λ r. ⌜ r ≡ joined a b room ⌝ }
 {
     match a {

@@ -1,9 +1,23 @@
 // The shortest form of a field: judged and measured before a byte is written, then put at the front of what is lent.
 mod judging;
+mod places;
 mod putting;
+mod writer;
 
+use field::Piece;
 pub use judging::measure;
+pub use places::of1;
+pub use places::of2;
+pub use places::of3;
+pub use places::of4;
+pub use places::of5;
+pub use places::of6;
+pub use places::of7;
+pub use places::of9;
+pub use places::of10;
 pub use putting::put;
+pub use writer::write;
+pub use writer::write_framed;
 
 // How a field, or several, is judged against the bytes it may take: it takes so many; or more than it may; or it is over a
 // size; or it holds what can't be written.
@@ -12,4 +26,26 @@ pub enum Measured {
     TooLong,
     Oversize,
     Forbidden,
+}
+
+// A place for one field. (An array of structs can be held in a struct, and one of enums can not.)
+pub struct Slot {
+    pub piece: Piece,
+}
+
+// The fields of a message or a header, in their order, and the number of its type. At most ten are used.
+pub struct Fields {
+    pub at: [Slot; 10],
+    pub used: usize,
+    pub kind: u64,
+}
+
+// How many bytes were written; or that something can't be written, is over a size, makes a body too long, or finds the output
+// too short.
+pub enum Writing {
+    Done(usize),
+    Forbidden,
+    Oversize,
+    TooLong,
+    TooShort,
 }

@@ -18,7 +18,7 @@ use field::Piece;
 use field::Span;
 
 // An integer.
-fn put_number(out: &mut [u8], n: u64) -> usize
+pub fn put_number(out: &mut [u8], n: u64) -> usize
     requires { ⌜ (n ≤ greatest) × (length (encOf n) ≤ length (now out)) ⌝ }
     ensures { λ r. ⌜ Put (encOf n) (now (out .entry)) r (now (out .exit)) ⌝ }
 {

@@ -3,19 +3,20 @@
 use native.Mathlib.Omega.{arith}
 use borrow.Author.Needs.{needs}
 use Rattle.field.specs.Value.{itemsOf, encItems}
-use Rattle.shortest.proofs.Going.{Going, going-start, going-length, going-within, going-end, going-found, going-asks, going-sum, going-next}
+use Rattle.shortest.proofs.Going.{going-length, going-within}
+use Rattle.shortest.proofs.Entering.{Entering, entering-start, entering-end, entry-found, entry-asks, entry-sum, entry-next}
 use Rattle.shortest.proofs.putting.put_entries.Statement.{statement}
 use Rattle.shortest.proofs.putting.put_entries.Tie as tie
 
 abbrev Inv-loop : tie.InvT-loop
 Inv-loop out₀ bytes kind at₀ here₀ left₀ out at here left =
-    Going kind bytes (encItems kind (itemsOf kind left₀ bytes here₀)) out₀ out at here left
+    Entering kind bytes (encItems kind (itemsOf kind left₀ bytes here₀)) out₀ out at here left
 
 abbrev μ-loop : tie.MeasureT-loop
 μ-loop out₀ bytes kind at₀ here₀ left₀ out at here left = left
 
 loop-holds : tie.Need-loop-holds Inv-loop μ-loop
-loop-holds c = going-start _ _ _ _ (c .before .before .pre .0)
+loop-holds c = entering-start _ _ _ _ (c .before .before .pre .0)
 
 asks : tie.Need-entry-at-requires Inv-loop μ-loop
 asks c κs = search needs
@@ -27,18 +28,18 @@ other : tie.Need-enum-told Inv-loop μ-loop
 other c = search needs
 
 same-length : tie.Need-same-length Inv-loop μ-loop
-same-length c = going-length (c .before .before .before .before .loop .inv) (c .before .before .before .before .before .before .before .pre .1)
+same-length c = going-length (c .before .before .before .before .loop .inv .going) (c .before .before .before .before .before .before .before .pre .1)
 
 returns : tie.Need-returns Inv-loop μ-loop
 returns c =
     let a = c .before .before in
-    absurd (going-found (a .before .before .loop .inv) (a .before .before .before .before .before .pre .1) (a .before .loop-test .taken) (a .entry-at .ensures) (c .enum-told .given .1))
+    absurd (entry-found (a .before .before .loop .inv) (a .before .before .before .before .before .pre .1) (a .before .loop-test .taken) (a .entry-at .ensures) (c .enum-told .given .1))
 
 sub-put-entry : tie.Need-sub-put-entry Inv-loop μ-loop
-sub-put-entry c = going-within (c .before .before .before .before .before .loop .inv) (c .before .before .before .before .before .before .before .before .pre .1)
+sub-put-entry c = going-within (c .before .before .before .before .before .loop .inv .going) (c .before .before .before .before .before .before .before .before .pre .1)
 
 part-put-entry-start : tie.Need-part-put-entry-start Inv-loop μ-loop
-part-put-entry-start c = going-within (c .before .before .before .before .before .loop .inv) (c .before .before .before .before .before .before .before .before .pre .1)
+part-put-entry-start c = going-within (c .before .before .before .before .before .loop .inv .going) (c .before .before .before .before .before .before .before .before .pre .1)
 
 part-put-entry-end : tie.Need-part-put-entry-end Inv-loop μ-loop
 part-put-entry-end c = search needs
@@ -46,12 +47,12 @@ part-put-entry-end c = search needs
 asks-2 : tie.Need-put-entry-requires Inv-loop μ-loop
 asks-2 c κs =
     let a = c .before .before .before .before in
-    going-asks (a .before .before .loop .inv) (a .before .before .before .before .before .pre .1) (a .before .loop-test .taken) (a .entry-at .ensures) (c .before .before .e .given .1)
+    entry-asks (a .before .before .loop .inv) (a .before .before .before .before .before .pre .1) (a .before .loop-test .taken) (a .entry-at .ensures) (c .before .before .e .given .1)
 
 add-at : tie.Need-add-at Inv-loop μ-loop
 add-at c =
     let a = c .before .before .before .before .before .before .before .before in
-    omega (arith, going-sum (a .before .before .loop .inv) (a .before .before .before .before .before .pre .1) (a .before .loop-test .taken) (a .entry-at .ensures) (c .before .before .before .before .before .before .e .given .1) (c .before .before .before .put-entry .ensures))
+    omega (arith, entry-sum (a .before .before .loop .inv) (a .before .before .before .before .before .pre .1) (a .before .loop-test .taken) (a .entry-at .ensures) (c .before .before .before .before .before .before .e .given .1) (c .before .before .before .put-entry .ensures))
 
 sub-left : tie.Need-sub-left Inv-loop μ-loop
 sub-left c = search needs
@@ -62,13 +63,13 @@ loop-less c = search needs
 loop-again : tie.Need-loop-again Inv-loop μ-loop
 loop-again c =
     let a = c .before .before .before .before .before .before .before .before in
-    going-next (a .before .before .loop .inv) (a .before .before .before .before .before .pre .1) (a .before .loop-test .taken) (a .entry-at .ensures) (c .before .before .before .before .before .before .e .given .1) (c .before .before .before .put-entry .ensures)
+    entry-next (a .before .before .loop .inv) (a .before .before .before .before .before .pre .1) (a .before .loop-test .taken) (a .entry-at .ensures) (c .before .before .before .before .before .before .e .given .1) (c .before .before .before .put-entry .ensures)
 
 same-length-2 : tie.Need-same-length-2 Inv-loop μ-loop
-same-length-2 c = going-length (c .before .loop .inv) (c .before .before .before .before .pre .1)
+same-length-2 c = going-length (c .before .loop .inv .going) (c .before .before .before .before .pre .1)
 
 returns-2 : tie.Need-returns-2 Inv-loop μ-loop
-returns-2 c = going-end (c .before .loop .inv) (c .before .before .before .before .pre .1) (c .loop-test .left)
+returns-2 c = entering-end (c .before .loop .inv) (c .before .before .before .before .pre .1) (c .loop-test .left)
 
 pub put-entries-spec : {M : Type 1} → statement M
 put-entries-spec =

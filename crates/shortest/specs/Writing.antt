@@ -1,0 +1,88 @@
+-- What writing a message or a header does: "The writer checks 5, 6, 3, 7 in that order", each over all of it.
+use Prim.Native.Nat.{ℕ}
+use mathlib.Core.List.{List, [], _∷_, _++_, map}
+use mathlib.Core.Bool.{Bool, true}
+use lib.ListN.{length, take}
+use lib.Dec.{leb, ltb}
+use Rattle.integer.specs.Answer.{pick, Answer, refused, Nothing, wrote, Written}
+use Rattle.integer.specs.Integer.{encOf, greatest, over}
+use Rattle.field.specs.Outcome.{both}
+use Rattle.field.specs.Value.{mean, encode}
+use Rattle.field.specs.declared.Piece.{Piece}
+use Rattle.layout.specs.Typed.{Typed}
+use Rattle.shortest.specs.Judging.{right, sized, judged}
+use Rattle.shortest.specs.declared.Measured.{Measured}
+use Rattle.shortest.specs.declared.Slot.{Slot}
+use Rattle.shortest.specs.declared.Fields.{Fields}
+use Rattle.shortest.specs.declared.Writing.{Writing}
+use Rattle.shortest.specs.declared.Writing.the-variants.{Done, Forbidden, Oversize, TooLong, TooShort}
+
+-- ---- fields in their places
+
+abbrev pub slot : Slot → Piece
+slot s = s .piece
+
+unfoldable pub fieldsOf : Fields → List Piece
+fieldsOf f = map slot (take (f .used) (f .at))
+
+-- with the number of their type
+abbrev pub typedOf : Fields → Typed
+typedOf f = record { type = f .kind; pieces = fieldsOf f }
+
+unfoldable pub tenOf : ℕ → ℕ
+tenOf n = pick (ltb n 10) n 10
+
+-- ---- each check over all of them
+
+unfoldable pub rightAll : List ℕ → List Piece → Bool
+rightAll s [] = true
+rightAll s (p ∷ ps) = both (right s p) (rightAll s ps)
+
+unfoldable pub sizedAll : List ℕ → List Piece → Bool
+sizedAll s [] = true
+sizedAll s (p ∷ ps) = both (sized s p) (sizedAll s ps)
+
+-- their shortest form
+unfoldable pub encodeAll : List ℕ → List Piece → List ℕ
+encodeAll s ps = encode (map (mean s) ps)
+
+unfoldable pub measureAll : List ℕ → List Piece → ℕ → Measured
+measureAll s ps room = judged (rightAll s ps) (sizedAll s ps) (length (encodeAll s ps)) room
+
+-- ---- the writer
+
+-- bytes that were judged, put into a buffer: 5, 6, 3, 7 in this order; every byte after them stays, and a refusal changes none
+unfoldable pub writtenOf : Bool → Bool → Bool → List ℕ → List ℕ → Written
+writtenOf isRight isSized isShort bytes before =
+    pick isRight
+    (pick isSized
+    (pick isShort
+    (pick (leb (length bytes) (length before))
+    (record { says = wrote (length bytes); holds = over bytes before })
+    (record { says = refused 7; holds = before }))
+    (record { says = refused 3; holds = before }))
+    (record { says = refused 6; holds = before }))
+    (record { says = refused 5; holds = before })
+
+-- Type, Length, body
+unfoldable pub frame : ℕ → List ℕ → List ℕ
+frame kind body = encOf kind ++ (encOf (length body) ++ body)
+
+-- A HEADER: its type and its fields
+unfoldable pub plainOf : List ℕ → ℕ → List Piece → List ℕ → Written
+plainOf s kind ps before =
+    writtenOf (both (leb kind greatest) (rightAll s ps)) (sizedAll s ps) true (encOf kind ++ encodeAll s ps) before
+
+-- A MESSAGE, whose body may take so many bytes
+unfoldable pub framedOf : ℕ → List ℕ → ℕ → List Piece → List ℕ → Written
+framedOf longest s kind ps before =
+    let body = encodeAll s ps in
+    writtenOf (both (leb kind greatest) (rightAll s ps)) (sizedAll s ps) (leb (length body) longest) (frame kind body) before
+
+-- 01's number and values of what is answered
+abbrev pub answering : Writing → Answer Nothing
+answering (Done n) = wrote n
+answering Forbidden = refused 5
+answering Oversize = refused 6
+answering TooLong = refused 3
+answering TooShort = refused 7

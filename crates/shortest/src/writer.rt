@@ -1,0 +1,110 @@
+// All fields of a message or a header, one behind the other. Each check is made over all of them before the next, and only then
+// is a byte written.
+ghost use mathlib.Core.Path.{_≡_};
+ghost use mathlib.Core.Bool.{true};
+ghost use Prim.Native.Nat.{_≤_};
+ghost use lib.ListN.{length};
+ghost use Rattle.integer.specs.Answer.{Leaves};
+ghost use Rattle.shortest.specs.Putting.{Put};
+ghost use Rattle.shortest.specs.Writing.{tenOf, fieldsOf, rightAll, encodeAll, measureAll, plainOf, framedOf, answering};
+use crate::Fields;
+use crate::Measured;
+use crate::Writing;
+use crate::judging::join;
+use crate::judging::measure;
+use crate::putting::put_number;
+use crate::putting::put_piece;
+
+// How many fields there are: no more than there are places.
+fn ten(used: usize) -> usize
+    ensures { λ r. ⌜ r ≡ tenOf used ⌝ }
+{
+    if used < 10 { used } else { 10 }
+}
+
+// How many bytes all fields take, which may be room at most.
+fn measure_all(bytes: &[u8], f: Fields, room: usize) -> Measured
+    ensures { λ r. ⌜ r ≡ measureAll (now (bytes .entry)) (fieldsOf f) room ⌝ }
+{
+    let n = ten(f.used);
+    let mut found = Measured::Takes(0);
+    let mut i: usize = 0;
+    while i < n {
+        let slot = f.at[i];
+        let p = slot.piece;
+        found = join(found, measure(bytes, p, room), room);
+        i += 1;
+    }
+    found
+}
+
+// Each field into what is left of the output.
+fn put_all(out: &mut [u8], bytes: &[u8], f: Fields) -> usize
+    requires { ⌜ rightAll (now bytes) (fieldsOf f) ≡ true ⌝ }
+    requires { ⌜ length (encodeAll (now bytes) (fieldsOf f)) ≤ length (now out) ⌝ }
+    ensures { λ r. ⌜ Put (encodeAll (now (bytes .entry)) (fieldsOf f)) (now (out .entry)) r (now (out .exit)) ⌝ }
+{
+    let n = ten(f.used);
+    let mut at: usize = 0;
+    let mut i: usize = 0;
+    while i < n {
+        let slot = f.at[i];
+        let p = slot.piece;
+        let k = put_piece(&mut out[at..], bytes, p);
+        at = at + k;
+        i += 1;
+    }
+    at
+}
+
+// A header: its type and its fields. 5, then 6, then 7; a refusal writes nothing.
+pub fn write(out: &mut [u8], bytes: &[u8], f: Fields) -> Writing
+    ensures { λ r. ⌜ Leaves (plainOf (now (bytes .entry)) (f .kind) (fieldsOf f) (now (out .entry))) (answering r) (now (out .exit)) ⌝ }
+{
+    let kind = f.kind;
+    if kind > integer::GREATEST {
+        return Writing::Forbidden;
+    }
+    let room = out.len();
+    match measure_all(bytes, f, room) {
+        Measured::Forbidden => Writing::Forbidden,
+        Measured::Oversize => Writing::Oversize,
+        Measured::TooLong => Writing::TooShort,
+        Measured::Takes(n) => {
+            if integer::size(kind) > room - n {
+                return Writing::TooShort;
+            }
+            let a = put_number(out, kind);
+            let b = put_all(&mut out[a..], bytes, f);
+            Writing::Done(a + b)
+        }
+    }
+}
+
+// A message: its type, the length of its body, and the body, which may take longest bytes. 5, 6, 3 and 7 in this order; a
+// refusal writes nothing.
+pub fn write_framed(out: &mut [u8], bytes: &[u8], f: Fields, longest: u32) -> Writing
+    ensures { λ r. ⌜ Leaves (framedOf longest (now (bytes .entry)) (f .kind) (fieldsOf f) (now (out .entry))) (answering r) (now (out .exit)) ⌝ }
+{
+    let kind = f.kind;
+    if kind > integer::GREATEST {
+        return Writing::Forbidden;
+    }
+    match measure_all(bytes, f, longest as usize) {
+        Measured::Forbidden => Writing::Forbidden,
+        Measured::Oversize => Writing::Oversize,
+        Measured::TooLong => Writing::TooLong,
+        Measured::Takes(n) => {
+            let head = integer::size(kind) + integer::size(n as u64);
+            if out.len() < head + n {
+                return Writing::TooShort;
+            }
+            // The part behind Type and Length is lent to the body.
+            let a = put_number(out, kind);
+            let b = put_number(&mut out[a..], n as u64);
+            let at = a + b;
+            let c = put_all(&mut out[at..], bytes, f);
+            Writing::Done(at + c)
+        }
+    }
+}
