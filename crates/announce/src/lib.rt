@@ -1,10 +1,12 @@
 // The messages of namespaces: ANNOUNCE and SUBSCRIBE_ANNOUNCES, and the answers to them.
 mod reader;
+mod writer;
 
 use field::Entries;
 use field::Failure;
 use field::Fault;
 pub use reader::read;
+pub use writer::fields;
 
 // A namespace, or a prefix of one, and parameters.
 pub struct Announce {

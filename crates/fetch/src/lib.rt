@@ -2,6 +2,7 @@
 mod name;
 mod reader;
 mod rules;
+mod writer;
 
 use field::Entries;
 use field::Failure;
@@ -12,6 +13,8 @@ pub use name::name_of;
 pub use reader::read;
 pub use rules::is_status;
 pub use rules::may_hold;
+pub use writer::fields;
+pub use writer::is_allowed;
 
 // Objects of a track, from one place to another.
 pub struct Standalone {

@@ -1,10 +1,12 @@
 // The messages that begin and end a session: CLIENT_SETUP, SERVER_SETUP and GOAWAY.
 mod reader;
+mod writer;
 
 use field::Entries;
 use field::Fault;
 use field::Span;
 pub use reader::read;
+pub use writer::fields;
 
 pub struct ClientSetup {
     pub versions: Entries,

@@ -2,6 +2,7 @@
 mod name;
 mod reader;
 mod rules;
+mod writer;
 
 use field::Entries;
 use field::Failure;
@@ -12,6 +13,8 @@ use field::Track;
 pub use name::name_of;
 pub use reader::read;
 pub use rules::ends_after;
+pub use writer::fields;
+pub use writer::is_allowed;
 
 // Which objects are asked for: from the latest on; from a place on; from a place to the end of a group.
 pub enum Filter {

@@ -1,0 +1,135 @@
+// A message as its fields, in the order of its layout; and whether its values are permitted.
+ghost use mathlib.Core.Path.{_≡_};
+ghost use Rattle.shortest.specs.Writing.{typedOf};
+ghost use Rattle.fetch.specs.Told.{joiningType, fetchPieces, saidOf};
+ghost use Rattle.fetch.specs.Allowed.{allowedOf};
+use crate::Fetch;
+use crate::FetchMessage;
+use crate::Range;
+use crate::rules::is_status;
+use crate::rules::may_hold;
+use field::Kind;
+use field::Piece;
+use shortest::Fields;
+
+pub fn fields(m: FetchMessage) -> Fields
+    ensures { λ r. ⌜ typedOf r ≡ saidOf m ⌝ }
+{
+    match m {
+        FetchMessage::Fetch(x) => fetch_fields(x),
+        FetchMessage::FetchOk(x) => {
+            let largest = x.largest;
+            let parameters = x.parameters;
+            shortest::of6(
+                0x18,
+                Piece::Number(x.id),
+                Piece::Byte(x.order),
+                Piece::Byte(x.end_of_track),
+                Piece::Number(largest.group),
+                Piece::Number(largest.object),
+                Piece::List(Kind::Parameters, parameters),
+            )
+        }
+        FetchMessage::FetchError(x) => {
+            let failure = x.failure;
+            let reason = failure.reason;
+            shortest::of3(
+                0x19,
+                Piece::Number(x.id),
+                Piece::Number(failure.code),
+                Piece::Bytes(reason),
+            )
+        }
+        FetchMessage::FetchCancel(id) => shortest::of1(0x17, Piece::Number(id)),
+        FetchMessage::TrackStatusRequest(t) => shortest::of1(0xD, Piece::Track(t)),
+        FetchMessage::TrackStatus(x) => {
+            let track = x.track;
+            let largest = x.largest;
+            shortest::of4(
+                0xE,
+                Piece::Track(track),
+                Piece::Number(x.status),
+                Piece::Number(largest.group),
+                Piece::Number(largest.object),
+            )
+        }
+    }
+}
+
+fn fetch_fields(x: Fetch) -> Fields
+    ensures { λ r. ⌜ typedOf r ≡ record { type = 0x16; pieces = fetchPieces x } ⌝ }
+{
+    let id = Piece::Number(x.id);
+    let priority = Piece::Byte(x.priority);
+    let order = Piece::Byte(x.order);
+    let parameters = x.parameters;
+    let last = Piece::List(Kind::Parameters, parameters);
+    let range = x.range;
+    match range {
+        Range::Standalone(r) => {
+            let track = r.track;
+            let start = r.start;
+            let end = r.end;
+            shortest::of10(
+                0x16,
+                id,
+                priority,
+                order,
+                Piece::Number(1),
+                Piece::Track(track),
+                Piece::Number(start.group),
+                Piece::Number(start.object),
+                Piece::Number(end.group),
+                Piece::Number(end.object),
+                last,
+            )
+        }
+        Range::Joining(j) => {
+            let kind = joining_type(j.absolute);
+            shortest::of7(
+                0x16,
+                id,
+                priority,
+                order,
+                Piece::Number(kind),
+                Piece::Number(j.id),
+                Piece::Number(j.start),
+                last,
+            )
+        }
+    }
+}
+
+// The fetch type of a joining fetch.
+fn joining_type(absolute: bool) -> u64
+    ensures { λ r. ⌜ r ≡ joiningType absolute ⌝ }
+{
+    if absolute {
+        return 3;
+    }
+    2
+}
+
+// Whether a message holds no forbidden value.
+pub fn is_allowed(m: FetchMessage) -> bool
+    ensures { λ r. ⌜ r ≡ allowedOf m ⌝ }
+{
+    match m {
+        FetchMessage::Fetch(x) => field::is_askable(x.order),
+        FetchMessage::FetchOk(x) => field::is_givable(x.order),
+        FetchMessage::FetchError(_) => true,
+        FetchMessage::FetchCancel(_) => true,
+        FetchMessage::TrackStatusRequest(_) => true,
+        FetchMessage::TrackStatus(x) => {
+            let status = x.status;
+            let largest = x.largest;
+            if !is_status(status) {
+                return false;
+            }
+            if !may_hold(status, largest.group) {
+                return false;
+            }
+            may_hold(status, largest.object)
+        }
+    }
+}

@@ -1,0 +1,33 @@
+// A message as its fields, in the order of its layout.
+ghost use mathlib.Core.Path.{_≡_};
+ghost use Rattle.shortest.specs.Writing.{typedOf};
+ghost use Rattle.session.specs.Told.{saidOf};
+use crate::SessionMessage;
+use field::Kind;
+use field::Piece;
+use shortest::Fields;
+
+pub fn fields(m: SessionMessage) -> Fields
+    ensures { λ r. ⌜ typedOf r ≡ saidOf m ⌝ }
+{
+    match m {
+        SessionMessage::ClientSetup(x) => {
+            let versions = x.versions;
+            let parameters = x.parameters;
+            shortest::of2(
+                0x40,
+                Piece::List(Kind::Versions, versions),
+                Piece::List(Kind::Parameters, parameters),
+            )
+        }
+        SessionMessage::ServerSetup(x) => {
+            let parameters = x.parameters;
+            shortest::of2(
+                0x41,
+                Piece::Number(x.version),
+                Piece::List(Kind::Parameters, parameters),
+            )
+        }
+        SessionMessage::GoAway(uri) => shortest::of1(0x10, Piece::Bytes(uri)),
+    }
+}

@@ -1,0 +1,147 @@
+// A message as its fields, in the order of its layout; and whether its values are permitted.
+ghost use mathlib.Core.Path.{_≡_};
+ghost use Rattle.shortest.specs.Writing.{typedOf};
+ghost use Rattle.subscription.specs.Told.{subscribePieces, okPieces, updatePieces, saidOf};
+ghost use Rattle.subscription.specs.Allowed.{allowedFilter, allowedOf};
+use crate::Content;
+use crate::Filter;
+use crate::Subscribe;
+use crate::SubscribeOk;
+use crate::SubscribeUpdate;
+use crate::SubscriptionMessage;
+use crate::rules::ends_after;
+use field::Kind;
+use field::Piece;
+use shortest::Fields;
+
+pub fn fields(m: SubscriptionMessage) -> Fields
+    ensures { λ r. ⌜ typedOf r ≡ saidOf m ⌝ }
+{
+    match m {
+        SubscriptionMessage::SubscribeUpdate(x) => update_fields(x),
+        SubscriptionMessage::Subscribe(x) => subscribe_fields(x),
+        SubscriptionMessage::SubscribeOk(x) => ok_fields(x),
+        SubscriptionMessage::SubscribeError(x) => {
+            let failure = x.failure;
+            let reason = failure.reason;
+            shortest::of4(
+                0x5,
+                Piece::Number(x.id),
+                Piece::Number(failure.code),
+                Piece::Bytes(reason),
+                Piece::Number(x.alias),
+            )
+        }
+        SubscriptionMessage::Unsubscribe(id) => shortest::of1(0xA, Piece::Number(id)),
+        SubscriptionMessage::SubscribeDone(x) => {
+            let reason = x.reason;
+            shortest::of4(
+                0xB,
+                Piece::Number(x.id),
+                Piece::Number(x.status),
+                Piece::Number(x.streams),
+                Piece::Bytes(reason),
+            )
+        }
+        SubscriptionMessage::MaxSubscribeId(id) => shortest::of1(0x15, Piece::Number(id)),
+        SubscriptionMessage::SubscribesBlocked(id) => shortest::of1(0x1A, Piece::Number(id)),
+    }
+}
+
+fn update_fields(x: SubscribeUpdate) -> Fields
+    ensures { λ r. ⌜ typedOf r ≡ record { type = 0x2; pieces = updatePieces x } ⌝ }
+{
+    let start = x.start;
+    let parameters = x.parameters;
+    shortest::of6(
+        0x2,
+        Piece::Number(x.id),
+        Piece::Number(start.group),
+        Piece::Number(start.object),
+        Piece::Number(x.end_group),
+        Piece::Byte(x.priority),
+        Piece::List(Kind::Parameters, parameters),
+    )
+}
+
+// The five fields before the filter are the same for each filter.
+fn subscribe_fields(x: Subscribe) -> Fields
+    ensures { λ r. ⌜ typedOf r ≡ record { type = 0x3; pieces = subscribePieces x } ⌝ }
+{
+    let track = x.track;
+    let parameters = x.parameters;
+    let filter = x.filter;
+    let a = Piece::Number(x.id);
+    let b = Piece::Number(x.alias);
+    let c = Piece::Track(track);
+    let d = Piece::Byte(x.priority);
+    let e = Piece::Byte(x.order);
+    let last = Piece::List(Kind::Parameters, parameters);
+    match filter {
+        Filter::Latest => shortest::of7(0x3, a, b, c, d, e, Piece::Number(2), last),
+        Filter::From(start) => {
+            let group = Piece::Number(start.group);
+            let object = Piece::Number(start.object);
+            shortest::of9(0x3, a, b, c, d, e, Piece::Number(3), group, object, last)
+        }
+        Filter::Range(start, end_group) => {
+            let kind = Piece::Number(4);
+            let group = Piece::Number(start.group);
+            let object = Piece::Number(start.object);
+            let end = Piece::Number(end_group);
+            shortest::of10(0x3, a, b, c, d, e, kind, group, object, end, last)
+        }
+    }
+}
+
+fn ok_fields(x: SubscribeOk) -> Fields
+    ensures { λ r. ⌜ typedOf r ≡ record { type = 0x4; pieces = okPieces x } ⌝ }
+{
+    let id = Piece::Number(x.id);
+    let expires = Piece::Number(x.expires);
+    let order = Piece::Byte(x.order);
+    let parameters = x.parameters;
+    let last = Piece::List(Kind::Parameters, parameters);
+    let content = x.content;
+    match content {
+        Content::Nothing => shortest::of5(0x4, id, expires, order, Piece::Byte(0), last),
+        Content::Largest(largest) => {
+            let group = Piece::Number(largest.group);
+            let object = Piece::Number(largest.object);
+            shortest::of7(0x4, id, expires, order, Piece::Byte(1), group, object, last)
+        }
+    }
+}
+
+// Whether a message holds no forbidden value.
+pub fn is_allowed(m: SubscriptionMessage) -> bool
+    ensures { λ r. ⌜ r ≡ allowedOf m ⌝ }
+{
+    match m {
+        SubscriptionMessage::SubscribeUpdate(_) => true,
+        SubscriptionMessage::Subscribe(x) => {
+            let filter = x.filter;
+            if !field::is_askable(x.order) {
+                return false;
+            }
+            is_filter_allowed(filter)
+        }
+        SubscriptionMessage::SubscribeOk(x) => field::is_givable(x.order),
+        SubscriptionMessage::SubscribeError(_) => true,
+        SubscriptionMessage::Unsubscribe(_) => true,
+        SubscriptionMessage::SubscribeDone(_) => true,
+        SubscriptionMessage::MaxSubscribeId(_) => true,
+        SubscriptionMessage::SubscribesBlocked(_) => true,
+    }
+}
+
+// Whether a filter asks for no range that ends before it starts.
+fn is_filter_allowed(filter: Filter) -> bool
+    ensures { λ r. ⌜ r ≡ allowedFilter filter ⌝ }
+{
+    match filter {
+        Filter::Latest => true,
+        Filter::From(_) => true,
+        Filter::Range(start, end_group) => ends_after(start.group, end_group),
+    }
+}
