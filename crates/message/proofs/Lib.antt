@@ -11,3 +11,4 @@ pub mod Fields
 pub mod Theorems
 pub mod Naming
 pub mod Once
+pub mod Writes

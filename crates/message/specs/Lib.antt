@@ -1,3 +1,4 @@
 pub mod Types
 pub mod Reading
 pub mod Names
+pub mod Writing

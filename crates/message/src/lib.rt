@@ -2,6 +2,7 @@
 mod name;
 mod reader;
 mod types;
+mod writer;
 
 use announce::AnnounceKind;
 use announce::AnnounceMessage;
@@ -14,9 +15,10 @@ use session::SessionKind;
 use session::SessionMessage;
 use subscription::SubscriptionKind;
 use subscription::SubscriptionMessage;
+pub use writer::write;
 
 // The longest body that is read or written.
-pub const LONGEST: u64 = 16_383;
+pub const LONGEST: u32 = 16_383;
 
 pub enum Message {
     Subscription(SubscriptionMessage),

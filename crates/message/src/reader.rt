@@ -31,7 +31,7 @@ pub fn read(s: &[u8]) -> Reading
     let NumberRead::Whole(length, b) = field::read_number(s, a) else {
         return Reading::More;
     };
-    if length > LONGEST {
+    if length > LONGEST as u64 {
         return Reading::TooLong;
     }
     let left = s.len() - b;

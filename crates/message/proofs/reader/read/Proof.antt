@@ -11,6 +11,6 @@ read-spec =
     (λ c κs. search needs) (λ c. search needs) (λ c. search needs) (λ c. search reads-nothing)
     (λ c κs. search needs) (λ c. search needs) (λ c. search needs) (λ c. search reads-unknown)
     (λ c κs. search needs) (λ c. search needs) (λ c. search needs) (λ c. search reads-no-length)
-    (λ c. search reads-too-long)
+    (λ c. search needs) (λ c. search reads-too-long)
     (λ c. search number-ends) (λ c. search reads-short)
     (λ c. search needs) (λ c. search body-there) (λ c κs. search needs) (λ c κs. search needs) (λ c. search reads-body))

@@ -1,0 +1,30 @@
+-- What writing a control message does: "The writer checks 5, 6, 3, 7 in that order".
+use Prim.Native.Nat.{ℕ}
+use mathlib.Core.List.{List}
+use mathlib.Core.Bool.{Bool, true}
+use lib.ListN.{length}
+use lib.Dec.{leb}
+use Rattle.integer.specs.Answer.{Written}
+use Rattle.integer.specs.Integer.{greatest}
+use Rattle.field.specs.Outcome.{both}
+use Rattle.shortest.specs.Writing.{rightAll, sizedAll, encodeAll, writtenOf, frame}
+use Rattle.subscription.specs.Allowed.{allowedOf as subscriptionAllowed}
+use Rattle.fetch.specs.Allowed.{allowedOf as fetchAllowed}
+use Rattle.message.specs.Types.{saidOf}
+use Rattle.message.specs.Reading.{longest}
+use Rattle.message.specs.declared.Message.{Message}
+use Rattle.message.specs.declared.Message.the-variants.{Subscription, Fetch, Announce, Session}
+
+-- "Forbidden field values (5)": a namespace's messages, and those of a session, hold none
+unfoldable pub allowedOf : Message → Bool
+allowedOf (Subscription m) = subscriptionAllowed m
+allowedOf (Fetch m) = fetchAllowed m
+allowedOf (Announce m) = true
+allowedOf (Session m) = true
+
+-- a message over the bytes s, into a buffer
+unfoldable pub writeOf : List ℕ → Message → List ℕ → Written
+writeOf s m before =
+    let t = saidOf m in
+    let body = encodeAll s (t .pieces) in
+    writtenOf (both (allowedOf m) (both (leb (t .type) greatest) (rightAll s (t .pieces)))) (sizedAll s (t .pieces)) (leb (length body) longest) (frame (t .type) body) before

@@ -1,0 +1,44 @@
+// A message is written as its shortest form. 5, 6, 3 and 7 in this order, each over the whole message; a refusal writes nothing.
+ghost use mathlib.Core.Path.{_≡_};
+ghost use Rattle.integer.specs.Answer.{Leaves};
+ghost use Rattle.shortest.specs.Writing.{typedOf, answering};
+ghost use Rattle.message.specs.Types.{saidOf};
+ghost use Rattle.message.specs.Writing.{allowedOf, writeOf};
+use crate::LONGEST;
+use crate::Message;
+use shortest::Fields;
+use shortest::Writing;
+
+// bytes is what the parts of the message point into.
+pub fn write(out: &mut [u8], bytes: &[u8], m: Message) -> Writing
+    ensures { λ r. ⌜ Leaves (writeOf (now (bytes .entry)) m (now (out .entry))) (answering r) (now (out .exit)) ⌝ }
+{
+    if !is_allowed(m) {
+        return Writing::Forbidden;
+    }
+    shortest::write_framed(out, bytes, fields(m), LONGEST)
+}
+
+// The fields of a message.
+fn fields(m: Message) -> Fields
+    ensures { λ r. ⌜ typedOf r ≡ saidOf m ⌝ }
+{
+    match m {
+        Message::Subscription(x) => subscription::fields(x),
+        Message::Fetch(x) => fetch::fields(x),
+        Message::Announce(x) => announce::fields(x),
+        Message::Session(x) => session::fields(x),
+    }
+}
+
+// Whether a message holds no forbidden value.
+fn is_allowed(m: Message) -> bool
+    ensures { λ r. ⌜ r ≡ allowedOf m ⌝ }
+{
+    match m {
+        Message::Subscription(x) => subscription::is_allowed(x),
+        Message::Fetch(x) => fetch::is_allowed(x),
+        Message::Announce(_) => true,
+        Message::Session(_) => true,
+    }
+}
