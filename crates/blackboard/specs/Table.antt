@@ -13,7 +13,15 @@ use Rattle.layout.specs.Typed.{Typed}
 use Rattle.fetch.specs.Layouts.{fetchCancel}
 use Rattle.message.specs.Types.{known, layoutOf}
 use Rattle.message.specs.Reading.{bodyOf, readOf as messageOf}
-use Rattle.integer.specs.Integer.{wide, room, tag, sizeOf, spell, bytesOf, readOf, putOf, writeOf}
+use Rattle.message.specs.Writing.{allowedOf, writeOf as messageAs}
+use Rattle.message.specs.declared.Message.{Message}
+use Rattle.message.specs.declared.Message.the-variants.{Fetch}
+use Rattle.fetch.specs.Allowed.{allowedOf as fetchAllowed}
+use Rattle.fetch.specs.declared.FetchMessage.the-variants.{FetchCancel}
+use Rattle.shortest.specs.Judging.{right, sized}
+use Rattle.shortest.specs.Writing.{rightAll, sizedAll, encodeAll, writtenOf, frame}
+use Rattle.field.specs.Value.{mean, encField, encode}
+use Rattle.integer.specs.Integer.{wide, room, tag, sizeOf, spell, bytesOf, encOf, readOf, putOf, writeOf}
 
 -- a line: what is done, and what it comes to
 pub data Line : Type 0 where
@@ -23,6 +31,8 @@ pub data Line : Type 0 where
   writes : ℕ → List ℕ → Written → Line
   -- a control message is read from bytes
   receives : List ℕ → Answer Typed → Line
+  -- a control message whose parts point into bytes is written into a buffer, which then holds this
+  sends : List ℕ → Message → List ℕ → Written → Line
 
 pub data Result : Type 0 where
   read : Answer ℕ → Result
@@ -34,12 +44,14 @@ unfoldable pub found : Line → Result
 found (reads s r) = read (readOf s)
 found (writes n before r) = write (writeOf n before)
 found (receives s r) = receive (messageOf s)
+found (sends s m before r) = write (messageAs s m before)
 
 -- what the line says
 unfoldable pub stated : Line → Result
 stated (reads s r) = read r
 stated (writes n before r) = write r
 stated (receives s r) = receive r
+stated (sends s m before r) = write r
 
 unfoldable pub lines : List Line
 lines =
@@ -67,8 +79,9 @@ lines =
     -- P7 `17 02 05 00` and `17 00`: 4
     ∷ receives (0x17 ∷ 0x02 ∷ 0x05 ∷ 0x00 ∷ []) (refused 4)
     ∷ receives (0x17 ∷ 0x00 ∷ []) (refused 4)
-    -- P8 `17 02 40 05` reads ID 5
+    -- P8 `17 02 40 05` reads ID 5 and is written `17 01 05`; the byte after it stays
     ∷ receives (0x17 ∷ 0x02 ∷ 0x40 ∷ 0x05 ∷ []) (whole (record { type = 0x17; pieces = Number 5 ∷ [] }) 4)
+    ∷ sends (0x17 ∷ 0x02 ∷ 0x40 ∷ 0x05 ∷ []) (Fetch (FetchCancel 5)) (1 ∷ 2 ∷ 3 ∷ 4 ∷ []) (record { says = wrote 3; holds = 0x17 ∷ 0x01 ∷ 0x05 ∷ 4 ∷ [] })
     -- P9 `3F`: 2
     ∷ receives (0x3F ∷ []) (refused 2)
     -- P10 `17 7F FF`: 1; `17 80 00 40 00`: 3
@@ -77,7 +90,7 @@ lines =
     ∷ []
 
 computed : map found lines ≡ map stated lines
-unfolding found stated lines wide room tag sizeOf spell bytesOf readOf putOf writeOf numberAt fieldAt scan fetchCancel known layoutOf bodyOf messageOf
+unfolding found stated lines wide room tag sizeOf spell bytesOf readOf putOf writeOf numberAt fieldAt scan fetchCancel known layoutOf bodyOf messageOf messageAs allowedOf fetchAllowed right sized rightAll sizedAll encodeAll encode encField mean writtenOf frame encOf
 computed = refl
 
 -- two functions that map a list alike agree at each of its members
