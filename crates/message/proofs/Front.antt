@@ -94,7 +94,7 @@ pub record WholeAt (s : List ℕ) (t : Typed) (used : ℕ) : Type 0 where
   pub body : scan (layoutOf (t .type)) (take used s) at ≡ whole (t .pieces) used
 
 -- what is whole was not refused
-pub apart : {t : Typed} {used n : ℕ} → refused n ≡ answered t used → ⊥
+pub apart : {A : Type 0} {a : A} {used n : ℕ} → refused n ≡ answered a used → ⊥
 apart h = let z : _≡_ {A = ℕ} 0 1 = cc in omega arith
 
 -- what holds of a message and its end holds of those that the same answer tells

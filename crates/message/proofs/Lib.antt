@@ -12,3 +12,6 @@ pub mod Theorems
 pub mod Naming
 pub mod Once
 pub mod Writes
+pub mod Shape
+pub mod RoundTrip
+pub mod Again

@@ -1,11 +1,12 @@
--- What holds of reading a control message, for every byte string. Each theorem with its sentence, and nothing else.
+-- What holds of reading and writing a control message, for every byte string and every message. Each theorem with its sentence,
+-- and nothing else.
 -- Assumes nothing.
 use Prim.Native.Nat.{ℕ, _≤_}
 use mathlib.Core.Path.{_≡_}
 use mathlib.Core.List.{List, _++_, map}
 use mathlib.Core.Bool.{true}
 use lib.ListN.{length, take}
-use Rattle.integer.specs.Answer.{whole as answered, refused}
+use Rattle.integer.specs.Answer.{whole as answered, refused, wrote}
 use Rattle.field.specs.Outcome.{whole}
 use Rattle.field.specs.Entries.{numberAt}
 use Rattle.field.specs.Value.{part, mean}
@@ -15,6 +16,7 @@ use Rattle.layout.specs.Typed.{Typed}
 use Rattle.message.specs.Types.{known, layoutOf, saidOf}
 use Rattle.message.specs.Reading.{readOf}
 use Rattle.message.specs.Names.{nameOf, namedIn}
+use Rattle.message.specs.Writing.{writeOf}
 use Rattle.message.specs.declared.Message.{Message}
 use Rattle.message.proofs.Naming as naming
 use Rattle.message.proofs.Front.{WholeAt}
@@ -23,6 +25,8 @@ use Rattle.message.proofs.Stable as stable
 use Rattle.message.proofs.Numbers as refusals
 use Rattle.message.proofs.Enough as enough
 use Rattle.message.proofs.Fields as fields
+use Rattle.message.proofs.RoundTrip as round-trip
+use Rattle.message.proofs.Again as again
 
 module _ (s : List ℕ) where
   -- 1. Every refusal is one of 1 to 6.
@@ -69,3 +73,22 @@ module _ (s : List ℕ) where
   -- 5. The name that is handed back of a message that was read is that part of the bytes.
   pub named : (m : Message) {used : ℕ} → readOf s ≡ answered (saidOf m) used → namedIn s m ≡ part s (nameOf m)
   named m = naming.name-is s m
+
+module _ (s : List ℕ) (m : Message) (before : List ℕ) where
+  -- 6. What is written reads back as the same message, and exactly the bytes written are used.
+  pub reads-back : {n : ℕ} → writeOf s m before .says ≡ wrote n
+      → (t : Typed) × (readOf (writeOf s m before .holds) ≡ answered t n) × (t .type ≡ saidOf m .type) × (map (mean (writeOf s m before .holds)) (t .pieces) ≡ map (mean s) (saidOf m .pieces))
+  reads-back = round-trip.written-reads s m before
+
+  module _ {used : ℕ} (read : readOf s ≡ answered (saidOf m) used) where
+    -- 7. What was read is written into no more bytes than it was read from,
+    pub no-longer : {n : ℕ} → writeOf s m before .says ≡ wrote n → n ≤ used
+    no-longer = again.no-more s m before read
+
+    -- is refused for nothing but want of room,
+    pub only-room : {k : ℕ} → writeOf s m before .says ≡ refused k → k ≡ 7
+    only-room = again.only-room s m before read
+
+    -- and for want of room only where there is less than it was read from.
+    pub written-again : used ≤ length before → (n : ℕ) × (writeOf s m before .says ≡ wrote n)
+    written-again = again.written-again s m before read

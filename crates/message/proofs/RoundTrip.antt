@@ -1,0 +1,122 @@
+-- What is written reads back: as the same message, and from exactly the bytes that were written. Assumes nothing.
+use Prim.Native.Nat.{ℕ, _+_, _≤_}
+use mathlib.Core.Path.{_≡_, refl, sym, ap, _∙_}
+use mathlib.Core.Bool.{Bool, true, false}
+use mathlib.Core.List.{List, [], _++_, map, append-nil}
+use native.Mathlib.Omega.{arith}
+use lib.ListN.{length, drop, length-append}
+use lib.Seq.{take-append-seam}
+use lib.Dec.{leb}
+use borrow.Author.Tests.{leb-true}
+use Rattle.integer.specs.Answer.{Written, wrote, whole as answered}
+use Rattle.integer.specs.Integer.{greatest, encOf, over}
+use Rattle.integer.proofs.Cases.{pick-by}
+use Rattle.field.specs.Outcome.{whole}
+use Rattle.field.specs.Value.{Value, mean, encode}
+use Rattle.field.specs.declared.Piece.{Piece}
+use Rattle.field.proofs.Back.{From, from-start, front, behind, number-back}
+use Rattle.layout.specs.Layout.{scan}
+use Rattle.layout.specs.Permitted.{permitted}
+use Rattle.layout.specs.Typed.{Typed}
+use Rattle.layout.proofs.Back.{both-true, scan-back}
+use Rattle.layout.proofs.Scanned.{scanned}
+use Rattle.layout.proofs.Stable.{values-stay}
+use Rattle.shortest.specs.Writing.{rightAll, encodeAll, writtenOf, frame}
+use Rattle.shortest.proofs.Good.{all-good}
+use Rattle.message.specs.Types.{known, layoutOf, saidOf}
+use Rattle.message.specs.Reading.{longest, readOf}
+use Rattle.message.specs.Writing.{allowedOf, writeOf}
+use Rattle.message.specs.declared.Message.{Message}
+use Rattle.message.proofs.Front.{WholeAt, joined, apart}
+use Rattle.message.proofs.Shape.{known-type, shaped}
+
+-- ---- what was written
+
+-- every check holds, and the bytes stand at the front of the buffer
+record Wrote (isRight isSized isShort : Bool) (bytes before : List ℕ) (after : Written) (n : ℕ) : Type 0 where
+  is-right : isRight ≡ true
+  is-sized : isSized ≡ true
+  is-short : isShort ≡ true
+  used : n ≡ length bytes
+  holds : after .holds ≡ over bytes before
+
+-- where the writer says so
+was-written : (isRight isSized isShort : Bool) (bytes before : List ℕ) {n : ℕ} → writtenOf isRight isSized isShort bytes before .says ≡ wrote n
+    → Wrote isRight isSized isShort bytes before (writtenOf isRight isSized isShort bytes before) n
+unfolding writtenOf
+was-written true true true bytes before {n} h =
+    pick-by (λ (w : Written). w .says ≡ wrote n → Wrote true true true bytes before w n) (leb (length bytes) (length before))
+    (λ _ e. record { is-right = refl; is-sized = refl; is-short = refl; used = cc; holds = refl })
+    (λ _ e. absurd (apart e))
+    h
+was-written true true false bytes before h = absurd (apart h)
+was-written true false isShort bytes before h = absurd (apart h)
+was-written false isSized isShort bytes before h = absurd (apart h)
+
+-- ---- a frame
+
+-- values stand as a whole message of a type
+record ReadBack (s : List ℕ) (type : ℕ) (vs : List Value) (used : ℕ) : Type 0 where
+  found : List Piece
+  is-whole : WholeAt s (record { type = type; pieces = found }) used
+  means : map (mean s) found ≡ vs
+
+-- so do those that a type permits, in their shortest form behind Type and Length, whatever follows
+frame-back : (type : ℕ) (vs : List Value) (rest : List ℕ) → known type ≡ true → type ≤ greatest → length (encode vs) ≤ longest → permitted (layoutOf type) vs ≡ true
+    → ReadBack (frame type (encode vs) ++ rest) type vs (length (frame type (encode vs)))
+unfolding frame
+frame-back type vs rest k small short allowed =
+    let body = encode vs in
+    let size = length body in
+    let bytes = frame type body in
+    let s = bytes ++ rest in
+    let next = 0 + length (encOf type) in
+    let at = next + length (encOf size) in
+    let here = from-start [] bytes rest in
+    let behind-type = behind (encOf type) (encOf size ++ body) here in
+    let alone : From bytes 0 bytes [] = record { within = omega arith; here = sym (append-nil bytes) } in
+    let back = scan-back (layoutOf type) vs bytes allowed (behind (encOf size) body (behind (encOf type) (encOf size ++ body) alone)) in
+    let ends : length bytes ≡ at + size = omega (arith, length-append (encOf type) (encOf size ++ body), length-append (encOf size) body) in
+    record {
+      found = back .found;
+      is-whole = record {
+        size = size;
+        at = at;
+        head = record {
+          next = next;
+          type-at = number-back s type small (front (encOf type) (encOf size ++ body) here);
+          is-known = k;
+          length-at = number-back s size (omega arith) (front (encOf size) body behind-type);
+        };
+        short = short;
+        ends = ends;
+        present = omega (arith, length-append bytes rest);
+        body = ap (λ (x : List ℕ). scan (layoutOf type) x at) (take-append-seam bytes rest) ∙ back .reads ∙ ap (whole (back .found)) (sym ends);
+      };
+      means = values-stay rest (scanned (layoutOf type) bytes at (back .reads)) ∙ back .means;
+    }
+
+-- and what stands so in a buffer is read from it
+read-from : {s after : List ℕ} {type used n : ℕ} {vs : List Value} → after ≡ s → n ≡ used → ReadBack s type vs used
+    → (t : Typed) × (readOf after ≡ answered t n) × (t .type ≡ type) × (map (mean after) (t .pieces) ≡ vs)
+read-from {s} {type = type} e u r =
+    (record { type = type; pieces = r .found }, rw (e, u) (joined s (r .is-whole)), refl, rw e (r .means))
+
+-- ---- a message
+
+-- What is written reads back as the same message, and uses exactly the bytes written.
+pub written-reads : (s : List ℕ) (m : Message) (before : List ℕ) {n : ℕ} → writeOf s m before .says ≡ wrote n
+    → (t : Typed) × (readOf (writeOf s m before .holds) ≡ answered t n) × (t .type ≡ saidOf m .type) × (map (mean (writeOf s m before .holds)) (t .pieces) ≡ map (mean s) (saidOf m .pieces))
+unfolding writeOf encodeAll
+written-reads s m before h =
+    let type = saidOf m .type in
+    let ps = saidOf m .pieces in
+    let bytes = frame type (encodeAll s ps) in
+    let w = was-written _ _ _ bytes before h in
+    let p = both-true (allowedOf m) _ (w .is-right) in
+    let q = both-true (leb type greatest) (rightAll s ps) (p .1) in
+    let good = all-good s ps (q .1) (w .is-sized) in
+    let small = leb-true type greatest (q .0) in
+    let short = leb-true (length (encodeAll s ps)) longest (w .is-short) in
+    read-from (w .holds) (w .used)
+    (frame-back type (map (mean s) ps) (drop (length bytes) before) (known-type s m) small short (shaped s m (p .0) good))

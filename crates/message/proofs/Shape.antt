@@ -1,0 +1,192 @@
+-- A message has the shape that its layout asks for exactly where it holds no forbidden value: so where its fields are good, that
+-- is where its layout permits it. Assumes nothing.
+use Prim.Native.Nat.{ℕ}
+use mathlib.Core.Path.{_≡_, refl, sym, _∙_}
+use mathlib.Core.Bool.{Bool, true, false}
+use mathlib.Core.List.{List, [], _∷_, _++_, map}
+use lib.Dec.{eqb}
+use Rattle.integer.specs.Answer.{pick}
+use Rattle.field.specs.Outcome.{both}
+use Rattle.field.specs.Rules.{askable, givable}
+use Rattle.field.specs.Value.{Value, mean}
+use Rattle.field.specs.declared.Entries.{Entries}
+use Rattle.field.specs.declared.Kind.the-variants.{Parameters}
+use Rattle.field.specs.declared.Piece.the-variants.{Number, List as Listing}
+use Rattle.layout.specs.Layout.{Layout, done, forbidden, field, when, place, failure}
+use Rattle.layout.specs.Permitted.{good, formOf, handed, code, permitted}
+use Rattle.layout.specs.Typed.{Typed}
+use Rattle.layout.proofs.Back.{both-true as both-parts}
+use Rattle.shortest.proofs.Tests.{both-true}
+use Rattle.shortest.proofs.Good.{AllGood, more}
+use Rattle.subscription.specs.Rules.{endsAfter}
+use Rattle.subscription.specs.Layouts.{parameters as subscriptionParameters, subscribeUpdate, ending, filter, delivery, subscribe, content, subscribeOk, subscribeError, subscribeDone, only}
+use Rattle.subscription.specs.Told.{filterPieces, contentPieces, saidOf as subscriptionSaid}
+use Rattle.subscription.specs.Allowed.{allowedFilter, allowedOf as subscriptionAllowed}
+use Rattle.subscription.specs.declared.Filter.{Filter}
+use Rattle.subscription.specs.declared.Filter.the-variants.{Latest, From, Range}
+use Rattle.subscription.specs.declared.Content.{Content}
+use Rattle.subscription.specs.declared.Content.the-variants.{Nothing, Largest}
+use Rattle.subscription.specs.declared.SubscriptionMessage.{SubscriptionMessage}
+use Rattle.subscription.specs.declared.SubscriptionMessage.the-variants.{SubscribeUpdate, Subscribe, SubscribeOk, SubscribeError, Unsubscribe, SubscribeDone, MaxSubscribeId, SubscribesBlocked}
+use Rattle.fetch.specs.Rules.{isStatus, mayHold}
+use Rattle.fetch.specs.Layouts.{parameters as fetchParameters, standalone, joining, range, fetch, fetchOk, fetchError, fetchCancel, trackStatusRequest, largest, trackStatus}
+use Rattle.fetch.specs.Told.{joiningType, rangePieces, saidOf as fetchSaid}
+use Rattle.fetch.specs.Allowed.{allowedOf as fetchAllowed}
+use Rattle.fetch.specs.declared.Range.{Range as FetchRange}
+use Rattle.fetch.specs.declared.Range.the-variants.{Standalone, Joining}
+use Rattle.fetch.specs.declared.FetchMessage.{FetchMessage}
+use Rattle.fetch.specs.declared.FetchMessage.the-variants.{Fetch as AFetch, FetchOk, FetchError, FetchCancel, TrackStatusRequest, TrackStatus}
+use Rattle.announce.specs.Layouts.{named, asked, refused}
+use Rattle.announce.specs.Told.{saidOf as announceSaid}
+use Rattle.announce.specs.declared.AnnounceMessage.{AnnounceMessage}
+use Rattle.announce.specs.declared.AnnounceMessage.the-variants.{Announce as AnAnnounce, AnnounceOk, AnnounceError, Unannounce, AnnounceCancel, SubscribeAnnounces, SubscribeAnnouncesOk, SubscribeAnnouncesError, UnsubscribeAnnounces}
+use Rattle.session.specs.Layouts.{clientSetup, serverSetup, goAway}
+use Rattle.session.specs.Told.{saidOf as sessionSaid}
+use Rattle.session.specs.declared.SessionMessage.{SessionMessage}
+use Rattle.session.specs.declared.SessionMessage.the-variants.{ClientSetup, ServerSetup, GoAway}
+use Rattle.message.specs.Types.{known, layoutOf, saidOf}
+use Rattle.message.specs.Writing.{allowedOf}
+use Rattle.message.specs.declared.Message.{Message}
+use Rattle.message.specs.declared.Message.the-variants.{Subscription, Fetch, Announce, Session}
+
+-- ---- a shape
+
+-- values are of the forms that a layout asks for, and pass its tests
+fitting : Layout → List Value → Bool
+fitting done [] = true
+fitting done (v ∷ vs) = false
+fitting forbidden vs = false
+fitting (field form next) [] = false
+fitting (field form next) (v ∷ vs) = both (eqb (code form) (code (formOf v))) (fitting (next (handed v)) vs)
+fitting (when test l m) vs = pick test (fitting l vs) (fitting m vs)
+
+-- good values that do are permitted,
+fitting-permitted : (l : Layout) (vs : List Value) → fitting l vs ≡ true → AllGood vs → permitted l vs ≡ true
+unfolding fitting permitted
+fitting-permitted done [] h g = refl
+fitting-permitted done (v ∷ vs) h g = h
+fitting-permitted forbidden vs h g = h
+fitting-permitted (field form next) [] h g = h
+fitting-permitted (field form next) (v ∷ vs) h (more g gs) =
+    let p = both-parts (eqb (code form) (code (formOf v))) (fitting (next (handed v)) vs) h in
+    rw (p .0, g) (fitting-permitted (next (handed v)) vs (p .1) gs)
+fitting-permitted (when true l m) vs h g = fitting-permitted l vs h g
+fitting-permitted (when false l m) vs h g = fitting-permitted m vs h g
+
+-- and only such are
+permitted-fitting : (l : Layout) (vs : List Value) → permitted l vs ≡ true → fitting l vs ≡ true
+unfolding fitting permitted
+permitted-fitting done [] h = refl
+permitted-fitting done (v ∷ vs) h = h
+permitted-fitting forbidden vs h = h
+permitted-fitting (field form next) [] h = h
+permitted-fitting (field form next) (v ∷ vs) h =
+    let p = both-parts (eqb (code form) (code (formOf v))) _ h in
+    let q = both-parts (good v) (permitted (next (handed v)) vs) (p .1) in
+    rw (p .0) (permitted-fitting (next (handed v)) vs (q .1))
+permitted-fitting (when true l m) vs h = permitted-fitting l vs h
+permitted-fitting (when false l m) vs h = permitted-fitting m vs h
+
+-- a test before another, or alone
+tested : (a b : Bool) → pick a b false ≡ both a b
+tested true b = refl
+tested false b = refl
+
+test-alone : (a : Bool) → pick a true false ≡ a
+test-alone a = tested a true ∙ both-true a
+
+-- ---- the families
+
+-- the type of a message is known, and its fields have the shape that it asks for exactly where its values are allowed
+abbrev Fitting : List ℕ → Typed → Bool → Type 0
+Fitting s t allowed = (known (t .type) ≡ true) × (fitting (layoutOf (t .type)) (map (mean s) (t .pieces)) ≡ allowed)
+
+module _ (s : List ℕ) where
+  -- what a SUBSCRIBE asks for, and its parameters,
+  asking : (f : Filter) (e : Entries) → fitting filter (map (mean s) (filterPieces f ++ Listing Parameters e ∷ [])) ≡ allowedFilter f
+  unfolding fitting code mean place subscriptionParameters ending filter allowedFilter
+  asking Latest e = refl
+  asking (From start) e = refl
+  asking (Range start endGroup) e = test-alone (endsAfter (start .group) endGroup)
+
+  -- what there is by a SUBSCRIBE_OK, and its parameters,
+  existing : (c : Content) (e : Entries) → fitting content (map (mean s) (contentPieces c ++ Listing Parameters e ∷ [])) ≡ true
+  unfolding fitting code mean place subscriptionParameters content
+  existing Nothing e = refl
+  existing (Largest p) e = refl
+
+  -- a message of subscriptions,
+  subscription : (m : SubscriptionMessage) → Fitting s (subscriptionSaid m) (subscriptionAllowed m)
+  unfolding fitting code mean known layoutOf place failure subscriptionParameters subscribeUpdate delivery subscribe subscribeOk subscribeError subscribeDone only subscriptionAllowed
+  subscription (SubscribeUpdate m) = (refl, refl)
+  subscription (Subscribe m) = (refl, rw (asking (m .filter) (m .parameters)) (tested (askable (m .order)) (allowedFilter (m .filter))))
+  subscription (SubscribeOk m) = (refl, rw (existing (m .content) (m .parameters)) (test-alone (givable (m .order))))
+  subscription (SubscribeError m) = (refl, refl)
+  subscription (Unsubscribe id) = (refl, refl)
+  subscription (SubscribeDone m) = (refl, refl)
+  subscription (MaxSubscribeId id) = (refl, refl)
+  subscription (SubscribesBlocked id) = (refl, refl)
+
+  -- what a FETCH asks for, and its parameters,
+  fetching : (r : FetchRange) (e : Entries) → fitting range (map (mean s) (rangePieces r ++ Listing Parameters e ∷ [])) ≡ true
+  unfolding fitting code mean place fetchParameters standalone joining range
+  fetching (Standalone r) e = refl
+  fetching (Joining j) e = by-type (j .absolute)
+    where
+      by-type : (absolute : Bool) → fitting range (map (mean s) (Number (joiningType absolute) ∷ Number (j .id) ∷ Number (j .start) ∷ Listing Parameters e ∷ [])) ≡ true
+      by-type true = refl
+      by-type false = refl
+
+  -- a message of fetches,
+  retrieval : (m : FetchMessage) → Fitting s (fetchSaid m) (fetchAllowed m)
+  unfolding fitting code mean known layoutOf place failure fetchParameters fetch fetchOk fetchError fetchCancel trackStatusRequest largest trackStatus fetchAllowed
+  retrieval (AFetch m) = (refl, rw (fetching (m .range) (m .parameters)) (test-alone (askable (m .order))))
+  retrieval (FetchOk m) = (refl, test-alone (givable (m .order)))
+  retrieval (FetchError m) = (refl, refl)
+  retrieval (FetchCancel id) = (refl, refl)
+  retrieval (TrackStatusRequest t) = (refl, refl)
+  retrieval (TrackStatus m) =
+      let group = mayHold (m .status) (m .largest .group) in
+      let object = mayHold (m .status) (m .largest .object) in
+      (refl, rw (test-alone object, tested group object, tested (isStatus (m .status)) (both group object)))
+
+  -- of namespaces,
+  announcement : (m : AnnounceMessage) → Fitting s (announceSaid m) true
+  unfolding fitting code mean known layoutOf failure named asked refused
+  announcement (AnAnnounce m) = (refl, refl)
+  announcement (AnnounceOk n) = (refl, refl)
+  announcement (AnnounceError m) = (refl, refl)
+  announcement (Unannounce n) = (refl, refl)
+  announcement (AnnounceCancel m) = (refl, refl)
+  announcement (SubscribeAnnounces m) = (refl, refl)
+  announcement (SubscribeAnnouncesOk n) = (refl, refl)
+  announcement (SubscribeAnnouncesError m) = (refl, refl)
+  announcement (UnsubscribeAnnounces n) = (refl, refl)
+
+  -- and of a session
+  session : (m : SessionMessage) → Fitting s (sessionSaid m) true
+  unfolding fitting code mean known layoutOf clientSetup serverSetup goAway
+  session (ClientSetup m) = (refl, refl)
+  session (ServerSetup m) = (refl, refl)
+  session (GoAway uri) = (refl, refl)
+
+  -- ---- every message
+
+  shape : (m : Message) → Fitting s (saidOf m) (allowedOf m)
+  unfolding allowedOf
+  shape (Subscription m) = subscription m
+  shape (Fetch m) = retrieval m
+  shape (Announce m) = announcement m
+  shape (Session m) = session m
+
+  -- It is of a known type.
+  pub known-type : (m : Message) → known (saidOf m .type) ≡ true
+  known-type m = shape m .0
+
+  -- Where its values are allowed and its fields are good, its layout permits it,
+  pub shaped : (m : Message) → allowedOf m ≡ true → AllGood (map (mean s) (saidOf m .pieces)) → permitted (layoutOf (saidOf m .type)) (map (mean s) (saidOf m .pieces)) ≡ true
+  shaped m h = fitting-permitted (layoutOf (saidOf m .type)) (map (mean s) (saidOf m .pieces)) (shape m .1 ∙ h)
+
+  -- and where its layout permits it, its values are allowed.
+  pub permitted-allowed : (m : Message) → permitted (layoutOf (saidOf m .type)) (map (mean s) (saidOf m .pieces)) ≡ true → allowedOf m ≡ true
+  permitted-allowed m h = sym (shape m .1) ∙ permitted-fitting (layoutOf (saidOf m .type)) (map (mean s) (saidOf m .pieces)) h
