@@ -1,64 +1,71 @@
 -- One possible answer: 01's number and values of a message, and of what was read, lose nothing. Assumes nothing.
+use Prim.Native.Nat.{ℕ}
 use mathlib.Core.Path.{_≡_, refl}
 use mathlib.Core.List.{List}
 use lib.Dec.{eqb}
 use Rattle.integer.specs.Answer.{pick}
-use Rattle.field.specs.declared.Entries.{Entries}
 use Rattle.field.specs.declared.Piece.{Piece}
 use Rattle.layout.specs.Typed.{Typed}
-use Rattle.layout.proofs.Parts.{numberIn, bytesIn, entriesIn}
+use Rattle.layout.proofs.Parts.{once, entriesIn, failureIn}
+use Rattle.announce.specs.Layouts.{numberOf}
 use Rattle.announce.specs.Told.{saidOf, told}
-use Rattle.announce.specs.declared.Announce.{Announce}
-use Rattle.announce.specs.declared.Refused.{Refused}
+use Rattle.announce.specs.declared.Naming.the-variants.{AnnounceOk, Unannounce, SubscribeAnnouncesOk, UnsubscribeAnnounces}
+use Rattle.announce.specs.declared.Asking.the-variants.{Announce, SubscribeAnnounces}
+use Rattle.announce.specs.declared.Refusing.the-variants.{AnnounceError, AnnounceCancel, SubscribeAnnouncesError}
+use Rattle.announce.specs.declared.AnnounceKind.{AnnounceKind}
+use Rattle.announce.specs.declared.AnnounceKind.the-variants.{Named, Asked, Refused}
 use Rattle.announce.specs.declared.AnnounceMessage.{AnnounceMessage}
-use Rattle.announce.specs.declared.AnnounceMessage.the-variants.{Announce as AnAnnounce, AnnounceOk, AnnounceError, Unannounce, AnnounceCancel, SubscribeAnnounces, SubscribeAnnouncesOk, SubscribeAnnouncesError, UnsubscribeAnnounces}
+use Rattle.announce.specs.declared.AnnounceMessage.the-variants.{Named as ANamed, Asked as AnAsked, Refused as ARefused}
 use Rattle.announce.specs.declared.AnnounceRead.{AnnounceRead}
 use Rattle.announce.specs.declared.AnnounceRead.the-variants.{Whole, No}
 
--- what fields say, by the shape of a body
-abbrev named : List Piece → Entries
-named ps = entriesIn ps 0
+-- the kind that a number stands for
+kindOf : ℕ → AnnounceKind
+kindOf type =
+    pick (eqb type 0x6) (Asked Announce)
+    (pick (eqb type 0x7) (Named AnnounceOk)
+    (pick (eqb type 0x8) (Refused AnnounceError)
+    (pick (eqb type 0x9) (Named Unannounce)
+    (pick (eqb type 0xC) (Refused AnnounceCancel)
+    (pick (eqb type 0x11) (Asked SubscribeAnnounces)
+    (pick (eqb type 0x12) (Named SubscribeAnnouncesOk)
+    (pick (eqb type 0x13) (Refused SubscribeAnnouncesError) (Named UnsubscribeAnnounces))))))))
 
-abbrev asked : List Piece → Announce
-asked ps = record { namespace = entriesIn ps 0; parameters = entriesIn ps 1 }
-
-abbrev refused : List Piece → Refused
-refused ps = record { namespace = entriesIn ps 0; failure = record { code = numberIn ps 1; reason = bytesIn ps 2 } }
+kind-back : (k : AnnounceKind) → kindOf (numberOf k) ≡ k
+unfolding kindOf numberOf
+kind-back (Asked Announce) = refl
+kind-back (Named AnnounceOk) = refl
+kind-back (Refused AnnounceError) = refl
+kind-back (Named Unannounce) = refl
+kind-back (Refused AnnounceCancel) = refl
+kind-back (Asked SubscribeAnnounces) = refl
+kind-back (Named SubscribeAnnouncesOk) = refl
+kind-back (Refused SubscribeAnnouncesError) = refl
+kind-back (Named UnsubscribeAnnounces) = refl
 
 -- the message that a type and fields say
-pub heard : Typed → AnnounceMessage
-heard t =
-    let ps = t .pieces in
-    pick (eqb (t .type) 0x6) (AnAnnounce (asked ps))
-    (pick (eqb (t .type) 0x7) (AnnounceOk (named ps))
-    (pick (eqb (t .type) 0x8) (AnnounceError (refused ps))
-    (pick (eqb (t .type) 0x9) (Unannounce (named ps))
-    (pick (eqb (t .type) 0xC) (AnnounceCancel (refused ps))
-    (pick (eqb (t .type) 0x11) (SubscribeAnnounces (asked ps))
-    (pick (eqb (t .type) 0x12) (SubscribeAnnouncesOk (named ps))
-    (pick (eqb (t .type) 0x13) (SubscribeAnnouncesError (refused ps))
-    (UnsubscribeAnnounces (named ps)))))))))
+abbrev messageBy : AnnounceKind → List Piece → AnnounceMessage
+messageBy (Named k) ps = ANamed k (entriesIn ps 0)
+messageBy (Asked k) ps = AnAsked k (record { namespace = entriesIn ps 0; parameters = entriesIn ps 1 })
+messageBy (Refused k) ps = ARefused k (record { namespace = entriesIn ps 0; failure = failureIn ps 1 })
+
+pub messageOf : Typed → AnnounceMessage
+messageOf t = messageBy (kindOf (t .type)) (t .pieces)
 
 -- is the one that was said,
-pub heard-said : (m : AnnounceMessage) → heard (saidOf m) ≡ m
-unfolding heard
-heard-said (AnAnnounce m) = refl
-heard-said (AnnounceOk n) = refl
-heard-said (AnnounceError m) = refl
-heard-said (Unannounce n) = refl
-heard-said (AnnounceCancel m) = refl
-heard-said (SubscribeAnnounces m) = refl
-heard-said (SubscribeAnnouncesOk n) = refl
-heard-said (SubscribeAnnouncesError m) = refl
-heard-said (UnsubscribeAnnounces n) = refl
+pub message-back : (m : AnnounceMessage) → messageOf (saidOf m) ≡ m
+unfolding messageOf
+message-back (ANamed k n) = rw (kind-back (Named k))
+message-back (AnAsked k m) = rw (kind-back (Asked k))
+message-back (ARefused k m) = rw (kind-back (Refused k))
 
 -- so a type and fields are those of one message,
 pub said-once : (m n : AnnounceMessage) → saidOf m ≡ saidOf n → m ≡ n
-said-once m n e = cc (heard-said m, heard-said n)
+said-once = once saidOf messageOf message-back
 
 -- and what is told is told of one answer
 pub told-once : (a b : AnnounceRead) → told a ≡ told b → a ≡ b
-told-once (Whole m end) (Whole n last) e = cc (heard-said m, heard-said n)
+told-once (Whole m end) (Whole n last) e = cc (message-back m, message-back n)
 told-once (Whole m end) (No fault) e = cc
 told-once (No fault) (Whole n last) e = cc
 told-once (No fault) (No other) e = cc

@@ -3,41 +3,34 @@
 -- namespace prefix has the form and the sizes of a namespace.
 use Prim.Native.Nat.{ℕ}
 use Rattle.field.specs.Fields.{list}
-use Rattle.field.specs.declared.Kind.the-variants.{Namespace, Parameters}
-use Rattle.layout.specs.Layout.{Layout, done, field, failure}
+use Rattle.field.specs.declared.Kind.the-variants.{Namespace}
+use Rattle.layout.specs.Layout.{Layout, done, field, failure, parameters}
+use Rattle.announce.specs.declared.Naming.the-variants.{AnnounceOk, Unannounce, SubscribeAnnouncesOk, UnsubscribeAnnounces}
+use Rattle.announce.specs.declared.Asking.the-variants.{Announce, SubscribeAnnounces}
+use Rattle.announce.specs.declared.Refusing.the-variants.{AnnounceError, AnnounceCancel, SubscribeAnnouncesError}
 use Rattle.announce.specs.declared.AnnounceKind.{AnnounceKind}
-use Rattle.announce.specs.declared.AnnounceKind.the-variants.{Announce, AnnounceOk, AnnounceError, Unannounce, AnnounceCancel, SubscribeAnnounces, SubscribeAnnouncesOk, SubscribeAnnouncesError, UnsubscribeAnnounces}
-
--- Track Namespace
-unfoldable pub named : Layout
-named = field (list Namespace) λ _. done
-
--- Track Namespace, Parameters
-unfoldable pub asked : Layout
-asked = field (list Namespace) λ _. field (list Parameters) λ _. done
-
--- Track Namespace, Error Code, Reason Phrase
-unfoldable pub refused : Layout
-refused = field (list Namespace) λ _. failure done
+use Rattle.announce.specs.declared.AnnounceKind.the-variants.{Named, Asked, Refused}
 
 unfoldable pub numberOf : AnnounceKind → ℕ
-numberOf Announce = 0x6
-numberOf AnnounceOk = 0x7
-numberOf AnnounceError = 0x8
-numberOf Unannounce = 0x9
-numberOf AnnounceCancel = 0xC
-numberOf SubscribeAnnounces = 0x11
-numberOf SubscribeAnnouncesOk = 0x12
-numberOf SubscribeAnnouncesError = 0x13
-numberOf UnsubscribeAnnounces = 0x14
+numberOf (Asked Announce) = 0x6
+numberOf (Named AnnounceOk) = 0x7
+numberOf (Refused AnnounceError) = 0x8
+numberOf (Named Unannounce) = 0x9
+numberOf (Refused AnnounceCancel) = 0xC
+numberOf (Asked SubscribeAnnounces) = 0x11
+numberOf (Named SubscribeAnnouncesOk) = 0x12
+numberOf (Refused SubscribeAnnouncesError) = 0x13
+numberOf (Named UnsubscribeAnnounces) = 0x14
+
+-- Track Namespace, and what follows it
+unfoldable pub named : Layout → Layout
+named next = field (list Namespace) λ _. next
+
+-- which is nothing; Parameters; or Error Code, Reason Phrase
+unfoldable pub rest : AnnounceKind → Layout
+rest (Named k) = done
+rest (Asked k) = parameters
+rest (Refused k) = failure done
 
 unfoldable pub layoutOf : AnnounceKind → Layout
-layoutOf Announce = asked
-layoutOf AnnounceOk = named
-layoutOf AnnounceError = refused
-layoutOf Unannounce = named
-layoutOf AnnounceCancel = refused
-layoutOf SubscribeAnnounces = asked
-layoutOf SubscribeAnnouncesOk = named
-layoutOf SubscribeAnnouncesError = refused
-layoutOf UnsubscribeAnnounces = named
+layoutOf kind = named (rest kind)

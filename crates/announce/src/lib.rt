@@ -1,4 +1,5 @@
-// The messages of namespaces: ANNOUNCE and SUBSCRIBE_ANNOUNCES, and the answers to them.
+// The messages of namespaces: ANNOUNCE and SUBSCRIBE_ANNOUNCES, and the answers to them. Each begins with a namespace, or a
+// prefix of one; by what follows there are three shapes.
 mod reader;
 mod writer;
 
@@ -8,55 +9,51 @@ use field::Fault;
 pub use reader::read;
 pub use writer::fields;
 
-// A namespace, or a prefix of one, and parameters.
+// Those with nothing else.
+pub enum Naming {
+    AnnounceOk,
+    Unannounce,
+    SubscribeAnnouncesOk,
+    UnsubscribeAnnounces,
+}
+
+// Those with parameters.
+pub enum Asking {
+    Announce,
+    SubscribeAnnounces,
+}
+
+// Those that say why it is refused.
+pub enum Refusing {
+    AnnounceError,
+    AnnounceCancel,
+    SubscribeAnnouncesError,
+}
+
+pub enum AnnounceKind {
+    Named(Naming),
+    Asked(Asking),
+    Refused(Refusing),
+}
+
 pub struct Announce {
     pub namespace: Entries,
     pub parameters: Entries,
 }
 
-// A namespace, or a prefix of one, and why it is refused.
-pub struct Refused {
+pub struct Refusal {
     pub namespace: Entries,
     pub failure: Failure,
 }
 
-// Where only a namespace, or a prefix of one, is named, that is all that is held.
 pub enum AnnounceMessage {
-    Announce(Announce),
-    AnnounceOk(Entries),
-    AnnounceError(Refused),
-    Unannounce(Entries),
-    AnnounceCancel(Refused),
-    SubscribeAnnounces(Announce),
-    SubscribeAnnouncesOk(Entries),
-    SubscribeAnnouncesError(Refused),
-    UnsubscribeAnnounces(Entries),
-}
-
-pub enum AnnounceKind {
-    Announce,
-    AnnounceOk,
-    AnnounceError,
-    Unannounce,
-    AnnounceCancel,
-    SubscribeAnnounces,
-    SubscribeAnnouncesOk,
-    SubscribeAnnouncesError,
-    UnsubscribeAnnounces,
+    Named(Naming, Entries),
+    Asked(Asking, Announce),
+    Refused(Refusing, Refusal),
 }
 
 // A message and where it ends, or why it is refused.
 pub enum AnnounceRead {
     Whole(AnnounceMessage, usize),
-    No(Fault),
-}
-
-enum AskedRead {
-    Whole(Announce, usize),
-    No(Fault),
-}
-
-enum RefusedRead {
-    Whole(Refused, usize),
     No(Fault),
 }

@@ -1,119 +1,54 @@
 // Each body is read field by field, left to right; the first fault decides.
 ghost use mathlib.Core.Path.{_≡_};
 ghost use Rattle.layout.specs.Layout.{scan};
-ghost use Rattle.layout.specs.Typed.{typed};
-ghost use Rattle.announce.specs.Layouts.{asked, refused, numberOf, layoutOf};
-ghost use Rattle.announce.specs.Told.{toldAsked, toldRefused, told};
+ghost use Rattle.layout.specs.Typed.{led, typed};
+ghost use Rattle.announce.specs.Layouts.{rest, numberOf, layoutOf};
+ghost use Rattle.announce.specs.Told.{namedPieces, told};
 use crate::Announce;
 use crate::AnnounceKind;
 use crate::AnnounceMessage;
 use crate::AnnounceRead;
-use crate::AskedRead;
-use crate::Refused;
-use crate::RefusedRead;
+use crate::Refusal;
+use field::Entries;
 use field::FailureRead;
 use field::Fault;
 use field::Kind;
 use field::ListRead;
 
-// The body of a message of this family, from an offset on.
+// The body of a message of this family, from an offset on: a namespace, and what follows it.
 pub fn read(kind: AnnounceKind, s: &[u8], at: usize) -> AnnounceRead
     ensures { λ r. ⌜ told r ≡ typed (numberOf kind) (scan (layoutOf kind) (now (s .entry)) at) ⌝ }
 {
+    match field::read_list(s, Kind::Namespace, at) {
+        ListRead::No(fault) => AnnounceRead::No(fault),
+        ListRead::Whole(namespace) => read_rest(kind, s, namespace),
+    }
+}
+
+// What follows a namespace: nothing, parameters, or an error code and a reason.
+fn read_rest(kind: AnnounceKind, s: &[u8], namespace: Entries) -> AnnounceRead
+    ensures { λ r. ⌜ told r ≡ typed (numberOf kind) (led (namedPieces namespace) (scan (rest kind) (now (s .entry)) (namespace .end))) ⌝ }
+{
+    let at = namespace.end;
     match kind {
-        AnnounceKind::Announce => match read_asked(s, at) {
-            AskedRead::Whole(m, end) => AnnounceRead::Whole(AnnounceMessage::Announce(m), end),
-            AskedRead::No(fault) => AnnounceRead::No(fault),
-        },
-        AnnounceKind::AnnounceOk => match field::read_list(s, Kind::Namespace, at) {
-            ListRead::Whole(n) => AnnounceRead::Whole(AnnounceMessage::AnnounceOk(n), n.end),
+        AnnounceKind::Named(k) => AnnounceRead::Whole(AnnounceMessage::Named(k, namespace), at),
+        AnnounceKind::Asked(k) => match field::read_list(s, Kind::Parameters, at) {
             ListRead::No(fault) => AnnounceRead::No(fault),
-        },
-        AnnounceKind::AnnounceError => match read_refused(s, at) {
-            RefusedRead::Whole(m, end) => AnnounceRead::Whole(
-                AnnounceMessage::AnnounceError(m),
-                end,
-            ),
-            RefusedRead::No(fault) => AnnounceRead::No(fault),
-        },
-        AnnounceKind::Unannounce => match field::read_list(s, Kind::Namespace, at) {
-            ListRead::Whole(n) => AnnounceRead::Whole(AnnounceMessage::Unannounce(n), n.end),
-            ListRead::No(fault) => AnnounceRead::No(fault),
-        },
-        AnnounceKind::AnnounceCancel => match read_refused(s, at) {
-            RefusedRead::Whole(m, end) => AnnounceRead::Whole(
-                AnnounceMessage::AnnounceCancel(m),
-                end,
-            ),
-            RefusedRead::No(fault) => AnnounceRead::No(fault),
-        },
-        AnnounceKind::SubscribeAnnounces => match read_asked(s, at) {
-            AskedRead::Whole(m, end) => AnnounceRead::Whole(
-                AnnounceMessage::SubscribeAnnounces(m),
-                end,
-            ),
-            AskedRead::No(fault) => AnnounceRead::No(fault),
-        },
-        AnnounceKind::SubscribeAnnouncesOk => match field::read_list(s, Kind::Namespace, at) {
-            ListRead::Whole(n) => AnnounceRead::Whole(
-                AnnounceMessage::SubscribeAnnouncesOk(n),
-                n.end,
-            ),
-            ListRead::No(fault) => AnnounceRead::No(fault),
-        },
-        AnnounceKind::SubscribeAnnouncesError => match read_refused(s, at) {
-            RefusedRead::Whole(m, end) => AnnounceRead::Whole(
-                AnnounceMessage::SubscribeAnnouncesError(m),
-                end,
-            ),
-            RefusedRead::No(fault) => AnnounceRead::No(fault),
-        },
-        AnnounceKind::UnsubscribeAnnounces => match field::read_list(s, Kind::Namespace, at) {
-            ListRead::Whole(n) => AnnounceRead::Whole(
-                AnnounceMessage::UnsubscribeAnnounces(n),
-                n.end,
-            ),
-            ListRead::No(fault) => AnnounceRead::No(fault),
-        },
-    }
-}
-
-// A namespace and parameters.
-fn read_asked(s: &[u8], at: usize) -> AskedRead
-    ensures { λ r. ⌜ toldAsked r ≡ scan asked (now (s .entry)) at ⌝ }
-{
-    match field::read_list(s, Kind::Namespace, at) {
-        ListRead::No(fault) => AskedRead::No(fault),
-        ListRead::Whole(namespace) => {
-            let a = namespace.end;
-            match field::read_list(s, Kind::Parameters, a) {
-                ListRead::No(fault) => AskedRead::No(fault),
-                ListRead::Whole(parameters) => AskedRead::Whole(
-                    Announce {
-                        namespace,
-                        parameters,
-                    },
-                    parameters.end,
-                ),
+            ListRead::Whole(parameters) => {
+                let m = Announce {
+                    namespace,
+                    parameters,
+                };
+                AnnounceRead::Whole(AnnounceMessage::Asked(k, m), parameters.end)
             }
-        }
-    }
-}
-
-// A namespace, an error code and a reason.
-fn read_refused(s: &[u8], at: usize) -> RefusedRead
-    ensures { λ r. ⌜ toldRefused r ≡ scan refused (now (s .entry)) at ⌝ }
-{
-    match field::read_list(s, Kind::Namespace, at) {
-        ListRead::No(fault) => RefusedRead::No(fault),
-        ListRead::Whole(namespace) => {
-            let a = namespace.end;
-            let FailureRead::Whole(failure) = field::read_failure(s, a) else {
-                return RefusedRead::No(Fault::Cut);
+        },
+        AnnounceKind::Refused(k) => {
+            let FailureRead::Whole(failure) = field::read_failure(s, at) else {
+                return AnnounceRead::No(Fault::Cut);
             };
             let reason = failure.reason;
-            let end = reason.end;
-            RefusedRead::Whole(Refused { namespace, failure }, end)
+            let m = Refusal { namespace, failure };
+            AnnounceRead::Whole(AnnounceMessage::Refused(k, m), reason.end)
         }
     }
 }

@@ -1,62 +1,70 @@
 // A message as its fields, in the order of its layout.
 ghost use mathlib.Core.Path.{_≡_};
 ghost use Rattle.shortest.specs.Writing.{typedOf};
-ghost use Rattle.announce.specs.Told.{namedPieces, askedPieces, refusedPieces, saidOf};
-use crate::Announce;
+ghost use Rattle.announce.specs.Layouts.{numberOf};
+ghost use Rattle.announce.specs.Told.{saidOf};
+use crate::AnnounceKind;
 use crate::AnnounceMessage;
-use crate::Refused;
-use field::Entries;
+use crate::Asking;
+use crate::Naming;
+use crate::Refusing;
 use field::Kind;
 use field::Piece;
 use shortest::Fields;
+use shortest::places;
 
 pub fn fields(m: AnnounceMessage) -> Fields
     ensures { λ r. ⌜ typedOf r ≡ saidOf m ⌝ }
 {
     match m {
-        AnnounceMessage::Announce(x) => asked_fields(0x6, x),
-        AnnounceMessage::AnnounceOk(n) => named_fields(0x7, n),
-        AnnounceMessage::AnnounceError(x) => refused_fields(0x8, x),
-        AnnounceMessage::Unannounce(n) => named_fields(0x9, n),
-        AnnounceMessage::AnnounceCancel(x) => refused_fields(0xC, x),
-        AnnounceMessage::SubscribeAnnounces(x) => asked_fields(0x11, x),
-        AnnounceMessage::SubscribeAnnouncesOk(n) => named_fields(0x12, n),
-        AnnounceMessage::SubscribeAnnouncesError(x) => refused_fields(0x13, x),
-        AnnounceMessage::UnsubscribeAnnounces(n) => named_fields(0x14, n),
+        AnnounceMessage::Named(k, namespace) => {
+            let kind = number_of(AnnounceKind::Named(k));
+            places::of1(kind, Piece::List(Kind::Namespace, namespace))
+        }
+        AnnounceMessage::Asked(k, x) => {
+            let kind = number_of(AnnounceKind::Asked(k));
+            let namespace = x.namespace;
+            let parameters = x.parameters;
+            places::of2(
+                kind,
+                Piece::List(Kind::Namespace, namespace),
+                Piece::List(Kind::Parameters, parameters),
+            )
+        }
+        AnnounceMessage::Refused(k, x) => {
+            let kind = number_of(AnnounceKind::Refused(k));
+            let namespace = x.namespace;
+            let failure = x.failure;
+            let reason = failure.reason;
+            places::of3(
+                kind,
+                Piece::List(Kind::Namespace, namespace),
+                Piece::Number(failure.code),
+                Piece::Bytes(reason),
+            )
+        }
     }
 }
 
-// A namespace alone.
-fn named_fields(kind: u64, n: Entries) -> Fields
-    ensures { λ r. ⌜ typedOf r ≡ record { type = kind; pieces = namedPieces n } ⌝ }
+// The number of its type.
+fn number_of(kind: AnnounceKind) -> u64
+    ensures { λ r. ⌜ r ≡ numberOf kind ⌝ }
 {
-    shortest::of1(kind, Piece::List(Kind::Namespace, n))
-}
-
-// A namespace and parameters.
-fn asked_fields(kind: u64, x: Announce) -> Fields
-    ensures { λ r. ⌜ typedOf r ≡ record { type = kind; pieces = askedPieces x } ⌝ }
-{
-    let namespace = x.namespace;
-    let parameters = x.parameters;
-    shortest::of2(
-        kind,
-        Piece::List(Kind::Namespace, namespace),
-        Piece::List(Kind::Parameters, parameters),
-    )
-}
-
-// A namespace and why it is refused.
-fn refused_fields(kind: u64, x: Refused) -> Fields
-    ensures { λ r. ⌜ typedOf r ≡ record { type = kind; pieces = refusedPieces x } ⌝ }
-{
-    let namespace = x.namespace;
-    let failure = x.failure;
-    let reason = failure.reason;
-    shortest::of3(
-        kind,
-        Piece::List(Kind::Namespace, namespace),
-        Piece::Number(failure.code),
-        Piece::Bytes(reason),
-    )
+    match kind {
+        AnnounceKind::Named(k) => match k {
+            Naming::AnnounceOk => 0x7,
+            Naming::Unannounce => 0x9,
+            Naming::SubscribeAnnouncesOk => 0x12,
+            Naming::UnsubscribeAnnounces => 0x14,
+        },
+        AnnounceKind::Asked(k) => match k {
+            Asking::Announce => 0x6,
+            Asking::SubscribeAnnounces => 0x11,
+        },
+        AnnounceKind::Refused(k) => match k {
+            Refusing::AnnounceError => 0x8,
+            Refusing::AnnounceCancel => 0xC,
+            Refusing::SubscribeAnnouncesError => 0x13,
+        },
+    }
 }

@@ -20,6 +20,10 @@ use Rattle.field.specs.declared.Piece.the-variants.{Number, Byte, Bytes,
 abbrev pub part : List ℕ → Span → List ℕ
 part s p = take (size p) (drop (p .start) s)
 
+-- the part of what has none
+abbrev pub nowhere : Span
+nowhere = record { start = 0; end = 0 }
+
 pub record Item : Type 0 where
   pub number : ℕ
   pub bytes : List ℕ

@@ -4,6 +4,7 @@ use Prim.Native.Nat.{ℕ, suc}
 use mathlib.Core.Path.{_≡_, sym, ap, _∙_}
 use mathlib.Core.List.{List}
 use lib.ListN.{getD}
+use Rattle.field.specs.Value.{nowhere}
 use Rattle.field.specs.declared.Span.{Span}
 use Rattle.field.specs.declared.Entries.{Entries}
 use Rattle.field.specs.declared.Track.{Track}
@@ -19,17 +20,14 @@ once tell back returns a b e = sym (returns a) ∙ ap back e ∙ returns b
 
 -- ---- the bytes and the entries that a piece holds, none where it is of another form; `control` gives its number or byte
 
-abbrev noBytes : Span
-noBytes = record { start = 0; end = 0 }
-
 abbrev noEntries : Entries
 noEntries = record { start = 0; end = 0; count = 0 }
 
 abbrev spanOf : Piece → Span
-spanOf (Number n) = noBytes
-spanOf (Byte b) = noBytes
+spanOf (Number n) = nowhere
+spanOf (Byte b) = nowhere
 spanOf (Bytes p) = p
-spanOf (Listing kind l) = noBytes
+spanOf (Listing kind l) = nowhere
 spanOf (Tracked t) = t .name
 
 abbrev entriesOf : Piece → Entries

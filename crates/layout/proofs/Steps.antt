@@ -52,7 +52,7 @@ led-one p ps (whole qs end) = refl
 led-one p ps (no fault) = refl
 
 -- fields before others before them
-led-led : (ps qs : List Piece) (o : Outcome (List Piece)) → led (ps ++ qs) o ≡ led ps (led qs o)
+pub led-led : (ps qs : List Piece) (o : Outcome (List Piece)) → led (ps ++ qs) o ≡ led ps (led qs o)
 led-led ps qs (whole rs end) = rw append-assoc
 led-led ps qs (no fault) = refl
 

@@ -4,9 +4,10 @@ use mathlib.Core.List.{List, [], _∷_, map}
 use mathlib.Core.Bool.{Bool}
 use Rattle.integer.specs.Answer.{pick}
 use Rattle.field.specs.Outcome.{Outcome, whole, no, andThen}
-use Rattle.field.specs.Fields.{Form, integer, bytes, fieldAt}
+use Rattle.field.specs.Fields.{Form, integer, bytes, list, fieldAt}
 use Rattle.field.specs.Value.{Value, number, octet, text, items, fullName, mean}
 use Rattle.field.specs.declared.Fault.the-variants.{Forbidden}
+use Rattle.field.specs.declared.Kind.the-variants.{Parameters}
 use Rattle.field.specs.declared.Piece.{Piece}
 use Rattle.field.specs.declared.Piece.the-variants.{Number, Byte, Bytes, List as Listing, Track as Tracked}
 
@@ -25,6 +26,10 @@ place next = field integer λ group. field integer λ object. next group object
 -- and an error code and a reason
 unfoldable pub failure : Layout → Layout
 failure next = field integer λ code. field bytes λ _. next
+
+-- the parameters that end many messages
+unfoldable pub parameters : Layout
+parameters = field (list Parameters) λ _. done
 
 -- what a field hands on to the layout that follows it
 abbrev pub control : Piece → ℕ

@@ -1,18 +1,18 @@
 -- The layouts of CLIENT_SETUP, SERVER_SETUP and GOAWAY: sections 8.2 and 8.3 of source document 004.
 use Prim.Native.Nat.{ℕ}
 use Rattle.field.specs.Fields.{integer, bytes, list}
-use Rattle.field.specs.declared.Kind.the-variants.{Parameters, Versions}
-use Rattle.layout.specs.Layout.{Layout, done, field}
+use Rattle.field.specs.declared.Kind.the-variants.{Versions}
+use Rattle.layout.specs.Layout.{Layout, done, field, parameters}
 use Rattle.session.specs.declared.SessionKind.{SessionKind}
 use Rattle.session.specs.declared.SessionKind.the-variants.{ClientSetup, ServerSetup, GoAway}
 
 -- Supported Versions, Setup Parameters
 unfoldable pub clientSetup : Layout
-clientSetup = field (list Versions) λ _. field (list Parameters) λ _. done
+clientSetup = field (list Versions) λ _. parameters
 
 -- Selected Version, Setup Parameters
 unfoldable pub serverSetup : Layout
-serverSetup = field integer λ version. field (list Parameters) λ _. done
+serverSetup = field integer λ version. parameters
 
 -- New Session URI
 unfoldable pub goAway : Layout

@@ -11,10 +11,6 @@ use Rattle.session.specs.declared.SessionMessage.{SessionMessage}
 use Rattle.session.specs.declared.SessionMessage.the-variants.{ClientSetup as AClientSetup, ServerSetup as AServerSetup, GoAway as AGoAway}
 use Rattle.session.specs.declared.SessionRead.{SessionRead}
 use Rattle.session.specs.declared.SessionRead.the-variants.{Whole, No}
-use Rattle.session.specs.declared.ClientRead.{ClientRead}
-use Rattle.session.specs.declared.ClientRead.the-variants.{Whole as WholeClient, No as NoClient}
-use Rattle.session.specs.declared.ServerRead.{ServerRead}
-use Rattle.session.specs.declared.ServerRead.the-variants.{Whole as WholeServer, No as NoServer}
 
 abbrev pub clientPieces : ClientSetup → List Piece
 clientPieces m = Listing Versions (m .versions) ∷ Listing Parameters (m .parameters) ∷ []
@@ -27,16 +23,6 @@ saidOf (AClientSetup m) = record { type = 0x40; pieces = clientPieces m }
 saidOf (AServerSetup m) = record { type = 0x41; pieces = serverPieces m }
 saidOf (AGoAway uri) = record { type = 0x10; pieces = Bytes uri ∷ [] }
 
--- ---- what readers answer
-
 abbrev pub told : SessionRead → Outcome Typed
 told (Whole m end) = whole (saidOf m) end
 told (No fault) = no fault
-
-abbrev pub toldClient : ClientRead → Outcome (List Piece)
-toldClient (WholeClient m end) = whole (clientPieces m) end
-toldClient (NoClient fault) = no fault
-
-abbrev pub toldServer : ServerRead → Outcome (List Piece)
-toldServer (WholeServer m end) = whole (serverPieces m) end
-toldServer (NoServer fault) = no fault

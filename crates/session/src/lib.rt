@@ -36,13 +36,3 @@ pub enum SessionRead {
     Whole(SessionMessage, usize),
     No(Fault),
 }
-
-enum ClientRead {
-    Whole(ClientSetup, usize),
-    No(Fault),
-}
-
-enum ServerRead {
-    Whole(ServerSetup, usize),
-    No(Fault),
-}

@@ -6,6 +6,7 @@ use crate::SessionMessage;
 use field::Kind;
 use field::Piece;
 use shortest::Fields;
+use shortest::places;
 
 pub fn fields(m: SessionMessage) -> Fields
     ensures { λ r. ⌜ typedOf r ≡ saidOf m ⌝ }
@@ -14,7 +15,7 @@ pub fn fields(m: SessionMessage) -> Fields
         SessionMessage::ClientSetup(x) => {
             let versions = x.versions;
             let parameters = x.parameters;
-            shortest::of2(
+            places::of2(
                 0x40,
                 Piece::List(Kind::Versions, versions),
                 Piece::List(Kind::Parameters, parameters),
@@ -22,12 +23,12 @@ pub fn fields(m: SessionMessage) -> Fields
         }
         SessionMessage::ServerSetup(x) => {
             let parameters = x.parameters;
-            shortest::of2(
+            places::of2(
                 0x41,
                 Piece::Number(x.version),
                 Piece::List(Kind::Parameters, parameters),
             )
         }
-        SessionMessage::GoAway(uri) => shortest::of1(0x10, Piece::Bytes(uri)),
+        SessionMessage::GoAway(uri) => places::of1(0x10, Piece::Bytes(uri)),
     }
 }

@@ -1,20 +1,11 @@
 // The shortest form of a field: judged and measured before a byte is written, then put at the front of what is lent.
 mod judging;
-mod places;
+pub mod places;
 mod putting;
 mod writer;
 
 use field::Piece;
 pub use judging::measure;
-pub use places::of1;
-pub use places::of2;
-pub use places::of3;
-pub use places::of4;
-pub use places::of5;
-pub use places::of6;
-pub use places::of7;
-pub use places::of9;
-pub use places::of10;
 pub use putting::put;
 pub use writer::write;
 pub use writer::write_framed;

@@ -1,26 +1,15 @@
--- `read` meets its contract: each kind by its own reader. Assumes nothing.
+-- `read` meets its contract: a namespace, and what its kind asks for behind it. Assumes nothing.
 use borrow.Author.Needs.{needs}
-use Rattle.layout.proofs.Family.{by-reader, by-fields, by-fault}
+use Rattle.layout.proofs.Family.{typed-no, typed-on}
 use Rattle.layout.proofs.Steps.{stopping, going}
-use Rattle.announce.specs.Layouts.{numberOf, layoutOf, named}
-use Rattle.announce.specs.Told.{toldAsked, toldRefused}
+use Rattle.announce.specs.Layouts.{named, layoutOf}
 use Rattle.announce.proofs.reader.read.Statement.{statement}
 use Rattle.announce.proofs.reader.read.Tie as tie
 
 pub read-spec : {M : Type 1} → statement M
-unfolding numberOf layoutOf named
+unfolding named layoutOf
 read-spec =
     tie.close
     (tie.spec
-    (λ c. search needs) (λ c κs. search needs) (λ c. search needs) (λ c. search needs) (λ c. search needs) (λ c κs. search needs) (λ c. search needs) (λ c. search needs) (λ c. search needs) (λ c κs. search needs) (λ c. search needs) (λ c. search needs)
-    (λ c. search needs) (λ c κs. search needs) (λ c. search needs) (λ c. search needs) (λ c. search needs) (λ c κs. search needs) (λ c. search needs) (λ c. search needs) (λ c. search needs) (λ c κs. search needs) (λ c. search needs) (λ c. search needs)
-    (λ c. search needs) (λ c κs. search needs) (λ c. search needs) (λ c. search needs) (λ c. search needs) (λ c κs. search needs) (λ c. search needs) (λ c. search needs) (λ c. search needs) (λ c κs. search needs) (λ c. search needs) (λ c. search needs)
-    (λ c. search (by-reader numberOf layoutOf toldAsked)) (λ c. search (by-reader numberOf layoutOf toldAsked))
-    (λ c. search (by-fields numberOf layoutOf, going) depth 10) (λ c. search (by-fault numberOf layoutOf, stopping) depth 10)
-    (λ c. search (by-reader numberOf layoutOf toldRefused)) (λ c. search (by-reader numberOf layoutOf toldRefused))
-    (λ c. search (by-fields numberOf layoutOf, going) depth 10) (λ c. search (by-fault numberOf layoutOf, stopping) depth 10)
-    (λ c. search (by-reader numberOf layoutOf toldRefused)) (λ c. search (by-reader numberOf layoutOf toldRefused))
-    (λ c. search (by-reader numberOf layoutOf toldAsked)) (λ c. search (by-reader numberOf layoutOf toldAsked))
-    (λ c. search (by-fields numberOf layoutOf, going) depth 10) (λ c. search (by-fault numberOf layoutOf, stopping) depth 10)
-    (λ c. search (by-reader numberOf layoutOf toldRefused)) (λ c. search (by-reader numberOf layoutOf toldRefused))
-    (λ c. search (by-fields numberOf layoutOf, going) depth 10) (λ c. search (by-fault numberOf layoutOf, stopping) depth 10))
+    (λ c κs. search needs) (λ c. search needs) (λ c. search needs) (λ c κs. search needs) (λ c. typed-no _ (search stopping depth 20))
+    (λ c. search (typed-on, going) depth 20))

@@ -2,6 +2,7 @@
 use borrow.Author.Needs.{needs}
 use Rattle.layout.proofs.Said.{told-of}
 use Rattle.announce.specs.Told.{saidOf}
+use Rattle.announce.proofs.ByKind.{numbered}
 use Rattle.announce.proofs.writer.fields.Statement.{statement}
 use Rattle.announce.proofs.writer.fields.Tie as tie
 
@@ -9,12 +10,7 @@ pub fields-spec : {M : Type 1} → statement M
 fields-spec =
     tie.close
     (tie.spec
-    (λ c. search needs) (λ c κs. search needs) (λ c. search needs) (λ c κs. search needs) (λ c. search needs) (λ c κs. search needs) (λ c. search needs) (λ c κs. search needs) (λ c. search needs) (λ c κs. search needs) (λ c. search needs) (λ c κs. search needs) (λ c. search needs) (λ c κs. search needs) (λ c. search needs) (λ c κs. search needs) (λ c. search needs) (λ c κs. search needs) (λ c. search (told-of saidOf))
-    (λ c. search (told-of saidOf))
-    (λ c. search (told-of saidOf))
-    (λ c. search (told-of saidOf))
-    (λ c. search (told-of saidOf))
-    (λ c. search (told-of saidOf))
-    (λ c. search (told-of saidOf))
-    (λ c. search (told-of saidOf))
-    (λ c. search (told-of saidOf)))
+    (λ c. search needs) (λ c κs. search needs) (λ c κs. search needs)
+    (λ c. search needs) (λ c κs. search needs) (λ c κs. search needs)
+    (λ c. search needs) (λ c κs. search needs) (λ c κs. search needs)
+    (λ c. search (told-of saidOf, numbered)) (λ c. search (told-of saidOf, numbered)) (λ c. search (told-of saidOf, numbered)))

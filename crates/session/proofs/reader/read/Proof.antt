@@ -3,7 +3,6 @@ use borrow.Author.Needs.{needs}
 use Rattle.layout.proofs.Family.{by-reader, by-fields, by-fault}
 use Rattle.layout.proofs.Steps.{stopping, going}
 use Rattle.session.specs.Layouts.{numberOf, layoutOf, goAway}
-use Rattle.session.specs.Told.{toldClient, toldServer}
 use Rattle.session.proofs.reader.read.Statement.{statement}
 use Rattle.session.proofs.reader.read.Tie as tie
 
@@ -12,9 +11,7 @@ unfolding numberOf layoutOf goAway
 read-spec =
     tie.close
     (tie.spec
+    (λ c. search needs) (λ c κs. search needs) (λ c. search needs) (λ c κs. search needs)
     (λ c. search needs) (λ c κs. search needs) (λ c. search needs) (λ c. search needs)
-    (λ c. search needs) (λ c κs. search needs) (λ c. search needs) (λ c. search needs)
-    (λ c. search needs) (λ c κs. search needs) (λ c. search needs) (λ c. search needs)
-    (λ c. search (by-reader numberOf layoutOf toldClient)) (λ c. search (by-reader numberOf layoutOf toldClient))
-    (λ c. search (by-reader numberOf layoutOf toldServer)) (λ c. search (by-reader numberOf layoutOf toldServer))
+    (λ c. search (by-reader numberOf layoutOf)) (λ c. search (by-reader numberOf layoutOf))
     (λ c. search (by-fields numberOf layoutOf, going) depth 10) (λ c. search (by-fault numberOf layoutOf, stopping) depth 10))

@@ -1,9 +1,0 @@
--- `of10` meets its contract. Assumes nothing.
-use mathlib.Core.Path.{refl}
-use Rattle.shortest.specs.Writing.{fieldsOf}
-use Rattle.shortest.proofs.places.of10.Statement.{statement}
-use Rattle.shortest.proofs.places.of10.Tie as tie
-
-pub of10-spec : {M : Type 1} → statement M
-unfolding fieldsOf
-of10-spec = tie.close (tie.spec (λ c. refl))

@@ -1,9 +1,0 @@
--- `of9` meets its contract. Assumes nothing.
-use mathlib.Core.Path.{refl}
-use Rattle.shortest.specs.Writing.{fieldsOf}
-use Rattle.shortest.proofs.places.of9.Statement.{statement}
-use Rattle.shortest.proofs.places.of9.Tie as tie
-
-pub of9-spec : {M : Type 1} → statement M
-unfolding fieldsOf
-of9-spec = tie.close (tie.spec (λ c. refl))
