@@ -1,5 +1,4 @@
 -- Which values a message may hold: what its layout tests.
-use Prim.Native.Nat.{ℕ}
 use mathlib.Core.Bool.{Bool, true}
 use Rattle.field.specs.Outcome.{both}
 use Rattle.field.specs.Rules.{askable, givable}

@@ -2,16 +2,12 @@
 -- source document 004.
 use Prim.Native.Nat.{ℕ}
 use lib.Dec.{eqb}
-use Rattle.field.specs.Fields.{integer, byte, bytes, list, track}
+use Rattle.field.specs.Fields.{integer, byte, track}
 use Rattle.field.specs.Rules.{askable, givable}
-use Rattle.field.specs.declared.Kind.the-variants.{Parameters}
-use Rattle.layout.specs.Layout.{Layout, done, forbidden, field, when, place, failure}
+use Rattle.layout.specs.Layout.{Layout, done, forbidden, field, when, place, failure, parameters}
 use Rattle.fetch.specs.Rules.{isStatus, mayHold}
 use Rattle.fetch.specs.declared.FetchKind.{FetchKind}
 use Rattle.fetch.specs.declared.FetchKind.the-variants.{Fetch, FetchOk, FetchError, FetchCancel, TrackStatusRequest, TrackStatus}
-
-unfoldable pub parameters : Layout
-parameters = field (list Parameters) λ _. done
 
 -- Track Namespace, Track Name, StartGroup, StartObject, EndGroup, EndObject
 unfoldable pub standalone : Layout
@@ -60,18 +56,17 @@ largest status =
 unfoldable pub trackStatus : Layout
 trackStatus = field track λ _. field integer λ status. when (isStatus status) (largest status) forbidden
 
-unfoldable pub numberOf : FetchKind → ℕ
-numberOf Fetch = 0x16
-numberOf FetchOk = 0x18
-numberOf FetchError = 0x19
-numberOf FetchCancel = 0x17
-numberOf TrackStatusRequest = 0xD
-numberOf TrackStatus = 0xE
+-- each kind's number and layout
+unfoldable pub rowOf : FetchKind → ℕ × Layout
+rowOf Fetch = (0x16, fetch)
+rowOf FetchOk = (0x18, fetchOk)
+rowOf FetchError = (0x19, fetchError)
+rowOf FetchCancel = (0x17, fetchCancel)
+rowOf TrackStatusRequest = (0xD, trackStatusRequest)
+rowOf TrackStatus = (0xE, trackStatus)
 
-unfoldable pub layoutOf : FetchKind → Layout
-layoutOf Fetch = fetch
-layoutOf FetchOk = fetchOk
-layoutOf FetchError = fetchError
-layoutOf FetchCancel = fetchCancel
-layoutOf TrackStatusRequest = trackStatusRequest
-layoutOf TrackStatus = trackStatus
+abbrev pub numberOf : FetchKind → ℕ
+numberOf kind = rowOf kind .0
+
+abbrev pub layoutOf : FetchKind → Layout
+layoutOf kind = rowOf kind .1

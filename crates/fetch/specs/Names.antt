@@ -1,13 +1,10 @@
 -- The name of a message's track: where it stands in the bytes that the message was read from.
+use Rattle.field.specs.Value.{nowhere}
 use Rattle.field.specs.declared.Span.{Span}
 use Rattle.fetch.specs.declared.Range.{Range}
 use Rattle.fetch.specs.declared.Range.the-variants.{Standalone, Joining}
 use Rattle.fetch.specs.declared.FetchMessage.{FetchMessage}
 use Rattle.fetch.specs.declared.FetchMessage.the-variants.{Fetch, FetchOk, FetchError, FetchCancel, TrackStatusRequest, TrackStatus}
-
--- the part of a message that names no track
-abbrev pub nowhere : Span
-nowhere = record { start = 0; end = 0 }
 
 -- a standalone fetch names one, and a joining fetch a subscription
 abbrev pub rangeName : Range → Span

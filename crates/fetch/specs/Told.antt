@@ -8,7 +8,9 @@ use Rattle.field.specs.declared.Kind.the-variants.{Parameters}
 use Rattle.field.specs.declared.Piece.{Piece}
 use Rattle.field.specs.declared.Piece.the-variants.{Number, Byte, Bytes, List as Listing, Track as Tracked}
 use Rattle.layout.specs.Typed.{Typed}
-use Rattle.fetch.specs.declared.Head.{Head}
+use Rattle.fetch.specs.declared.parameters.Head.{Head}
+use Rattle.fetch.specs.declared.parameters.Front.{Front}
+use Rattle.fetch.specs.declared.parameters.Front.the-variants.{Fetch as FrontOfFetch, FetchOk as FrontOfOk}
 use Rattle.fetch.specs.declared.Range.{Range}
 use Rattle.fetch.specs.declared.Range.the-variants.{Standalone, Joining}
 use Rattle.fetch.specs.declared.Fetch.{Fetch}
@@ -19,14 +21,6 @@ use Rattle.fetch.specs.declared.FetchMessage.{FetchMessage}
 use Rattle.fetch.specs.declared.FetchMessage.the-variants.{Fetch as AFetch, FetchOk as AFetchOk, FetchError as AFetchError, FetchCancel as AFetchCancel, TrackStatusRequest as ATrackStatusRequest, TrackStatus as ATrackStatus}
 use Rattle.fetch.specs.declared.FetchRead.{FetchRead}
 use Rattle.fetch.specs.declared.FetchRead.the-variants.{Whole, No}
-use Rattle.fetch.specs.declared.RangeRead.{RangeRead}
-use Rattle.fetch.specs.declared.RangeRead.the-variants.{Whole as WholeRange, No as NoRange}
-use Rattle.fetch.specs.declared.OkRead.{OkRead}
-use Rattle.fetch.specs.declared.OkRead.the-variants.{Whole as WholeOk, No as NoOk}
-use Rattle.fetch.specs.declared.ErrorRead.{ErrorRead}
-use Rattle.fetch.specs.declared.ErrorRead.the-variants.{Whole as WholeError, No as NoError}
-use Rattle.fetch.specs.declared.StatusRead.{StatusRead}
-use Rattle.fetch.specs.declared.StatusRead.the-variants.{Whole as WholeStatus, No as NoStatus}
 
 abbrev pub headPieces : Head → List Piece
 headPieces h = Number (h .id) ∷ Byte (h .priority) ∷ Byte (h .order) ∷ []
@@ -64,24 +58,13 @@ saidOf (AFetchCancel id) = record { type = 0x17; pieces = Number id ∷ [] }
 saidOf (ATrackStatusRequest t) = record { type = 0xD; pieces = Tracked t ∷ [] }
 saidOf (ATrackStatus m) = record { type = 0xE; pieces = statusPieces m }
 
--- ---- what readers answer
-
 abbrev pub told : FetchRead → Outcome Typed
 told (Whole m end) = whole (saidOf m) end
 told (No fault) = no fault
 
-abbrev pub toldRange : RangeRead → Outcome (List Piece)
-toldRange (WholeRange m end) = whole (fetchPieces m) end
-toldRange (NoRange fault) = no fault
+-- ---- what a reader hands on: what stands before the parameters
 
-abbrev pub toldOk : OkRead → Outcome (List Piece)
-toldOk (WholeOk m end) = whole (okPieces m) end
-toldOk (NoOk fault) = no fault
-
-abbrev pub toldError : ErrorRead → Outcome (List Piece)
-toldError (WholeError m end) = whole (errorPieces m) end
-toldError (NoError fault) = no fault
-
-abbrev pub toldStatus : StatusRead → Outcome (List Piece)
-toldStatus (WholeStatus m end) = whole (statusPieces m) end
-toldStatus (NoStatus fault) = no fault
+abbrev pub frontOf : Front → Typed
+frontOf (FrontOfFetch head range) = record { type = 0x16; pieces = headPieces head ++ rangePieces range }
+frontOf (FrontOfOk id order endOfTrack largest) =
+    record { type = 0x18; pieces = Number id ∷ Byte order ∷ Byte endOfTrack ∷ Number (largest .group) ∷ Number (largest .object) ∷ [] }

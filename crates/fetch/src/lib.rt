@@ -1,5 +1,6 @@
 // The messages that retrieve what was published: FETCH and the answers to it, and the status of a track.
 mod name;
+mod parameters;
 mod reader;
 mod rules;
 mod writer;
@@ -15,6 +16,15 @@ pub use rules::is_status;
 pub use rules::may_hold;
 pub use writer::fields;
 pub use writer::is_allowed;
+
+pub enum FetchKind {
+    Fetch,
+    FetchOk,
+    FetchError,
+    FetchCancel,
+    TrackStatusRequest,
+    TrackStatus,
+}
 
 // Objects of a track, from one place to another.
 pub struct Standalone {
@@ -71,44 +81,8 @@ pub enum FetchMessage {
     TrackStatus(TrackStatus),
 }
 
-pub enum FetchKind {
-    Fetch,
-    FetchOk,
-    FetchError,
-    FetchCancel,
-    TrackStatusRequest,
-    TrackStatus,
-}
-
 // A message and where it ends, or why it is refused.
 pub enum FetchRead {
     Whole(FetchMessage, usize),
-    No(Fault),
-}
-
-// What stands before the fetch type.
-struct Head {
-    id: u64,
-    priority: u8,
-    order: u8,
-}
-
-enum RangeRead {
-    Whole(Fetch, usize),
-    No(Fault),
-}
-
-enum OkRead {
-    Whole(FetchOk, usize),
-    No(Fault),
-}
-
-enum ErrorRead {
-    Whole(FetchError, usize),
-    No(Fault),
-}
-
-enum StatusRead {
-    Whole(TrackStatus, usize),
     No(Fault),
 }

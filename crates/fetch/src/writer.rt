@@ -11,6 +11,7 @@ use crate::rules::may_hold;
 use field::Kind;
 use field::Piece;
 use shortest::Fields;
+use shortest::places;
 
 pub fn fields(m: FetchMessage) -> Fields
     ensures { λ r. ⌜ typedOf r ≡ saidOf m ⌝ }
@@ -20,7 +21,7 @@ pub fn fields(m: FetchMessage) -> Fields
         FetchMessage::FetchOk(x) => {
             let largest = x.largest;
             let parameters = x.parameters;
-            shortest::of6(
+            places::of6(
                 0x18,
                 Piece::Number(x.id),
                 Piece::Byte(x.order),
@@ -33,19 +34,19 @@ pub fn fields(m: FetchMessage) -> Fields
         FetchMessage::FetchError(x) => {
             let failure = x.failure;
             let reason = failure.reason;
-            shortest::of3(
+            places::of3(
                 0x19,
                 Piece::Number(x.id),
                 Piece::Number(failure.code),
                 Piece::Bytes(reason),
             )
         }
-        FetchMessage::FetchCancel(id) => shortest::of1(0x17, Piece::Number(id)),
-        FetchMessage::TrackStatusRequest(t) => shortest::of1(0xD, Piece::Track(t)),
+        FetchMessage::FetchCancel(id) => places::of1(0x17, Piece::Number(id)),
+        FetchMessage::TrackStatusRequest(t) => places::of1(0xD, Piece::Track(t)),
         FetchMessage::TrackStatus(x) => {
             let track = x.track;
             let largest = x.largest;
-            shortest::of4(
+            places::of4(
                 0xE,
                 Piece::Track(track),
                 Piece::Number(x.status),
@@ -70,8 +71,9 @@ fn fetch_fields(x: Fetch) -> Fields
             let track = r.track;
             let start = r.start;
             let end = r.end;
-            shortest::of10(
+            places::of_ten(
                 0x16,
+                10,
                 id,
                 priority,
                 order,
@@ -86,7 +88,7 @@ fn fetch_fields(x: Fetch) -> Fields
         }
         Range::Joining(j) => {
             let kind = joining_type(j.absolute);
-            shortest::of7(
+            places::of7(
                 0x16,
                 id,
                 priority,

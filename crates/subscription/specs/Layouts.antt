@@ -2,16 +2,12 @@
 -- SUBSCRIBES_BLOCKED: sections 8.4 to 8.11 of source document 004.
 use Prim.Native.Nat.{ℕ}
 use lib.Dec.{eqb}
-use Rattle.field.specs.Fields.{integer, byte, bytes, list, track}
+use Rattle.field.specs.Fields.{integer, byte, bytes, track}
 use Rattle.field.specs.Rules.{askable, givable}
-use Rattle.field.specs.declared.Kind.the-variants.{Parameters}
-use Rattle.layout.specs.Layout.{Layout, done, forbidden, field, when, place, failure}
+use Rattle.layout.specs.Layout.{Layout, done, forbidden, field, when, place, failure, parameters}
 use Rattle.subscription.specs.Rules.{endsAfter}
 use Rattle.subscription.specs.declared.SubscriptionKind.{SubscriptionKind}
 use Rattle.subscription.specs.declared.SubscriptionKind.the-variants.{SubscribeUpdate, Subscribe, SubscribeOk, SubscribeError, Unsubscribe, SubscribeDone, MaxSubscribeId, SubscribesBlocked}
-
-unfoldable pub parameters : Layout
-parameters = field (list Parameters) λ _. done
 
 -- Subscribe ID, StartGroup, StartObject, EndGroup, Subscriber Priority
 unfoldable pub subscribeUpdate : Layout
@@ -60,22 +56,19 @@ subscribeDone = field integer λ id. field integer λ status. field integer λ s
 unfoldable pub only : Layout
 only = field integer λ id. done
 
-unfoldable pub numberOf : SubscriptionKind → ℕ
-numberOf SubscribeUpdate = 0x2
-numberOf Subscribe = 0x3
-numberOf SubscribeOk = 0x4
-numberOf SubscribeError = 0x5
-numberOf Unsubscribe = 0xA
-numberOf SubscribeDone = 0xB
-numberOf MaxSubscribeId = 0x15
-numberOf SubscribesBlocked = 0x1A
+-- each kind's number and layout
+unfoldable pub rowOf : SubscriptionKind → ℕ × Layout
+rowOf SubscribeUpdate = (0x2, subscribeUpdate)
+rowOf Subscribe = (0x3, subscribe)
+rowOf SubscribeOk = (0x4, subscribeOk)
+rowOf SubscribeError = (0x5, subscribeError)
+rowOf Unsubscribe = (0xA, only)
+rowOf SubscribeDone = (0xB, subscribeDone)
+rowOf MaxSubscribeId = (0x15, only)
+rowOf SubscribesBlocked = (0x1A, only)
 
-unfoldable pub layoutOf : SubscriptionKind → Layout
-layoutOf SubscribeUpdate = subscribeUpdate
-layoutOf Subscribe = subscribe
-layoutOf SubscribeOk = subscribeOk
-layoutOf SubscribeError = subscribeError
-layoutOf Unsubscribe = only
-layoutOf SubscribeDone = subscribeDone
-layoutOf MaxSubscribeId = only
-layoutOf SubscribesBlocked = only
+abbrev pub numberOf : SubscriptionKind → ℕ
+numberOf kind = rowOf kind .0
+
+abbrev pub layoutOf : SubscriptionKind → Layout
+layoutOf kind = rowOf kind .1

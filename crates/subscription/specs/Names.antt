@@ -1,11 +1,8 @@
 -- The name of a message's track: where it stands in the bytes that the message was read from.
+use Rattle.field.specs.Value.{nowhere}
 use Rattle.field.specs.declared.Span.{Span}
 use Rattle.subscription.specs.declared.SubscriptionMessage.{SubscriptionMessage}
 use Rattle.subscription.specs.declared.SubscriptionMessage.the-variants.{SubscribeUpdate, Subscribe, SubscribeOk, SubscribeError, Unsubscribe, SubscribeDone, MaxSubscribeId, SubscribesBlocked}
-
--- the part of a message that names no track
-abbrev pub nowhere : Span
-nowhere = record { start = 0; end = 0 }
 
 -- SUBSCRIBE names one
 abbrev pub nameOf : SubscriptionMessage → Span

@@ -5,8 +5,10 @@ use Rattle.field.specs.declared.Kind.the-variants.{Parameters}
 use Rattle.field.specs.declared.Piece.{Piece}
 use Rattle.field.specs.declared.Piece.the-variants.{Number, Byte, Bytes, List as Listing, Track as Tracked}
 use Rattle.layout.specs.Typed.{Typed}
-use Rattle.subscription.specs.declared.Head.{Head}
-use Rattle.subscription.specs.declared.Granted.{Granted}
+use Rattle.subscription.specs.declared.parameters.Head.{Head}
+use Rattle.subscription.specs.declared.parameters.Granted.{Granted}
+use Rattle.subscription.specs.declared.parameters.Front.{Front}
+use Rattle.subscription.specs.declared.parameters.Front.the-variants.{SubscribeUpdate as FrontOfUpdate, Subscribe as FrontOfSubscribe, SubscribeOk as FrontOfOk}
 use Rattle.subscription.specs.declared.Filter.{Filter}
 use Rattle.subscription.specs.declared.Filter.the-variants.{Latest, From, Range}
 use Rattle.subscription.specs.declared.Content.{Content}
@@ -20,16 +22,6 @@ use Rattle.subscription.specs.declared.SubscriptionMessage.{Subscription
 use Rattle.subscription.specs.declared.SubscriptionMessage.the-variants.{SubscribeUpdate as ASubscribeUpdate, Subscribe as ASubscribe, SubscribeOk as ASubscribeOk, SubscribeError as ASubscribeError, Unsubscribe as AUnsubscribe, SubscribeDone as ASubscribeDone, MaxSubscribeId as AMaxSubscribeId, SubscribesBlocked as ASubscribesBlocked}
 use Rattle.subscription.specs.declared.SubscriptionRead.{SubscriptionRead}
 use Rattle.subscription.specs.declared.SubscriptionRead.the-variants.{Whole, No}
-use Rattle.subscription.specs.declared.SubscribeRead.{SubscribeRead}
-use Rattle.subscription.specs.declared.SubscribeRead.the-variants.{Whole as WholeSubscribe, No as NoSubscribe}
-use Rattle.subscription.specs.declared.OkRead.{OkRead}
-use Rattle.subscription.specs.declared.OkRead.the-variants.{Whole as WholeOk, No as NoOk}
-use Rattle.subscription.specs.declared.ErrorRead.{ErrorRead}
-use Rattle.subscription.specs.declared.ErrorRead.the-variants.{Whole as WholeError, No as NoError}
-use Rattle.subscription.specs.declared.UpdateRead.{UpdateRead}
-use Rattle.subscription.specs.declared.UpdateRead.the-variants.{Whole as WholeUpdate, No as NoUpdate}
-use Rattle.subscription.specs.declared.DoneRead.{DoneRead}
-use Rattle.subscription.specs.declared.DoneRead.the-variants.{Whole as WholeDone, No as NoDone}
 
 -- ---- SUBSCRIBE
 
@@ -82,28 +74,14 @@ saidOf (ASubscribeDone m) = record { type = 0xB; pieces = donePieces m }
 saidOf (AMaxSubscribeId id) = record { type = 0x15; pieces = Number id ∷ [] }
 saidOf (ASubscribesBlocked id) = record { type = 0x1A; pieces = Number id ∷ [] }
 
--- ---- what readers answer
-
 abbrev pub told : SubscriptionRead → Outcome Typed
 told (Whole m end) = whole (saidOf m) end
 told (No fault) = no fault
 
-abbrev pub toldSubscribe : SubscribeRead → Outcome (List Piece)
-toldSubscribe (WholeSubscribe m end) = whole (subscribePieces m) end
-toldSubscribe (NoSubscribe fault) = no fault
+-- ---- what a reader hands on: what stands before the parameters
 
-abbrev pub toldOk : OkRead → Outcome (List Piece)
-toldOk (WholeOk m end) = whole (okPieces m) end
-toldOk (NoOk fault) = no fault
-
-abbrev pub toldError : ErrorRead → Outcome (List Piece)
-toldError (WholeError m end) = whole (errorPieces m) end
-toldError (NoError fault) = no fault
-
-abbrev pub toldUpdate : UpdateRead → Outcome (List Piece)
-toldUpdate (WholeUpdate m end) = whole (updatePieces m) end
-toldUpdate (NoUpdate fault) = no fault
-
-abbrev pub toldDone : DoneRead → Outcome (List Piece)
-toldDone (WholeDone m end) = whole (donePieces m) end
-toldDone (NoDone fault) = no fault
+abbrev pub frontOf : Front → Typed
+frontOf (FrontOfUpdate id start endGroup priority) =
+    record { type = 0x2; pieces = Number id ∷ Number (start .group) ∷ Number (start .object) ∷ Number endGroup ∷ Byte priority ∷ [] }
+frontOf (FrontOfSubscribe head filter) = record { type = 0x3; pieces = headPieces head ++ filterPieces filter }
+frontOf (FrontOfOk granted content) = record { type = 0x4; pieces = grantedPieces granted ++ contentPieces content }

@@ -1,5 +1,6 @@
 // The messages of subscriptions: SUBSCRIBE and the answers to it, and how many there may be.
 mod name;
+mod parameters;
 mod reader;
 mod rules;
 mod writer;
@@ -15,6 +16,26 @@ pub use reader::read;
 pub use rules::ends_after;
 pub use writer::fields;
 pub use writer::is_allowed;
+
+pub enum SubscriptionKind {
+    SubscribeUpdate,
+    Subscribe,
+    SubscribeOk,
+    SubscribeError,
+    Unsubscribe,
+    SubscribeDone,
+    MaxSubscribeId,
+    SubscribesBlocked,
+}
+
+// The end group is kept as it is sent: plus 1, and 0 for none.
+pub struct SubscribeUpdate {
+    pub id: u64,
+    pub start: Place,
+    pub end_group: u64,
+    pub priority: u8,
+    pub parameters: Entries,
+}
 
 // Which objects are asked for: from the latest on; from a place on; from a place to the end of a group.
 pub enum Filter {
@@ -53,15 +74,6 @@ pub struct SubscribeError {
     pub alias: u64,
 }
 
-// The end group is kept as it is sent: plus 1, and 0 for none.
-pub struct SubscribeUpdate {
-    pub id: u64,
-    pub start: Place,
-    pub end_group: u64,
-    pub priority: u8,
-    pub parameters: Entries,
-}
-
 pub struct SubscribeDone {
     pub id: u64,
     pub status: u64,
@@ -81,60 +93,8 @@ pub enum SubscriptionMessage {
     SubscribesBlocked(u64),
 }
 
-pub enum SubscriptionKind {
-    SubscribeUpdate,
-    Subscribe,
-    SubscribeOk,
-    SubscribeError,
-    Unsubscribe,
-    SubscribeDone,
-    MaxSubscribeId,
-    SubscribesBlocked,
-}
-
 // A message and where it ends, or why it is refused.
 pub enum SubscriptionRead {
     Whole(SubscriptionMessage, usize),
-    No(Fault),
-}
-
-// What stands before the filter of a SUBSCRIBE.
-struct Head {
-    id: u64,
-    alias: u64,
-    track: Track,
-    priority: u8,
-    order: u8,
-}
-
-// What stands before the content of a SUBSCRIBE_OK.
-struct Granted {
-    id: u64,
-    expires: u64,
-    order: u8,
-}
-
-enum SubscribeRead {
-    Whole(Subscribe, usize),
-    No(Fault),
-}
-
-enum OkRead {
-    Whole(SubscribeOk, usize),
-    No(Fault),
-}
-
-enum ErrorRead {
-    Whole(SubscribeError, usize),
-    No(Fault),
-}
-
-enum UpdateRead {
-    Whole(SubscribeUpdate, usize),
-    No(Fault),
-}
-
-enum DoneRead {
-    Whole(SubscribeDone, usize),
     No(Fault),
 }

@@ -13,6 +13,7 @@ use crate::rules::ends_after;
 use field::Kind;
 use field::Piece;
 use shortest::Fields;
+use shortest::places;
 
 pub fn fields(m: SubscriptionMessage) -> Fields
     ensures { λ r. ⌜ typedOf r ≡ saidOf m ⌝ }
@@ -24,7 +25,7 @@ pub fn fields(m: SubscriptionMessage) -> Fields
         SubscriptionMessage::SubscribeError(x) => {
             let failure = x.failure;
             let reason = failure.reason;
-            shortest::of4(
+            places::of4(
                 0x5,
                 Piece::Number(x.id),
                 Piece::Number(failure.code),
@@ -32,10 +33,10 @@ pub fn fields(m: SubscriptionMessage) -> Fields
                 Piece::Number(x.alias),
             )
         }
-        SubscriptionMessage::Unsubscribe(id) => shortest::of1(0xA, Piece::Number(id)),
+        SubscriptionMessage::Unsubscribe(id) => places::of1(0xA, Piece::Number(id)),
         SubscriptionMessage::SubscribeDone(x) => {
             let reason = x.reason;
-            shortest::of4(
+            places::of4(
                 0xB,
                 Piece::Number(x.id),
                 Piece::Number(x.status),
@@ -43,8 +44,8 @@ pub fn fields(m: SubscriptionMessage) -> Fields
                 Piece::Bytes(reason),
             )
         }
-        SubscriptionMessage::MaxSubscribeId(id) => shortest::of1(0x15, Piece::Number(id)),
-        SubscriptionMessage::SubscribesBlocked(id) => shortest::of1(0x1A, Piece::Number(id)),
+        SubscriptionMessage::MaxSubscribeId(id) => places::of1(0x15, Piece::Number(id)),
+        SubscriptionMessage::SubscribesBlocked(id) => places::of1(0x1A, Piece::Number(id)),
     }
 }
 
@@ -53,7 +54,7 @@ fn update_fields(x: SubscribeUpdate) -> Fields
 {
     let start = x.start;
     let parameters = x.parameters;
-    shortest::of6(
+    places::of6(
         0x2,
         Piece::Number(x.id),
         Piece::Number(start.group),
@@ -78,18 +79,18 @@ fn subscribe_fields(x: Subscribe) -> Fields
     let e = Piece::Byte(x.order);
     let last = Piece::List(Kind::Parameters, parameters);
     match filter {
-        Filter::Latest => shortest::of7(0x3, a, b, c, d, e, Piece::Number(2), last),
+        Filter::Latest => places::of7(0x3, a, b, c, d, e, Piece::Number(2), last),
         Filter::From(start) => {
             let group = Piece::Number(start.group);
             let object = Piece::Number(start.object);
-            shortest::of9(0x3, a, b, c, d, e, Piece::Number(3), group, object, last)
+            places::of9(0x3, a, b, c, d, e, Piece::Number(3), group, object, last)
         }
         Filter::Range(start, end_group) => {
             let kind = Piece::Number(4);
             let group = Piece::Number(start.group);
             let object = Piece::Number(start.object);
             let end = Piece::Number(end_group);
-            shortest::of10(0x3, a, b, c, d, e, kind, group, object, end, last)
+            places::of_ten(0x3, 10, a, b, c, d, e, kind, group, object, end, last)
         }
     }
 }
@@ -104,11 +105,11 @@ fn ok_fields(x: SubscribeOk) -> Fields
     let last = Piece::List(Kind::Parameters, parameters);
     let content = x.content;
     match content {
-        Content::Nothing => shortest::of5(0x4, id, expires, order, Piece::Byte(0), last),
+        Content::Nothing => places::of5(0x4, id, expires, order, Piece::Byte(0), last),
         Content::Largest(largest) => {
             let group = Piece::Number(largest.group);
             let object = Piece::Number(largest.object);
-            shortest::of7(0x4, id, expires, order, Piece::Byte(1), group, object, last)
+            places::of7(0x4, id, expires, order, Piece::Byte(1), group, object, last)
         }
     }
 }

@@ -1,6 +1,7 @@
 -- `read_joining` meets its contract. Assumes nothing.
 use borrow.Author.Needs.{needs}
-use Rattle.layout.proofs.Steps.{led-no, passed-on, stopping, going}
+use Rattle.layout.proofs.Family.{behind-no, behind-on}
+use Rattle.layout.proofs.Steps.{stopping, going}
 use Rattle.fetch.specs.Layouts.{joining}
 use Rattle.fetch.proofs.reader.read_joining.Statement.{statement}
 use Rattle.fetch.proofs.reader.read_joining.Tie as tie
@@ -10,6 +11,6 @@ unfolding joining
 read-joining-spec =
     tie.close
     (tie.spec
-    (λ c κs. search needs) (λ c. search needs) (λ c. search needs) (λ c. led-no _ (search stopping depth 20))
-    (λ c κs. search needs) (λ c. search needs) (λ c. search needs) (λ c. led-no _ (search stopping depth 20))
-    (λ c κs. search needs) (λ c. search (passed-on, going) depth 20))
+    (λ c κs. search needs) (λ c. search needs) (λ c. search needs) (λ c. behind-no _ _ (search stopping depth 20))
+    (λ c κs. search needs) (λ c. search needs) (λ c. search needs) (λ c. behind-no _ _ (search stopping depth 20))
+    (λ c κs. search needs) (λ c. search (behind-on, going) depth 20))

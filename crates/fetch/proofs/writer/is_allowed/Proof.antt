@@ -1,8 +1,8 @@
 -- `is_allowed` meets its contract. Assumes nothing.
 use borrow.Author.Needs.{needs}
-use mathlib.Core.Path.{refl}
+use Rattle.layout.proofs.Said.{told-of}
 use Rattle.fetch.specs.Allowed.{allowedOf}
-use Rattle.fetch.proofs.Allows.{fetch-is, ok-is, status-no, group-no, object-is, plain}
+use Rattle.fetch.proofs.Allows.{status-no, group-no, object-is}
 use Rattle.fetch.proofs.writer.is_allowed.Statement.{statement}
 use Rattle.fetch.proofs.writer.is_allowed.Tie as tie
 
@@ -13,9 +13,9 @@ is-allowed-spec =
     (tie.spec
     (λ c. search needs) (λ c κs. search needs) (λ c. search needs) (λ c κs. search needs) (λ c. search needs) (λ c. search needs) (λ c. search needs) (λ c. search needs) (λ c κs. search needs) (λ c. search status-no)
     (λ c κs. search needs) (λ c. search group-no)
-    (λ c κs. search needs) (λ c. search fetch-is)
-    (λ c. search ok-is)
-    (λ c. search plain)
-    (λ c. search plain)
-    (λ c. search plain)
+    (λ c κs. search needs) (λ c. search (told-of allowedOf))
+    (λ c. search (told-of allowedOf))
+    (λ c. search (told-of allowedOf))
+    (λ c. search (told-of allowedOf))
+    (λ c. search (told-of allowedOf))
     (λ c. search object-is))

@@ -2,29 +2,24 @@
 use borrow.Author.Needs.{needs}
 use Rattle.layout.proofs.Family.{by-reader, by-fields, by-fault}
 use Rattle.layout.proofs.Steps.{stopping, going}
-use Rattle.subscription.specs.Layouts.{numberOf, layoutOf, only}
-use Rattle.subscription.specs.Told.{toldSubscribe, toldOk, toldError, toldUpdate, toldDone}
+use Rattle.subscription.specs.Layouts.{rowOf, numberOf, layoutOf, only}
 use Rattle.subscription.proofs.reader.read.Statement.{statement}
 use Rattle.subscription.proofs.reader.read.Tie as tie
 
 pub read-spec : {M : Type 1} → statement M
-unfolding numberOf layoutOf only
+unfolding rowOf only
 read-spec =
     tie.close
     (tie.spec
+    (λ c. search needs) (λ c κs. search needs) (λ c. search needs) (λ c κs. search needs)
+    (λ c. search needs) (λ c κs. search needs) (λ c. search needs) (λ c κs. search needs)
+    (λ c. search needs) (λ c κs. search needs) (λ c. search needs) (λ c. search needs)
+    (λ c. search needs) (λ c κs. search needs)
     (λ c. search needs) (λ c κs. search needs) (λ c. search needs) (λ c. search needs)
     (λ c. search needs) (λ c κs. search needs) (λ c. search needs) (λ c. search needs)
-    (λ c. search needs) (λ c κs. search needs) (λ c. search needs) (λ c. search needs)
-    (λ c. search needs) (λ c κs. search needs) (λ c. search needs) (λ c. search needs)
-    (λ c. search needs) (λ c κs. search needs) (λ c. search needs) (λ c. search needs)
-    (λ c. search needs) (λ c κs. search needs) (λ c. search needs) (λ c. search needs)
-    (λ c. search needs) (λ c κs. search needs) (λ c. search needs) (λ c. search needs)
-    (λ c. search needs) (λ c κs. search needs) (λ c. search needs) (λ c. search needs)
-    (λ c. search (by-reader numberOf layoutOf toldUpdate)) (λ c. search (by-reader numberOf layoutOf toldUpdate))
-    (λ c. search (by-reader numberOf layoutOf toldSubscribe)) (λ c. search (by-reader numberOf layoutOf toldSubscribe))
-    (λ c. search (by-reader numberOf layoutOf toldOk)) (λ c. search (by-reader numberOf layoutOf toldOk))
-    (λ c. search (by-reader numberOf layoutOf toldError)) (λ c. search (by-reader numberOf layoutOf toldError))
+    (λ c. search (by-reader numberOf layoutOf)) (λ c. search (by-reader numberOf layoutOf))
+    (λ c. search (by-reader numberOf layoutOf)) (λ c. search (by-reader numberOf layoutOf))
     (λ c. search (by-fields numberOf layoutOf, going) depth 10) (λ c. search (by-fault numberOf layoutOf, stopping) depth 10)
-    (λ c. search (by-reader numberOf layoutOf toldDone)) (λ c. search (by-reader numberOf layoutOf toldDone))
+    (λ c. search (by-reader numberOf layoutOf))
     (λ c. search (by-fields numberOf layoutOf, going) depth 10) (λ c. search (by-fault numberOf layoutOf, stopping) depth 10)
     (λ c. search (by-fields numberOf layoutOf, going) depth 10) (λ c. search (by-fault numberOf layoutOf, stopping) depth 10))

@@ -1,6 +1,7 @@
 -- `read_content` meets its contract. Assumes nothing.
 use borrow.Author.Needs.{needs}
-use Rattle.layout.proofs.Steps.{led-no, passed-on, byte-as, byte-past-as, stopping, going}
+use Rattle.layout.proofs.Family.{behind-no, behind-on}
+use Rattle.layout.proofs.Steps.{byte-as, byte-past-as, stopping, going}
 use Rattle.subscription.specs.Layouts.{content}
 use Rattle.subscription.proofs.reader.read_content.Statement.{statement}
 use Rattle.subscription.proofs.reader.read_content.Tie as tie
@@ -10,8 +11,8 @@ unfolding content
 read-content-spec =
     tie.close
     (tie.spec
-    (λ c κs. search needs) (λ c. search needs) (λ c. search needs) (λ c. led-no _ (search stopping depth 20))
-    (λ c κs. search needs) (λ c κs. search needs) (λ c. search needs) (λ c. search needs) (λ c. led-no _ (search (byte-past-as, stopping) depth 20))
-    (λ c κs. search needs) (λ c. search (passed-on, byte-as, going) depth 20)
-    (λ c. search (passed-on, byte-as, going) depth 20)
-    (λ c. led-no _ (search stopping depth 20)))
+    (λ c κs. search needs) (λ c. search needs) (λ c. search needs) (λ c. behind-no _ _ (search stopping depth 20))
+    (λ c κs. search needs) (λ c κs. search needs) (λ c. search needs) (λ c. search needs) (λ c. behind-no _ _ (search (byte-past-as, stopping) depth 20))
+    (λ c κs. search needs) (λ c. search (behind-on, byte-as, going) depth 20)
+    (λ c. search (behind-on, byte-as, going) depth 20)
+    (λ c. behind-no _ _ (search stopping depth 20)))
