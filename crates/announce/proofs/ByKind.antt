@@ -10,7 +10,7 @@ use Rattle.layout.specs.Typed.{Typed, led, typed}
 use Rattle.layout.proofs.Family.{behind-no, behind-whole}
 use Rattle.layout.proofs.Steps.{To, Stops}
 use Rattle.announce.specs.Layouts.{rest, numberOf}
-use Rattle.announce.specs.declared.AnnounceKind.{AnnounceKind}
+use Rattle.announce.specs.declared.kinds.AnnounceKind.{AnnounceKind}
 
 -- its number, where it was looked up
 pub numbered : {n k : ℕ} {ps : List Piece} {t : Typed} → n ≡ k → t ≡ record { type = n; pieces = ps } → t ≡ record { type = k; pieces = ps }

@@ -9,11 +9,11 @@ use Rattle.layout.specs.Typed.{Typed}
 use Rattle.layout.proofs.Parts.{once, entriesIn, failureIn}
 use Rattle.announce.specs.Layouts.{numberOf}
 use Rattle.announce.specs.Told.{saidOf, told}
-use Rattle.announce.specs.declared.Naming.the-variants.{AnnounceOk, Unannounce, SubscribeAnnouncesOk, UnsubscribeAnnounces}
-use Rattle.announce.specs.declared.Asking.the-variants.{Announce, SubscribeAnnounces}
-use Rattle.announce.specs.declared.Refusing.the-variants.{AnnounceError, AnnounceCancel, SubscribeAnnouncesError}
-use Rattle.announce.specs.declared.AnnounceKind.{AnnounceKind}
-use Rattle.announce.specs.declared.AnnounceKind.the-variants.{Named, Asked, Refused}
+use Rattle.announce.specs.declared.kinds.Naming.the-variants.{AnnounceOk, Unannounce, SubscribeAnnouncesOk, UnsubscribeAnnounces}
+use Rattle.announce.specs.declared.kinds.Asking.the-variants.{Announce, SubscribeAnnounces}
+use Rattle.announce.specs.declared.kinds.Refusing.the-variants.{AnnounceError, AnnounceCancel, SubscribeAnnouncesError}
+use Rattle.announce.specs.declared.kinds.AnnounceKind.{AnnounceKind}
+use Rattle.announce.specs.declared.kinds.AnnounceKind.the-variants.{Named, Asked, Refused}
 use Rattle.announce.specs.declared.AnnounceMessage.{AnnounceMessage}
 use Rattle.announce.specs.declared.AnnounceMessage.the-variants.{Named as ANamed, Asked as AnAsked, Refused as ARefused}
 use Rattle.announce.specs.declared.AnnounceRead.{AnnounceRead}

@@ -5,11 +5,11 @@ use Prim.Native.Nat.{ℕ}
 use Rattle.field.specs.Fields.{list}
 use Rattle.field.specs.declared.Kind.the-variants.{Namespace}
 use Rattle.layout.specs.Layout.{Layout, done, field, failure, parameters}
-use Rattle.announce.specs.declared.Naming.the-variants.{AnnounceOk, Unannounce, SubscribeAnnouncesOk, UnsubscribeAnnounces}
-use Rattle.announce.specs.declared.Asking.the-variants.{Announce, SubscribeAnnounces}
-use Rattle.announce.specs.declared.Refusing.the-variants.{AnnounceError, AnnounceCancel, SubscribeAnnouncesError}
-use Rattle.announce.specs.declared.AnnounceKind.{AnnounceKind}
-use Rattle.announce.specs.declared.AnnounceKind.the-variants.{Named, Asked, Refused}
+use Rattle.announce.specs.declared.kinds.Naming.the-variants.{AnnounceOk, Unannounce, SubscribeAnnouncesOk, UnsubscribeAnnounces}
+use Rattle.announce.specs.declared.kinds.Asking.the-variants.{Announce, SubscribeAnnounces}
+use Rattle.announce.specs.declared.kinds.Refusing.the-variants.{AnnounceError, AnnounceCancel, SubscribeAnnouncesError}
+use Rattle.announce.specs.declared.kinds.AnnounceKind.{AnnounceKind}
+use Rattle.announce.specs.declared.kinds.AnnounceKind.the-variants.{Named, Asked, Refused}
 
 unfoldable pub numberOf : AnnounceKind → ℕ
 numberOf (Asked Announce) = 0x6

@@ -9,7 +9,7 @@ use Rattle.layout.specs.Typed.{Typed}
 use Rattle.announce.specs.Layouts.{numberOf}
 use Rattle.announce.specs.declared.Announce.{Announce}
 use Rattle.announce.specs.declared.Refusal.{Refusal}
-use Rattle.announce.specs.declared.AnnounceKind.the-variants.{Named, Asked, Refused}
+use Rattle.announce.specs.declared.kinds.AnnounceKind.the-variants.{Named, Asked, Refused}
 use Rattle.announce.specs.declared.AnnounceMessage.{AnnounceMessage}
 use Rattle.announce.specs.declared.AnnounceMessage.the-variants.{Named as ANamed, Asked as AnAsked, Refused as ARefused}
 use Rattle.announce.specs.declared.AnnounceRead.{AnnounceRead}

@@ -1,40 +1,18 @@
 // The messages of namespaces: ANNOUNCE and SUBSCRIBE_ANNOUNCES, and the answers to them. Each begins with a namespace, or a
 // prefix of one; by what follows there are three shapes.
+mod kinds;
 mod reader;
 mod writer;
 
 use field::Entries;
 use field::Failure;
 use field::Fault;
+pub use kinds::AnnounceKind;
+pub use kinds::Asking;
+pub use kinds::Naming;
+pub use kinds::Refusing;
 pub use reader::read;
 pub use writer::fields;
-
-// Those with nothing else.
-pub enum Naming {
-    AnnounceOk,
-    Unannounce,
-    SubscribeAnnouncesOk,
-    UnsubscribeAnnounces,
-}
-
-// Those with parameters.
-pub enum Asking {
-    Announce,
-    SubscribeAnnounces,
-}
-
-// Those that say why it is refused.
-pub enum Refusing {
-    AnnounceError,
-    AnnounceCancel,
-    SubscribeAnnouncesError,
-}
-
-pub enum AnnounceKind {
-    Named(Naming),
-    Asked(Asking),
-    Refused(Refusing),
-}
 
 pub struct Announce {
     pub namespace: Entries,

@@ -6,8 +6,8 @@ use Rattle.field.specs.Fields.{integer, byte, track}
 use Rattle.field.specs.Rules.{askable, givable}
 use Rattle.layout.specs.Layout.{Layout, done, forbidden, field, when, place, failure, parameters}
 use Rattle.fetch.specs.Rules.{isStatus, mayHold}
-use Rattle.fetch.specs.declared.FetchKind.{FetchKind}
-use Rattle.fetch.specs.declared.FetchKind.the-variants.{Fetch, FetchOk, FetchError, FetchCancel, TrackStatusRequest, TrackStatus}
+use Rattle.fetch.specs.declared.kinds.FetchKind.{FetchKind}
+use Rattle.fetch.specs.declared.kinds.FetchKind.the-variants.{Fetch, FetchOk, FetchError, FetchCancel, TrackStatusRequest, TrackStatus}
 
 -- Track Namespace, Track Name, StartGroup, StartObject, EndGroup, EndObject
 unfoldable pub standalone : Layout

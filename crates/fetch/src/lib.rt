@@ -1,4 +1,5 @@
 // The messages that retrieve what was published: FETCH and the answers to it, and the status of a track.
+mod kinds;
 mod name;
 mod parameters;
 mod reader;
@@ -10,21 +11,13 @@ use field::Failure;
 use field::Fault;
 use field::Place;
 use field::Track;
+pub use kinds::FetchKind;
 pub use name::name_of;
 pub use reader::read;
 pub use rules::is_status;
 pub use rules::may_hold;
 pub use writer::fields;
 pub use writer::is_allowed;
-
-pub enum FetchKind {
-    Fetch,
-    FetchOk,
-    FetchError,
-    FetchCancel,
-    TrackStatusRequest,
-    TrackStatus,
-}
 
 // Objects of a track, from one place to another.
 pub struct Standalone {

@@ -5,17 +5,17 @@ use mathlib.Core.Bool.{true}
 use native.Mathlib.Omega.{arith}
 use Rattle.layout.specs.Layout.{Layout}
 use Rattle.subscription.specs.Layouts.{numberOf as subscriptionNumber, layoutOf as subscriptionLayout}
-use Rattle.subscription.specs.declared.SubscriptionKind.{SubscriptionKind}
-use Rattle.subscription.specs.declared.SubscriptionKind.the-variants.{SubscribeUpdate, Subscribe, SubscribeOk, SubscribeError, Unsubscribe, SubscribeDone, MaxSubscribeId, SubscribesBlocked}
+use Rattle.subscription.specs.declared.kinds.SubscriptionKind.{SubscriptionKind}
+use Rattle.subscription.specs.declared.kinds.SubscriptionKind.the-variants.{SubscribeUpdate, Subscribe, SubscribeOk, SubscribeError, Unsubscribe, SubscribeDone, MaxSubscribeId, SubscribesBlocked}
 use Rattle.fetch.specs.Layouts.{numberOf as fetchNumber, layoutOf as fetchLayout}
-use Rattle.fetch.specs.declared.FetchKind.{FetchKind}
-use Rattle.fetch.specs.declared.FetchKind.the-variants.{Fetch as AFetch, FetchOk, FetchError, FetchCancel, TrackStatusRequest, TrackStatus}
+use Rattle.fetch.specs.declared.kinds.FetchKind.{FetchKind}
+use Rattle.fetch.specs.declared.kinds.FetchKind.the-variants.{Fetch as AFetch, FetchOk, FetchError, FetchCancel, TrackStatusRequest, TrackStatus}
 use Rattle.announce.specs.Layouts.{numberOf as announceNumber, layoutOf as announceLayout}
-use Rattle.announce.specs.declared.AnnounceKind.{AnnounceKind}
-use Rattle.announce.specs.declared.AnnounceKind.the-variants.{Announce as AnAnnounce, AnnounceOk, AnnounceError, Unannounce, AnnounceCancel, SubscribeAnnounces, SubscribeAnnouncesOk, SubscribeAnnouncesError, UnsubscribeAnnounces}
+use Rattle.announce.specs.declared.kinds.AnnounceKind.{AnnounceKind}
+use Rattle.announce.specs.declared.kinds.AnnounceKind.the-variants.{Announce as AnAnnounce, AnnounceOk, AnnounceError, Unannounce, AnnounceCancel, SubscribeAnnounces, SubscribeAnnouncesOk, SubscribeAnnouncesError, UnsubscribeAnnounces}
 use Rattle.session.specs.Layouts.{numberOf as sessionNumber, layoutOf as sessionLayout}
-use Rattle.session.specs.declared.SessionKind.{SessionKind}
-use Rattle.session.specs.declared.SessionKind.the-variants.{ClientSetup, ServerSetup, GoAway}
+use Rattle.session.specs.declared.kinds.SessionKind.{SessionKind}
+use Rattle.session.specs.declared.kinds.SessionKind.the-variants.{ClientSetup, ServerSetup, GoAway}
 use Rattle.message.specs.Types.{known, layoutOf, numberOf}
 use Rattle.message.specs.declared.Kind.{Kind}
 use Rattle.message.specs.declared.Kind.the-variants.{Subscription, Fetch, Announce, Session}

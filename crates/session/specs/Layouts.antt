@@ -3,8 +3,8 @@ use Prim.Native.Nat.{ℕ}
 use Rattle.field.specs.Fields.{integer, bytes, list}
 use Rattle.field.specs.declared.Kind.the-variants.{Versions}
 use Rattle.layout.specs.Layout.{Layout, done, field, parameters}
-use Rattle.session.specs.declared.SessionKind.{SessionKind}
-use Rattle.session.specs.declared.SessionKind.the-variants.{ClientSetup, ServerSetup, GoAway}
+use Rattle.session.specs.declared.kinds.SessionKind.{SessionKind}
+use Rattle.session.specs.declared.kinds.SessionKind.the-variants.{ClientSetup, ServerSetup, GoAway}
 
 -- Supported Versions, Setup Parameters
 unfoldable pub clientSetup : Layout
@@ -18,12 +18,14 @@ serverSetup = field integer λ version. parameters
 unfoldable pub goAway : Layout
 goAway = field bytes λ _. done
 
-unfoldable pub numberOf : SessionKind → ℕ
-numberOf ClientSetup = 0x40
-numberOf ServerSetup = 0x41
-numberOf GoAway = 0x10
+-- each kind's number and layout
+unfoldable pub rowOf : SessionKind → ℕ × Layout
+rowOf ClientSetup = (0x40, clientSetup)
+rowOf ServerSetup = (0x41, serverSetup)
+rowOf GoAway = (0x10, goAway)
 
-unfoldable pub layoutOf : SessionKind → Layout
-layoutOf ClientSetup = clientSetup
-layoutOf ServerSetup = serverSetup
-layoutOf GoAway = goAway
+abbrev pub numberOf : SessionKind → ℕ
+numberOf kind = rowOf kind .0
+
+abbrev pub layoutOf : SessionKind → Layout
+layoutOf kind = rowOf kind .1

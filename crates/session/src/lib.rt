@@ -1,10 +1,12 @@
 // The messages that begin and end a session: CLIENT_SETUP, SERVER_SETUP and GOAWAY.
+mod kinds;
 mod reader;
 mod writer;
 
 use field::Entries;
 use field::Fault;
 use field::Span;
+pub use kinds::SessionKind;
 pub use reader::read;
 pub use writer::fields;
 
@@ -23,12 +25,6 @@ pub enum SessionMessage {
     ClientSetup(ClientSetup),
     ServerSetup(ServerSetup),
     GoAway(Span),
-}
-
-pub enum SessionKind {
-    ClientSetup,
-    ServerSetup,
-    GoAway,
 }
 
 // A message and where it ends, or why it is refused.

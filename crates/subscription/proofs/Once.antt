@@ -1,14 +1,14 @@
 -- One possible answer: a message is put together again from what it says, so what it says, and what an answer says, loses nothing.
 -- Assumes nothing.
 use Prim.Native.Nat.{ℕ}
-use mathlib.Core.Path.{_≡_, refl, sym, ap, _∙_}
+use mathlib.Core.Path.{_≡_, refl, sym}
 use mathlib.Core.List.{List}
 use lib.Dec.{eqb}
 use Rattle.integer.specs.Answer.{pick}
 use Rattle.field.specs.declared.Piece.{Piece}
 use Rattle.field.proofs.Unjudged.{apart}
 use Rattle.layout.specs.Typed.{Typed}
-use Rattle.layout.proofs.Parts.{numberIn, trackIn, bytesIn, entriesIn, placeIn, failureIn}
+use Rattle.layout.proofs.Parts.{once, numberIn, trackIn, bytesIn, entriesIn, placeIn, failureIn}
 use Rattle.subscription.specs.Told.{saidOf, told}
 use Rattle.subscription.specs.declared.Filter.{Filter}
 use Rattle.subscription.specs.declared.Filter.the-variants.{Latest, From, Range}
@@ -68,22 +68,22 @@ unfolding messageOf
 ok-back m Nothing e = rw e
 ok-back m (Largest p) e = rw e
 
-pub back : (m : SubscriptionMessage) → messageOf (saidOf m) ≡ m
+pub message-back : (m : SubscriptionMessage) → messageOf (saidOf m) ≡ m
 unfolding messageOf
-back (ASubscribeUpdate m) = refl
-back (ASubscribe m) = subscribe-back m (m .filter) refl
-back (ASubscribeOk m) = ok-back m (m .content) refl
-back (ASubscribeError m) = refl
-back (AUnsubscribe id) = refl
-back (ASubscribeDone m) = refl
-back (AMaxSubscribeId id) = refl
-back (ASubscribesBlocked id) = refl
+message-back (ASubscribeUpdate m) = refl
+message-back (ASubscribe m) = subscribe-back m (m .filter) refl
+message-back (ASubscribeOk m) = ok-back m (m .content) refl
+message-back (ASubscribeError m) = refl
+message-back (AUnsubscribe id) = refl
+message-back (ASubscribeDone m) = refl
+message-back (AMaxSubscribeId id) = refl
+message-back (ASubscribesBlocked id) = refl
 
 -- ---- so
 
 -- a type and fields are those of one message,
 pub said-once : (m n : SubscriptionMessage) → saidOf m ≡ saidOf n → m ≡ n
-said-once m n e = sym (back m) ∙ ap messageOf e ∙ back n
+said-once = once saidOf messageOf message-back
 
 -- and what is told is told of one answer
 pub told-once : (a b : SubscriptionRead) → told a ≡ told b → a ≡ b

@@ -6,8 +6,8 @@ use Rattle.field.specs.Fields.{integer, byte, bytes, track}
 use Rattle.field.specs.Rules.{askable, givable}
 use Rattle.layout.specs.Layout.{Layout, done, forbidden, field, when, place, failure, parameters}
 use Rattle.subscription.specs.Rules.{endsAfter}
-use Rattle.subscription.specs.declared.SubscriptionKind.{SubscriptionKind}
-use Rattle.subscription.specs.declared.SubscriptionKind.the-variants.{SubscribeUpdate, Subscribe, SubscribeOk, SubscribeError, Unsubscribe, SubscribeDone, MaxSubscribeId, SubscribesBlocked}
+use Rattle.subscription.specs.declared.kinds.SubscriptionKind.{SubscriptionKind}
+use Rattle.subscription.specs.declared.kinds.SubscriptionKind.the-variants.{SubscribeUpdate, Subscribe, SubscribeOk, SubscribeError, Unsubscribe, SubscribeDone, MaxSubscribeId, SubscribesBlocked}
 
 -- Subscribe ID, StartGroup, StartObject, EndGroup, Subscriber Priority
 unfoldable pub subscribeUpdate : Layout

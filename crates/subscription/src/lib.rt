@@ -1,4 +1,5 @@
 // The messages of subscriptions: SUBSCRIBE and the answers to it, and how many there may be.
+mod kinds;
 mod name;
 mod parameters;
 mod reader;
@@ -11,22 +12,12 @@ use field::Fault;
 use field::Place;
 use field::Span;
 use field::Track;
+pub use kinds::SubscriptionKind;
 pub use name::name_of;
 pub use reader::read;
 pub use rules::ends_after;
 pub use writer::fields;
 pub use writer::is_allowed;
-
-pub enum SubscriptionKind {
-    SubscribeUpdate,
-    Subscribe,
-    SubscribeOk,
-    SubscribeError,
-    Unsubscribe,
-    SubscribeDone,
-    MaxSubscribeId,
-    SubscribesBlocked,
-}
 
 // The end group is kept as it is sent: plus 1, and 0 for none.
 pub struct SubscribeUpdate {

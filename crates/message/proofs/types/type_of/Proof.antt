@@ -2,10 +2,10 @@
 use Prim.Native.Nat.{ℕ, _≤_}
 use mathlib.Core.Path.{_≡_, refl}
 use native.Mathlib.Omega.{arith}
-use Rattle.subscription.specs.declared.SubscriptionKind.the-variants as subscription
-use Rattle.fetch.specs.declared.FetchKind.the-variants as fetch
-use Rattle.announce.specs.declared.AnnounceKind.the-variants as announce
-use Rattle.session.specs.declared.SessionKind.the-variants as session
+use Rattle.subscription.specs.declared.kinds.SubscriptionKind.the-variants as subscription
+use Rattle.fetch.specs.declared.kinds.FetchKind.the-variants as fetch
+use Rattle.announce.specs.declared.kinds.AnnounceKind.the-variants as announce
+use Rattle.session.specs.declared.kinds.SessionKind.the-variants as session
 use Rattle.subscription.specs.Layouts.{numberOf as subscriptionNumber}
 use Rattle.fetch.specs.Layouts.{numberOf as fetchNumber}
 use Rattle.announce.specs.Layouts.{numberOf as announceNumber}

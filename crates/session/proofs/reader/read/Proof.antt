@@ -2,12 +2,12 @@
 use borrow.Author.Needs.{needs}
 use Rattle.layout.proofs.Family.{by-reader, by-fields, by-fault}
 use Rattle.layout.proofs.Steps.{stopping, going}
-use Rattle.session.specs.Layouts.{numberOf, layoutOf, goAway}
+use Rattle.session.specs.Layouts.{rowOf, numberOf, layoutOf, goAway}
 use Rattle.session.proofs.reader.read.Statement.{statement}
 use Rattle.session.proofs.reader.read.Tie as tie
 
 pub read-spec : {M : Type 1} → statement M
-unfolding numberOf layoutOf goAway
+unfolding rowOf goAway
 read-spec =
     tie.close
     (tie.spec

@@ -1,0 +1,7 @@
+// Which messages there are.
+
+pub enum SessionKind {
+    ClientSetup,
+    ServerSetup,
+    GoAway,
+}
