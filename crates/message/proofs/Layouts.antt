@@ -4,16 +4,19 @@ use mathlib.Core.Path.{_≡_, refl, sym, ap, _∙_}
 use mathlib.Core.Bool.{true}
 use native.Mathlib.Omega.{arith}
 use Rattle.layout.specs.Layout.{Layout}
-use Rattle.subscription.specs.Layouts.{numberOf as subscriptionNumber, layoutOf as subscriptionLayout}
+use Rattle.subscription.specs.Layouts.{rowOf as subscriptionRow, numberOf as subscriptionNumber, layoutOf as subscriptionLayout}
 use Rattle.subscription.specs.declared.kinds.SubscriptionKind.{SubscriptionKind}
 use Rattle.subscription.specs.declared.kinds.SubscriptionKind.the-variants.{SubscribeUpdate, Subscribe, SubscribeOk, SubscribeError, Unsubscribe, SubscribeDone, MaxSubscribeId, SubscribesBlocked}
-use Rattle.fetch.specs.Layouts.{numberOf as fetchNumber, layoutOf as fetchLayout}
+use Rattle.fetch.specs.Layouts.{rowOf as fetchRow, numberOf as fetchNumber, layoutOf as fetchLayout}
 use Rattle.fetch.specs.declared.kinds.FetchKind.{FetchKind}
 use Rattle.fetch.specs.declared.kinds.FetchKind.the-variants.{Fetch as AFetch, FetchOk, FetchError, FetchCancel, TrackStatusRequest, TrackStatus}
-use Rattle.announce.specs.Layouts.{numberOf as announceNumber, layoutOf as announceLayout}
+use Rattle.announce.specs.Layouts.{rest, numberOf as announceNumber, layoutOf as announceLayout}
 use Rattle.announce.specs.declared.kinds.AnnounceKind.{AnnounceKind}
-use Rattle.announce.specs.declared.kinds.AnnounceKind.the-variants.{Announce as AnAnnounce, AnnounceOk, AnnounceError, Unannounce, AnnounceCancel, SubscribeAnnounces, SubscribeAnnouncesOk, SubscribeAnnouncesError, UnsubscribeAnnounces}
-use Rattle.session.specs.Layouts.{numberOf as sessionNumber, layoutOf as sessionLayout}
+use Rattle.announce.specs.declared.kinds.AnnounceKind.the-variants.{Named, Asked, Refused}
+use Rattle.announce.specs.declared.kinds.Naming.the-variants.{AnnounceOk, Unannounce, SubscribeAnnouncesOk, UnsubscribeAnnounces}
+use Rattle.announce.specs.declared.kinds.Asking.the-variants.{Announce as AnAnnounce, SubscribeAnnounces}
+use Rattle.announce.specs.declared.kinds.Refusing.the-variants.{AnnounceError, AnnounceCancel, SubscribeAnnouncesError}
+use Rattle.session.specs.Layouts.{rowOf as sessionRow, numberOf as sessionNumber, layoutOf as sessionLayout}
 use Rattle.session.specs.declared.kinds.SessionKind.{SessionKind}
 use Rattle.session.specs.declared.kinds.SessionKind.the-variants.{ClientSetup, ServerSetup, GoAway}
 use Rattle.message.specs.Types.{known, layoutOf, numberOf}
@@ -27,7 +30,7 @@ abbrev Stands : ℕ → Layout → Type 0
 Stands type l = (known type ≡ true) × (layoutOf type ≡ l)
 
 subscription : (k : SubscriptionKind) → Stands (subscriptionNumber k) (subscriptionLayout k)
-unfolding known layoutOf subscriptionNumber subscriptionLayout
+unfolding known layoutOf subscriptionRow
 subscription SubscribeUpdate = (refl, refl)
 subscription Subscribe = (refl, refl)
 subscription SubscribeOk = (refl, refl)
@@ -38,7 +41,7 @@ subscription MaxSubscribeId = (refl, refl)
 subscription SubscribesBlocked = (refl, refl)
 
 fetch : (k : FetchKind) → Stands (fetchNumber k) (fetchLayout k)
-unfolding known layoutOf fetchNumber fetchLayout
+unfolding known layoutOf fetchRow
 fetch AFetch = (refl, refl)
 fetch FetchOk = (refl, refl)
 fetch FetchError = (refl, refl)
@@ -47,19 +50,19 @@ fetch TrackStatusRequest = (refl, refl)
 fetch TrackStatus = (refl, refl)
 
 announce : (k : AnnounceKind) → Stands (announceNumber k) (announceLayout k)
-unfolding known layoutOf announceNumber announceLayout
-announce AnAnnounce = (refl, refl)
-announce AnnounceOk = (refl, refl)
-announce AnnounceError = (refl, refl)
-announce Unannounce = (refl, refl)
-announce AnnounceCancel = (refl, refl)
-announce SubscribeAnnounces = (refl, refl)
-announce SubscribeAnnouncesOk = (refl, refl)
-announce SubscribeAnnouncesError = (refl, refl)
-announce UnsubscribeAnnounces = (refl, refl)
+unfolding known layoutOf rest announceNumber announceLayout
+announce (Named AnnounceOk) = (refl, refl)
+announce (Named Unannounce) = (refl, refl)
+announce (Named SubscribeAnnouncesOk) = (refl, refl)
+announce (Named UnsubscribeAnnounces) = (refl, refl)
+announce (Asked AnAnnounce) = (refl, refl)
+announce (Asked SubscribeAnnounces) = (refl, refl)
+announce (Refused AnnounceError) = (refl, refl)
+announce (Refused AnnounceCancel) = (refl, refl)
+announce (Refused SubscribeAnnouncesError) = (refl, refl)
 
 session : (k : SessionKind) → Stands (sessionNumber k) (sessionLayout k)
-unfolding known layoutOf sessionNumber sessionLayout
+unfolding known layoutOf sessionRow
 session ClientSetup = (refl, refl)
 session ServerSetup = (refl, refl)
 session GoAway = (refl, refl)

@@ -8,10 +8,10 @@ use lib.ListN.{length}
 use lib.Dec.{lit≤}
 use borrow.Author.Tests.{le-leb, lt-leb}
 use Rattle.integer.specs.Answer.{whole as answered}
-use Rattle.field.specs.Value.{part}
+use Rattle.field.specs.Value.{part, nowhere}
 use Rattle.field.specs.declared.Span.{Span}
 use Rattle.layout.specs.Inside.{Inside, Lies, Between}
-use Rattle.subscription.specs.Names.{nameOf as subscriptionName, nowhere}
+use Rattle.subscription.specs.Names.{nameOf as subscriptionName}
 use Rattle.subscription.specs.Told.{saidOf as subscriptionSaid}
 use Rattle.subscription.specs.declared.SubscriptionMessage.{SubscriptionMessage}
 use Rattle.subscription.specs.declared.SubscriptionMessage.the-variants.{SubscribeUpdate, Subscribe, SubscribeOk, SubscribeError, Unsubscribe, SubscribeDone, MaxSubscribeId, SubscribesBlocked}

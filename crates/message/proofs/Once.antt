@@ -6,7 +6,7 @@ use lib.Dec.{eqb, leb}
 use Rattle.integer.specs.Answer.{pick, Answer, whole as answered, refused}
 use Rattle.layout.specs.Typed.{Typed}
 use Rattle.layout.proofs.Parts.{once}
-use Rattle.subscription.proofs.Once.{messageOf as subscriptionOf, back as subscription-back}
+use Rattle.subscription.proofs.Once.{messageOf as subscriptionOf, message-back as subscription-back}
 use Rattle.subscription.specs.Told.{saidOf as subscriptionSaid}
 use Rattle.subscription.specs.declared.SubscriptionMessage.{SubscriptionMessage}
 use Rattle.subscription.specs.declared.SubscriptionMessage.the-variants as subscription
@@ -14,11 +14,15 @@ use Rattle.fetch.proofs.Once.{messageOf as fetchOf, message-back as fetch-back}
 use Rattle.fetch.specs.Told.{saidOf as fetchSaid}
 use Rattle.fetch.specs.declared.FetchMessage.{FetchMessage}
 use Rattle.fetch.specs.declared.FetchMessage.the-variants as fetch
-use Rattle.announce.proofs.Once.{heard as announceOf, heard-said as announce-back}
+use Rattle.announce.proofs.Once.{messageOf as announceOf, message-back as announce-back}
 use Rattle.announce.specs.Told.{saidOf as announceSaid}
+use Rattle.announce.specs.Layouts.{numberOf as announceNumber}
+use Rattle.announce.specs.declared.kinds.Naming.the-variants as naming
+use Rattle.announce.specs.declared.kinds.Asking.the-variants as asking
+use Rattle.announce.specs.declared.kinds.Refusing.the-variants as refusing
 use Rattle.announce.specs.declared.AnnounceMessage.{AnnounceMessage}
 use Rattle.announce.specs.declared.AnnounceMessage.the-variants as announce
-use Rattle.session.proofs.Once.{heard as sessionOf, heard-said as session-back}
+use Rattle.session.proofs.Once.{messageOf as sessionOf, message-back as session-back}
 use Rattle.session.specs.Told.{saidOf as sessionSaid}
 use Rattle.session.specs.declared.SessionMessage.{SessionMessage}
 use Rattle.session.specs.declared.SessionMessage.the-variants as session
@@ -74,16 +78,16 @@ of-fetch (fetch.TrackStatusRequest t) = refl
 of-fetch (fetch.TrackStatus m) = refl
 
 of-announce : (m : AnnounceMessage) → familyOf (announceSaid m .type) ≡ announcing
-unfolding familyOf
-of-announce (announce.Announce m) = refl
-of-announce (announce.AnnounceOk n) = refl
-of-announce (announce.AnnounceError m) = refl
-of-announce (announce.Unannounce n) = refl
-of-announce (announce.AnnounceCancel m) = refl
-of-announce (announce.SubscribeAnnounces m) = refl
-of-announce (announce.SubscribeAnnouncesOk n) = refl
-of-announce (announce.SubscribeAnnouncesError m) = refl
-of-announce (announce.UnsubscribeAnnounces n) = refl
+unfolding familyOf announceNumber
+of-announce (announce.Named naming.AnnounceOk n) = refl
+of-announce (announce.Named naming.Unannounce n) = refl
+of-announce (announce.Named naming.SubscribeAnnouncesOk n) = refl
+of-announce (announce.Named naming.UnsubscribeAnnounces n) = refl
+of-announce (announce.Asked asking.Announce m) = refl
+of-announce (announce.Asked asking.SubscribeAnnounces m) = refl
+of-announce (announce.Refused refusing.AnnounceError m) = refl
+of-announce (announce.Refused refusing.AnnounceCancel m) = refl
+of-announce (announce.Refused refusing.SubscribeAnnouncesError m) = refl
 
 of-session : (m : SessionMessage) → familyOf (sessionSaid m .type) ≡ setting
 unfolding familyOf

@@ -12,14 +12,14 @@ use Rattle.field.specs.Value.{Value, mean}
 use Rattle.field.specs.declared.Entries.{Entries}
 use Rattle.field.specs.declared.Kind.the-variants.{Parameters}
 use Rattle.field.specs.declared.Piece.the-variants.{Number, List as Listing}
-use Rattle.layout.specs.Layout.{Layout, done, forbidden, field, when, place, failure}
+use Rattle.layout.specs.Layout.{Layout, done, forbidden, field, when, place, failure, parameters}
 use Rattle.layout.specs.Permitted.{good, formOf, handed, code, permitted}
 use Rattle.layout.specs.Typed.{Typed}
 use Rattle.layout.proofs.Back.{both-true as both-parts}
 use Rattle.shortest.proofs.Tests.{both-true}
 use Rattle.shortest.proofs.Good.{AllGood, more}
 use Rattle.subscription.specs.Rules.{endsAfter}
-use Rattle.subscription.specs.Layouts.{parameters as subscriptionParameters, subscribeUpdate, ending, filter, delivery, subscribe, content, subscribeOk, subscribeError, subscribeDone, only}
+use Rattle.subscription.specs.Layouts.{subscribeUpdate, ending, filter, delivery, subscribe, content, subscribeOk, subscribeError, subscribeDone, only}
 use Rattle.subscription.specs.Told.{filterPieces, contentPieces, saidOf as subscriptionSaid}
 use Rattle.subscription.specs.Allowed.{allowedFilter, allowedOf as subscriptionAllowed}
 use Rattle.subscription.specs.declared.Filter.{Filter}
@@ -29,25 +29,28 @@ use Rattle.subscription.specs.declared.Content.the-variants.{Nothing, Largest}
 use Rattle.subscription.specs.declared.SubscriptionMessage.{SubscriptionMessage}
 use Rattle.subscription.specs.declared.SubscriptionMessage.the-variants.{SubscribeUpdate, Subscribe, SubscribeOk, SubscribeError, Unsubscribe, SubscribeDone, MaxSubscribeId, SubscribesBlocked}
 use Rattle.fetch.specs.Rules.{isStatus, mayHold}
-use Rattle.fetch.specs.Layouts.{parameters as fetchParameters, standalone, joining, range, fetch, fetchOk, fetchError, fetchCancel, trackStatusRequest, largest, trackStatus}
+use Rattle.fetch.specs.Layouts.{standalone, joining, range, fetch, fetchOk, fetchError, fetchCancel, trackStatusRequest, largest, trackStatus}
 use Rattle.fetch.specs.Told.{joiningType, rangePieces, saidOf as fetchSaid}
 use Rattle.fetch.specs.Allowed.{allowedOf as fetchAllowed}
 use Rattle.fetch.specs.declared.Range.{Range as FetchRange}
 use Rattle.fetch.specs.declared.Range.the-variants.{Standalone, Joining}
 use Rattle.fetch.specs.declared.FetchMessage.{FetchMessage}
 use Rattle.fetch.specs.declared.FetchMessage.the-variants.{Fetch as AFetch, FetchOk, FetchError, FetchCancel, TrackStatusRequest, TrackStatus}
-use Rattle.announce.specs.Layouts.{named, asked, refused}
+use Rattle.announce.specs.Layouts.{named, rest, layoutOf as announceLayout}
 use Rattle.announce.specs.Told.{saidOf as announceSaid}
 use Rattle.announce.specs.declared.AnnounceMessage.{AnnounceMessage}
-use Rattle.announce.specs.declared.AnnounceMessage.the-variants.{Announce as AnAnnounce, AnnounceOk, AnnounceError, Unannounce, AnnounceCancel, SubscribeAnnounces, SubscribeAnnouncesOk, SubscribeAnnouncesError, UnsubscribeAnnounces}
+use Rattle.announce.specs.declared.AnnounceMessage.the-variants.{Named, Asked, Refused}
+use Rattle.announce.specs.declared.kinds.AnnounceKind.the-variants.{Named as KindNamed, Asked as KindAsked, Refused as KindRefused}
 use Rattle.session.specs.Layouts.{clientSetup, serverSetup, goAway}
 use Rattle.session.specs.Told.{saidOf as sessionSaid}
 use Rattle.session.specs.declared.SessionMessage.{SessionMessage}
 use Rattle.session.specs.declared.SessionMessage.the-variants.{ClientSetup, ServerSetup, GoAway}
-use Rattle.message.specs.Types.{known, layoutOf, saidOf}
+use Rattle.message.specs.Types.{known, layoutOf, numberOf, saidOf}
 use Rattle.message.specs.Writing.{allowedOf}
 use Rattle.message.specs.declared.Message.{Message}
 use Rattle.message.specs.declared.Message.the-variants.{Subscription, Fetch, Announce, Session}
+use Rattle.message.specs.declared.Kind.the-variants.{Announce as KindOfAnnounce}
+use Rattle.message.proofs.Layouts.{is-known, layout-announce}
 
 -- ---- a shape
 
@@ -104,20 +107,20 @@ Fitting s t allowed = (known (t .type) ≡ true) × (fitting (layoutOf (t .type)
 module _ (s : List ℕ) where
   -- what a SUBSCRIBE asks for, and its parameters,
   asking : (f : Filter) (e : Entries) → fitting filter (map (mean s) (filterPieces f ++ Listing Parameters e ∷ [])) ≡ allowedFilter f
-  unfolding fitting code mean place subscriptionParameters ending filter allowedFilter
+  unfolding fitting code mean place parameters ending filter allowedFilter
   asking Latest e = refl
   asking (From start) e = refl
   asking (Range start endGroup) e = test-alone (endsAfter (start .group) endGroup)
 
   -- what there is by a SUBSCRIBE_OK, and its parameters,
   existing : (c : Content) (e : Entries) → fitting content (map (mean s) (contentPieces c ++ Listing Parameters e ∷ [])) ≡ true
-  unfolding fitting code mean place subscriptionParameters content
+  unfolding fitting code mean place parameters content
   existing Nothing e = refl
   existing (Largest p) e = refl
 
   -- a message of subscriptions,
   subscription : (m : SubscriptionMessage) → Fitting s (subscriptionSaid m) (subscriptionAllowed m)
-  unfolding fitting code mean known layoutOf place failure subscriptionParameters subscribeUpdate delivery subscribe subscribeOk subscribeError subscribeDone only subscriptionAllowed
+  unfolding fitting code mean known layoutOf place failure parameters subscribeUpdate delivery subscribe subscribeOk subscribeError subscribeDone only subscriptionAllowed
   subscription (SubscribeUpdate m) = (refl, refl)
   subscription (Subscribe m) = (refl, rw (asking (m .filter) (m .parameters)) (tested (askable (m .order)) (allowedFilter (m .filter))))
   subscription (SubscribeOk m) = (refl, rw (existing (m .content) (m .parameters)) (test-alone (givable (m .order))))
@@ -129,7 +132,7 @@ module _ (s : List ℕ) where
 
   -- what a FETCH asks for, and its parameters,
   fetching : (r : FetchRange) (e : Entries) → fitting range (map (mean s) (rangePieces r ++ Listing Parameters e ∷ [])) ≡ true
-  unfolding fitting code mean place fetchParameters standalone joining range
+  unfolding fitting code mean place parameters standalone joining range
   fetching (Standalone r) e = refl
   fetching (Joining j) e = by-type (j .absolute)
     where
@@ -139,7 +142,7 @@ module _ (s : List ℕ) where
 
   -- a message of fetches,
   retrieval : (m : FetchMessage) → Fitting s (fetchSaid m) (fetchAllowed m)
-  unfolding fitting code mean known layoutOf place failure fetchParameters fetch fetchOk fetchError fetchCancel trackStatusRequest largest trackStatus fetchAllowed
+  unfolding fitting code mean known layoutOf place failure parameters fetch fetchOk fetchError fetchCancel trackStatusRequest largest trackStatus fetchAllowed
   retrieval (AFetch m) = (refl, rw (fetching (m .range) (m .parameters)) (test-alone (askable (m .order))))
   retrieval (FetchOk m) = (refl, test-alone (givable (m .order)))
   retrieval (FetchError m) = (refl, refl)
@@ -152,20 +155,14 @@ module _ (s : List ℕ) where
 
   -- of namespaces,
   announcement : (m : AnnounceMessage) → Fitting s (announceSaid m) true
-  unfolding fitting code mean known layoutOf failure named asked refused
-  announcement (AnAnnounce m) = (refl, refl)
-  announcement (AnnounceOk n) = (refl, refl)
-  announcement (AnnounceError m) = (refl, refl)
-  announcement (Unannounce n) = (refl, refl)
-  announcement (AnnounceCancel m) = (refl, refl)
-  announcement (SubscribeAnnounces m) = (refl, refl)
-  announcement (SubscribeAnnouncesOk n) = (refl, refl)
-  announcement (SubscribeAnnouncesError m) = (refl, refl)
-  announcement (UnsubscribeAnnounces n) = (refl, refl)
+  unfolding fitting code mean numberOf failure parameters named rest announceLayout
+  announcement (Named k n) = (is-known (KindOfAnnounce (KindNamed k)), rw (layout-announce (KindNamed k)))
+  announcement (Asked k m) = (is-known (KindOfAnnounce (KindAsked k)), rw (layout-announce (KindAsked k)))
+  announcement (Refused k m) = (is-known (KindOfAnnounce (KindRefused k)), rw (layout-announce (KindRefused k)))
 
   -- and of a session
   session : (m : SessionMessage) → Fitting s (sessionSaid m) true
-  unfolding fitting code mean known layoutOf clientSetup serverSetup goAway
+  unfolding fitting code mean known layoutOf parameters clientSetup serverSetup goAway
   session (ClientSetup m) = (refl, refl)
   session (ServerSetup m) = (refl, refl)
   session (GoAway uri) = (refl, refl)

@@ -5,9 +5,9 @@ use lib.ListN.{length}
 use lib.Dec.{leb}
 use Rattle.integer.specs.Answer.{pick}
 use Rattle.field.specs.Outcome.{both}
-use Rattle.field.specs.Value.{part}
+use Rattle.field.specs.Value.{part, nowhere}
 use Rattle.field.specs.declared.Span.{Span}
-use Rattle.subscription.specs.Names.{nameOf as subscriptionName, nowhere}
+use Rattle.subscription.specs.Names.{nameOf as subscriptionName}
 use Rattle.fetch.specs.Names.{nameOf as fetchName}
 use Rattle.message.specs.declared.Message.{Message}
 use Rattle.message.specs.declared.Message.the-variants.{Subscription, Fetch, Announce, Session}

@@ -3,13 +3,13 @@ use Prim.Native.Nat.{ℕ}
 use mathlib.Core.Bool.{Bool, true, false}
 use lib.Dec.{leb, eqb}
 use Rattle.integer.specs.Answer.{pick, Answer, whole, refused}
-use Rattle.layout.specs.Layout.{Layout, forbidden}
+use Rattle.layout.specs.Layout.{Layout, done, forbidden, failure, parameters}
 use Rattle.layout.specs.Typed.{Typed}
 use Rattle.subscription.specs.Layouts.{numberOf as subscriptionNumber, subscribeUpdate, subscribe, subscribeOk, subscribeError, subscribeDone, only}
 use Rattle.subscription.specs.Told.{saidOf as subscriptionSaid}
 use Rattle.fetch.specs.Layouts.{numberOf as fetchNumber, fetch, fetchOk, fetchError, fetchCancel, trackStatusRequest, trackStatus}
 use Rattle.fetch.specs.Told.{saidOf as fetchSaid}
-use Rattle.announce.specs.Layouts.{numberOf as announceNumber, named, asked, refused as announceRefused}
+use Rattle.announce.specs.Layouts.{numberOf as announceNumber, named}
 use Rattle.announce.specs.Told.{saidOf as announceSaid}
 use Rattle.session.specs.Layouts.{numberOf as sessionNumber, clientSetup, serverSetup, goAway}
 use Rattle.session.specs.Told.{saidOf as sessionSaid}
@@ -34,20 +34,20 @@ layoutOf type =
     (pick (eqb type 0x3) subscribe
     (pick (eqb type 0x4) subscribeOk
     (pick (eqb type 0x5) subscribeError
-    (pick (eqb type 0x6) asked
-    (pick (eqb type 0x7) named
-    (pick (eqb type 0x8) announceRefused
-    (pick (eqb type 0x9) named
+    (pick (eqb type 0x6) (named parameters)
+    (pick (eqb type 0x7) (named done)
+    (pick (eqb type 0x8) (named (failure done))
+    (pick (eqb type 0x9) (named done)
     (pick (eqb type 0xA) only
     (pick (eqb type 0xB) subscribeDone
-    (pick (eqb type 0xC) announceRefused
+    (pick (eqb type 0xC) (named (failure done))
     (pick (eqb type 0xD) trackStatusRequest
     (pick (eqb type 0xE) trackStatus
     (pick (eqb type 0x10) goAway
-    (pick (eqb type 0x11) asked
-    (pick (eqb type 0x12) named
-    (pick (eqb type 0x13) announceRefused
-    (pick (eqb type 0x14) named
+    (pick (eqb type 0x11) (named parameters)
+    (pick (eqb type 0x12) (named done)
+    (pick (eqb type 0x13) (named (failure done))
+    (pick (eqb type 0x14) (named done)
     (pick (eqb type 0x15) only
     (pick (eqb type 0x16) fetch
     (pick (eqb type 0x17) fetchCancel

@@ -4,6 +4,9 @@ ghost use Rattle.message.specs.Types.{typeOf, toldType};
 use crate::Found;
 use crate::Kind;
 use announce::AnnounceKind;
+use announce::Asking;
+use announce::Naming;
+use announce::Refusing;
 use fetch::FetchKind;
 use session::SessionKind;
 use subscription::SubscriptionKind;
@@ -18,21 +21,23 @@ pub fn type_of(number: u64) -> Found
         0x3 => Found::Known(Kind::Subscription(SubscriptionKind::Subscribe)),
         0x4 => Found::Known(Kind::Subscription(SubscriptionKind::SubscribeOk)),
         0x5 => Found::Known(Kind::Subscription(SubscriptionKind::SubscribeError)),
-        0x6 => Found::Known(Kind::Announce(AnnounceKind::Announce)),
-        0x7 => Found::Known(Kind::Announce(AnnounceKind::AnnounceOk)),
-        0x8 => Found::Known(Kind::Announce(AnnounceKind::AnnounceError)),
-        0x9 => Found::Known(Kind::Announce(AnnounceKind::Unannounce)),
+        0x6 => Found::Known(Kind::Announce(AnnounceKind::Asked(Asking::Announce))),
+        0x7 => Found::Known(Kind::Announce(AnnounceKind::Named(Naming::AnnounceOk))),
+        0x8 => Found::Known(Kind::Announce(AnnounceKind::Refused(Refusing::AnnounceError))),
+        0x9 => Found::Known(Kind::Announce(AnnounceKind::Named(Naming::Unannounce))),
         0xA => Found::Known(Kind::Subscription(SubscriptionKind::Unsubscribe)),
         0xB => Found::Known(Kind::Subscription(SubscriptionKind::SubscribeDone)),
-        0xC => Found::Known(Kind::Announce(AnnounceKind::AnnounceCancel)),
+        0xC => Found::Known(Kind::Announce(AnnounceKind::Refused(Refusing::AnnounceCancel))),
         0xD => Found::Known(Kind::Fetch(FetchKind::TrackStatusRequest)),
         0xE => Found::Known(Kind::Fetch(FetchKind::TrackStatus)),
         0xF..=0xF => Found::Unknown,
         0x10 => Found::Known(Kind::Session(SessionKind::GoAway)),
-        0x11 => Found::Known(Kind::Announce(AnnounceKind::SubscribeAnnounces)),
-        0x12 => Found::Known(Kind::Announce(AnnounceKind::SubscribeAnnouncesOk)),
-        0x13 => Found::Known(Kind::Announce(AnnounceKind::SubscribeAnnouncesError)),
-        0x14 => Found::Known(Kind::Announce(AnnounceKind::UnsubscribeAnnounces)),
+        0x11 => Found::Known(Kind::Announce(AnnounceKind::Asked(Asking::SubscribeAnnounces))),
+        0x12 => Found::Known(Kind::Announce(AnnounceKind::Named(Naming::SubscribeAnnouncesOk))),
+        0x13 => Found::Known(Kind::Announce(AnnounceKind::Refused(
+            Refusing::SubscribeAnnouncesError,
+        ))),
+        0x14 => Found::Known(Kind::Announce(AnnounceKind::Named(Naming::UnsubscribeAnnounces))),
         0x15 => Found::Known(Kind::Subscription(SubscriptionKind::MaxSubscribeId)),
         0x16 => Found::Known(Kind::Fetch(FetchKind::Fetch)),
         0x17 => Found::Known(Kind::Fetch(FetchKind::FetchCancel)),

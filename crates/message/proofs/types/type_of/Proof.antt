@@ -4,12 +4,15 @@ use mathlib.Core.Path.{_≡_, refl}
 use native.Mathlib.Omega.{arith}
 use Rattle.subscription.specs.declared.kinds.SubscriptionKind.the-variants as subscription
 use Rattle.fetch.specs.declared.kinds.FetchKind.the-variants as fetch
-use Rattle.announce.specs.declared.kinds.AnnounceKind.the-variants as announce
+use Rattle.announce.specs.declared.kinds.AnnounceKind.the-variants.{Named, Asked, Refused}
+use Rattle.announce.specs.declared.kinds.Naming.the-variants as naming
+use Rattle.announce.specs.declared.kinds.Asking.the-variants as asking
+use Rattle.announce.specs.declared.kinds.Refusing.the-variants as refusing
 use Rattle.session.specs.declared.kinds.SessionKind.the-variants as session
-use Rattle.subscription.specs.Layouts.{numberOf as subscriptionNumber}
-use Rattle.fetch.specs.Layouts.{numberOf as fetchNumber}
+use Rattle.subscription.specs.Layouts.{rowOf as subscriptionRow}
+use Rattle.fetch.specs.Layouts.{rowOf as fetchRow}
 use Rattle.announce.specs.Layouts.{numberOf as announceNumber}
-use Rattle.session.specs.Layouts.{numberOf as sessionNumber}
+use Rattle.session.specs.Layouts.{rowOf as sessionRow}
 use Rattle.message.specs.Types.{known, numberOf}
 use Rattle.message.specs.declared.Kind.the-variants.{Subscription, Fetch, Announce, Session}
 use Rattle.message.proofs.Known.{type-known, type-gap, type-low, type-middle, type-high, past}
@@ -17,7 +20,7 @@ use Rattle.message.proofs.types.type_of.Statement.{statement}
 use Rattle.message.proofs.types.type_of.Tie as tie
 
 pub type-of-spec : {M : Type 1} → statement M
-unfolding known numberOf subscriptionNumber fetchNumber announceNumber sessionNumber
+unfolding known numberOf subscriptionRow fetchRow announceNumber sessionRow
 type-of-spec =
     tie.close
     (tie.spec
@@ -25,21 +28,21 @@ type-of-spec =
     (λ c. type-known (Subscription subscription.Subscribe) (c .match .keys2))
     (λ c. type-known (Subscription subscription.SubscribeOk) (c .match .keys3))
     (λ c. type-known (Subscription subscription.SubscribeError) (c .match .keys4))
-    (λ c. type-known (Announce announce.Announce) (c .match .keys5))
-    (λ c. type-known (Announce announce.AnnounceOk) (c .match .keys6))
-    (λ c. type-known (Announce announce.AnnounceError) (c .match .keys7))
-    (λ c. type-known (Announce announce.Unannounce) (c .match .keys8))
+    (λ c. type-known (Announce (Asked asking.Announce)) (c .match .keys5))
+    (λ c. type-known (Announce (Named naming.AnnounceOk)) (c .match .keys6))
+    (λ c. type-known (Announce (Refused refusing.AnnounceError)) (c .match .keys7))
+    (λ c. type-known (Announce (Named naming.Unannounce)) (c .match .keys8))
     (λ c. type-known (Subscription subscription.Unsubscribe) (c .match .keys9))
     (λ c. type-known (Subscription subscription.SubscribeDone) (c .match .keys10))
-    (λ c. type-known (Announce announce.AnnounceCancel) (c .match .keys11))
+    (λ c. type-known (Announce (Refused refusing.AnnounceCancel)) (c .match .keys11))
     (λ c. type-known (Fetch fetch.TrackStatusRequest) (c .match .keys12))
     (λ c. type-known (Fetch fetch.TrackStatus) (c .match .keys13))
     (λ c. type-gap 0xF (c .match .keys14) refl)
     (λ c. type-known (Session session.GoAway) (c .match .keys15))
-    (λ c. type-known (Announce announce.SubscribeAnnounces) (c .match .keys16))
-    (λ c. type-known (Announce announce.SubscribeAnnouncesOk) (c .match .keys17))
-    (λ c. type-known (Announce announce.SubscribeAnnouncesError) (c .match .keys18))
-    (λ c. type-known (Announce announce.UnsubscribeAnnounces) (c .match .keys19))
+    (λ c. type-known (Announce (Asked asking.SubscribeAnnounces)) (c .match .keys16))
+    (λ c. type-known (Announce (Named naming.SubscribeAnnouncesOk)) (c .match .keys17))
+    (λ c. type-known (Announce (Refused refusing.SubscribeAnnouncesError)) (c .match .keys18))
+    (λ c. type-known (Announce (Named naming.UnsubscribeAnnounces)) (c .match .keys19))
     (λ c. type-known (Subscription subscription.MaxSubscribeId) (c .match .keys20))
     (λ c. type-known (Fetch fetch.Fetch) (c .match .keys21))
     (λ c. type-known (Fetch fetch.FetchCancel) (c .match .keys22))
