@@ -1,16 +1,15 @@
 // The messages of namespaces: ANNOUNCE and SUBSCRIBE_ANNOUNCES, and the answers to them. Each begins with a namespace, or a
 // prefix of one; by what follows there are three shapes.
-mod kinds;
+pub mod kinds;
 mod reader;
 mod writer;
 
 use field::Entries;
 use field::Failure;
 use field::Fault;
-pub use kinds::AnnounceKind;
-pub use kinds::Asking;
-pub use kinds::Naming;
-pub use kinds::Refusing;
+use kinds::Asking;
+use kinds::Naming;
+use kinds::Refusing;
 pub use reader::read;
 pub use writer::fields;
 

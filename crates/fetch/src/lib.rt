@@ -1,5 +1,5 @@
 // The messages that retrieve what was published: FETCH and the answers to it, and the status of a track.
-mod kinds;
+pub mod kinds;
 mod name;
 mod parameters;
 mod reader;
@@ -11,7 +11,6 @@ use field::Failure;
 use field::Fault;
 use field::Place;
 use field::Track;
-pub use kinds::FetchKind;
 pub use name::name_of;
 pub use reader::read;
 pub use rules::is_status;

@@ -4,17 +4,17 @@ mod reader;
 mod types;
 mod writer;
 
-use announce::AnnounceKind;
 use announce::AnnounceMessage;
-use fetch::FetchKind;
+use announce::kinds::AnnounceKind;
 use fetch::FetchMessage;
+use fetch::kinds::FetchKind;
 use field::Fault;
 pub use name::track_name;
 pub use reader::read;
-use session::SessionKind;
 use session::SessionMessage;
-use subscription::SubscriptionKind;
+use session::kinds::SessionKind;
 use subscription::SubscriptionMessage;
+use subscription::kinds::SubscriptionKind;
 pub use writer::write;
 
 // The longest body that is read or written.

@@ -3,13 +3,13 @@ ghost use mathlib.Core.Path.{_≡_};
 ghost use Rattle.message.specs.Types.{typeOf, toldType};
 use crate::Found;
 use crate::Kind;
-use announce::AnnounceKind;
-use announce::Asking;
-use announce::Naming;
-use announce::Refusing;
-use fetch::FetchKind;
-use session::SessionKind;
-use subscription::SubscriptionKind;
+use announce::kinds::AnnounceKind;
+use announce::kinds::Asking;
+use announce::kinds::Naming;
+use announce::kinds::Refusing;
+use fetch::kinds::FetchKind;
+use session::kinds::SessionKind;
+use subscription::kinds::SubscriptionKind;
 
 // Which message a number is the type of.
 pub fn type_of(number: u64) -> Found

@@ -1,12 +1,11 @@
 // The messages that begin and end a session: CLIENT_SETUP, SERVER_SETUP and GOAWAY.
-mod kinds;
+pub mod kinds;
 mod reader;
 mod writer;
 
 use field::Entries;
 use field::Fault;
 use field::Span;
-pub use kinds::SessionKind;
 pub use reader::read;
 pub use writer::fields;
 

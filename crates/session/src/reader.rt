@@ -6,9 +6,9 @@ ghost use Rattle.session.specs.Layouts.{clientSetup, serverSetup, number
 ghost use Rattle.session.specs.Told.{told};
 use crate::ClientSetup;
 use crate::ServerSetup;
-use crate::SessionKind;
 use crate::SessionMessage;
 use crate::SessionRead;
+use crate::kinds::SessionKind;
 use field::BytesRead;
 use field::Fault;
 use field::Kind;

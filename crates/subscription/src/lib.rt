@@ -1,5 +1,5 @@
 // The messages of subscriptions: SUBSCRIBE and the answers to it, and how many there may be.
-mod kinds;
+pub mod kinds;
 mod name;
 mod parameters;
 mod reader;
@@ -12,7 +12,6 @@ use field::Fault;
 use field::Place;
 use field::Span;
 use field::Track;
-pub use kinds::SubscriptionKind;
 pub use name::name_of;
 pub use reader::read;
 pub use rules::ends_after;

@@ -1,8 +1,8 @@
 -- `read_parameters` meets its contract. Assumes nothing.
 use borrow.Author.Needs.{needs}
+use Rattle.layout.specs.Layout.{parameters}
 use Rattle.layout.proofs.Family.{behind-no, behind-whole}
 use Rattle.layout.proofs.Steps.{stopping, going}
-use Rattle.layout.specs.Layout.{parameters}
 use Rattle.fetch.proofs.parameters.read_parameters.Statement.{statement}
 use Rattle.fetch.proofs.parameters.read_parameters.Tie as tie
 
