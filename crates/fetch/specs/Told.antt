@@ -1,7 +1,7 @@
 -- Each message as the number of its type and its fields, in the order of its layout; and what a reader answers.
 use Prim.Native.Nat.{ℕ}
 use mathlib.Core.List.{List, [], _∷_, _++_}
-use mathlib.Core.Bool.{Bool, true, false}
+use mathlib.Core.Bool.{Bool}
 use Rattle.integer.specs.Answer.{pick}
 use Rattle.field.specs.Outcome.{Outcome, whole, no}
 use Rattle.field.specs.declared.Kind.the-variants.{Parameters}

@@ -5,7 +5,7 @@ use mathlib.Core.Bool.{Bool}
 use Rattle.integer.specs.Answer.{pick}
 use Rattle.field.specs.Outcome.{Outcome, whole, no, andThen}
 use Rattle.field.specs.Fields.{Form, integer, bytes, list, fieldAt}
-use Rattle.field.specs.Value.{Value, number, octet, text, items, fullName, mean}
+use Rattle.field.specs.Value.{Value, mean}
 use Rattle.field.specs.declared.Fault.the-variants.{Forbidden}
 use Rattle.field.specs.declared.Kind.the-variants.{Parameters}
 use Rattle.field.specs.declared.Piece.{Piece}

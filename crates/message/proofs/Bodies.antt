@@ -1,9 +1,8 @@
 -- A body that a family of messages read, as the body of a message. Assumes nothing.
 use Prim.Native.Nat.{ℕ}
-use mathlib.Core.Path.{_≡_, refl, sym, ap, _∙_}
+use mathlib.Core.Path.{_≡_, sym, ap, _∙_}
 use mathlib.Core.List.{List}
 use Rattle.field.specs.Outcome.{Outcome}
-use Rattle.field.specs.declared.Piece.{Piece}
 use Rattle.layout.specs.Layout.{Layout, scan}
 use Rattle.layout.specs.Typed.{Typed, typed}
 use Rattle.subscription.specs.Layouts.{numberOf as subscriptionNumber, layoutOf as subscriptionLayout}

@@ -1,6 +1,6 @@
 -- `type_of` meets its contract: a known number stands for its message, and every other for none. Assumes nothing.
-use Prim.Native.Nat.{ℕ, _≤_}
-use mathlib.Core.Path.{_≡_, refl}
+use Prim.Native.Nat.{_≤_}
+use mathlib.Core.Path.{refl}
 use native.Mathlib.Omega.{arith}
 use Rattle.subscription.specs.declared.kinds.SubscriptionKind.the-variants as subscription
 use Rattle.fetch.specs.declared.kinds.FetchKind.the-variants as fetch
