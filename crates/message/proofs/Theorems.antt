@@ -2,7 +2,7 @@
 -- and nothing else.
 -- Assumes nothing.
 use Prim.Native.Nat.{ℕ, _≤_}
-use mathlib.Core.Path.{_≡_}
+use mathlib.Core.Path.{_≡_, refl}
 use mathlib.Core.List.{List, _++_, map}
 use mathlib.Core.Bool.{true}
 use lib.ListN.{length, take}
@@ -110,18 +110,21 @@ module _ (s : List ℕ) (m : Message) (before : List ℕ) where
     pub only-one : Octets b → length b ≡ n → b ≡ take n (writeOf s m before .holds)
     only-one = only.only-one s m before written b read same
 
-  -- 9. Writing twice gives the same bytes: written again into the buffer that was just written, a message changes nothing of it, and
-  -- the answer is the same;
+  -- 9. Writing twice gives the same bytes: into another buffer a message takes as many, and the same ones;
+  pub elsewhere : (other : List ℕ) {n k : ℕ} → writeOf s m before .says ≡ wrote n → writeOf s m other .says ≡ wrote k → (n ≡ k) × (take n (writeOf s m before .holds) ≡ take k (writeOf s m other .holds))
+  elsewhere = alike.alike s s m m (record { type = refl; values = refl }) before
+
+  -- and into the buffer that was just written it changes nothing: the answer is the same, and so is the content.
   pub again-alike : writeOf s m (writeOf s m before .holds) ≡ writeOf s m before
   again-alike = alike.again s m before
 
 module _ (s t : List ℕ) (m k : Message) (same : Same s (saidOf m) t (saidOf k)) where
-  -- two messages that are the same, and so one message, take as many bytes in two buffers, and the same ones;
+  -- Two messages that are the same take the same bytes, in whatever buffers;
   pub written-twice : (a b : List ℕ) {n j : ℕ} → writeOf s m a .says ≡ wrote n → writeOf t k b .says ≡ wrote j → (n ≡ j) × (take n (writeOf s m a .holds) ≡ take j (writeOf t k b .holds))
   written-twice = alike.alike s t m k same
 
-  -- and in one buffer they have the same answer and leave the same content, also where they are refused: unless the bytes of one of
-  -- them don't make what it states, and it answers 5.
+  -- and in one buffer they have the same answer and leave the same content, refusals too. Only 5 may be answered for one of them and
+  -- not for the other: whether bytes make what is stated of them is no part of a value.
   pub written-alike : (before : List ℕ) → (writeOf s m before .says ≡ refused 5 → ⊥) → (writeOf t k before .says ≡ refused 5 → ⊥) → writeOf s m before ≡ writeOf t k before
   written-alike = alike.written-alike s t m k same
 
