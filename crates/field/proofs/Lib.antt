@@ -8,6 +8,7 @@ pub mod Lists
 pub mod Once
 pub mod Pieces
 pub mod Back
+pub mod Least
 pub mod Shortest
 pub mod Stable
 pub mod Cuts

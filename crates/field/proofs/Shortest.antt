@@ -1,32 +1,24 @@
--- The shortest form of a field that was found is no longer than the bytes it was found in. Entries are as many as their count
--- says and hold as many bytes as was told, and those of a namespace no more than their size allows. Assumes nothing.
+-- The shortest form of a field that was found is no longer than the bytes it was found in, and where it is as long it is those
+-- bytes. Entries are as many as their count says and hold as many bytes as was told, and those of a namespace no more than their
+-- size allows. Assumes nothing.
 use Prim.Native.Nat.{ℕ, zero, suc, _+_, _-_, _≤_}
-use mathlib.Core.Path.{_≡_, refl, ap, _∙_}
+use mathlib.Core.Path.{_≡_, refl, ap}
 use mathlib.Core.List.{List}
 use mathlib.Core.Bool.{Bool, true}
 use native.Mathlib.Omega.{arith}
-use lib.ListN.{length, length-append}
-use Rattle.integer.specs.Integer.{encOf, greatest}
+use lib.ListN.{length}
+use Rattle.integer.specs.Integer.{greatest}
 use Rattle.field.specs.Outcome.{whole}
-use Rattle.field.specs.Entries.{size, textAt, entryAt, mostOf, entriesAt, Listed, listAt}
+use Rattle.field.specs.Entries.{size, entryAt, mostOf, entriesAt, Listed, listAt}
 use Rattle.field.specs.Fields.{Form}
-use Rattle.field.specs.Value.{part, Item, item, itemsOf, total, contents, mean, encText, encItem, encItems, encList, encField, itemSize}
-use Rattle.field.specs.declared.Span.{Span}
+use Rattle.field.specs.Value.{Item, itemsOf, total, contents, mean, encItems, encList, encField}
 use Rattle.field.specs.declared.Kind.{Kind}
-use Rattle.field.specs.declared.Kind.the-variants.{Namespace, Parameters, Versions}
+use Rattle.field.specs.declared.Kind.the-variants.{Namespace}
 use Rattle.field.specs.declared.Piece.{Piece}
 use Rattle.field.proofs.Found.{steps, number-at, text-at, numbered-at, entry-at}
-use Rattle.field.proofs.Lengths.{length-part, length-text, length-entry}
+use Rattle.field.proofs.Lengths.{length-part}
+use Rattle.field.proofs.Least.{Least, least-none, least-then, least-byte, least-number, least-text, least-entry}
 use Rattle.field.proofs.Pieces.{list-at, FieldAt, a-number, a-byte, some-bytes, a-list, a-track, items-suc}
-
--- ---- a length and bytes
-
--- the length that was read was no shorter
-text-fits : (most : ℕ) (s : List ℕ) (at : ℕ) {p : Span} {end : ℕ} → textAt most s at ≡ whole p end → at + length (encText (part s p)) ≤ end
-text-fits most s at {p} h =
-    let t = text-at most s at h in
-    let n = number-at s at (t .length-at) in
-    rw (length-text, length-part s p (t .within)) (omega (arith, n .fits, t .ordered, t .ends))
 
 -- ---- a run of entries
 
@@ -34,7 +26,7 @@ text-fits most s at {p} h =
 pub record RunAt (kind : Kind) (count held : ℕ) (s : List ℕ) (at : ℕ) (is : List Item) (holds end : ℕ) : Type 0 where
   pub counted : length is ≡ count
   pub sum : holds ≡ held + total is
-  pub fits : at + length (encItems kind is) ≤ end
+  pub least : Least s at (encItems kind is) end
   pub within : at ≤ length s → end ≤ length s
 
 -- every run that was found is one
@@ -42,20 +34,19 @@ pub run-at : (sized : Bool) (kind : Kind) (count held : ℕ) (s : List ℕ) (at 
 unfolding entriesAt itemsOf total encItems
 run-at sized kind zero held s at {holds} {end} h =
     let same : held ≡ holds = cc in
-    let stop : at ≡ end = cc in
-    record { counted = refl; sum = omega arith; fits = omega arith; within = λ k. omega arith }
+    let stop : end ≡ at = cc in
+    record { counted = refl; sum = omega arith; least = rw stop (least-none s at); within = λ k. omega arith }
 run-at sized kind (suc count) held s at h =
     let most = mostOf sized kind held in
     let t = steps (entryAt kind most s at) _ h in
     let e = entry-at kind most s at (t .first) in
     let r = run-at sized kind count (held + size (t .found .bytes)) s (t .end) (t .then) in
     let long = length-part s (t .found .bytes) (omega arith) in
-    let takes = length-entry kind s (t .found) (omega arith) in
     rw (items-suc kind most count s at (t .first))
     (record {
       counted = ap suc (r .counted);
       sum = omega (arith, r .sum);
-      fits = rw (length-append (encItem kind (item s (t .found)))) (omega (arith, e .fits, r .fits));
+      least = least-then (least-entry kind most s at (t .first)) (r .least);
       within = λ k. r .within (e .within);
     })
 
@@ -74,7 +65,7 @@ namespace-small (suc count) held s at k h =
 pub record ListFits (kind : Kind) (s : List ℕ) (at : ℕ) (l : Listed) (end : ℕ) : Type 0 where
   pub counted : length (contents s kind (l .entries)) ≡ l .entries .count
   pub sum : total (contents s kind (l .entries)) ≡ l .held
-  pub fits : at + length (encList kind (contents s kind (l .entries))) ≤ end
+  pub least : Least s at (encList kind (contents s kind (l .entries))) end
   pub within : end ≤ length s
 
 -- every list that was found fits,
@@ -87,7 +78,7 @@ list-fits kind s at {l} {end} h =
     record {
       counted = r .counted;
       sum = omega (arith, r .sum);
-      fits = rw (length-append, r .counted) (omega (arith, n .fits, r .fits, t .ends));
+      least = rw (t .ends, r .counted) (least-then (least-number s at (t .count-at)) (r .least));
       within = rw (t .ends) (r .within (n .within));
     }
 
@@ -99,19 +90,19 @@ held-small s at {l} h = namespace-small (l .entries .count) 0 s (l .entries .sta
 
 -- its shortest form is no longer, and it ends within the bytes
 pub record Fits (s : List ℕ) (at : ℕ) (p : Piece) (end : ℕ) : Type 0 where
-  pub fits : at + length (encField (mean s p)) ≤ end
+  pub least : Least s at (encField (mean s p)) end
   pub within : end ≤ length s
 
 -- every field that was found fits
 pub field-fits : {s : List ℕ} {at : ℕ} {form : Form} {p : Piece} {end : ℕ} → FieldAt s at form p end → Fits s at p end
 unfolding mean encField
-field-fits {s} {at} (a-number e) = let n = number-at s at e in record { fits = n .fits; within = n .within }
-field-fits (a-byte e) = record { fits = omega arith; within = omega arith }
+field-fits {s} {at} (a-number e) = record { least = least-number s at e; within = number-at s at e .within }
+field-fits {s} {at} (a-byte e) = record { least = least-byte s at e; within = omega arith }
 field-fits {s} {at} (some-bytes e) =
     let t = text-at greatest s at e in
-    record { fits = text-fits greatest s at e; within = rw (t .ends) (t .within) }
-field-fits {s} {at} (a-list {kind = kind} e) = let l = list-fits kind s at e in record { fits = l .fits; within = l .within }
+    record { least = least-text greatest s at e; within = rw (t .ends) (t .within) }
+field-fits {s} {at} (a-list {kind = kind} e) = let l = list-fits kind s at e in record { least = l .least; within = l .within }
 field-fits {s} {at} (a-track {l = l} {next = next} e f) =
-    let n = list-fits Namespace s at e in
-    let t = text-at (mostOf true Namespace (l .held)) s next f in
-    record { fits = rw length-append (omega (arith, n .fits, text-fits (mostOf true Namespace (l .held)) s next f)); within = rw (t .ends) (t .within) }
+    let most = mostOf true Namespace (l .held) in
+    let t = text-at most s next f in
+    record { least = least-then (list-fits Namespace s at e .least) (least-text most s next f); within = rw (t .ends) (t .within) }

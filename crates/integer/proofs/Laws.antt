@@ -1,19 +1,20 @@
 -- The laws of the integers, each shown once over the width: what a reader and a writer of them owe each other.
 -- Assumes nothing.
-use Prim.Native.Nat.{ℕ, suc, zero, pred, _+_, _*_, _/_, _%_, _^_, _≤_, _<_}
+use Prim.Native.Nat.{ℕ, suc, pred, _+_, _*_, _/_, _%_, _^_, _≤_, _<_}
 use mathlib.Core.Path.{_≡_, refl, sym, ap, subst, _∙_}
-use mathlib.Core.List.{List, _++_}
+use mathlib.Core.List.{List, [], _++_}
 use native.Mathlib.Nat.{suc-pred-eq-of-pos, mod-lt, mod-eq-of-lt, div-div-eq-div-mul, mul-comm, le-refl, zero-lt-suc, pow-succ'}
 use native.Mathlib.Omega.{arith}
 use lib.Arith.{digits-lt, digits-div, digits-mod}
 use lib.ListN.{length, getD, take, drop, length-append, length-take, List·getD-append}
 use lib.Seq.{getD-take, length-take-le, take-append-le, take-at, take-take, drop-at}
-use Rattle.integer.specs.Answer.{whole, refused}
+use Rattle.integer.specs.Answer.{whole}
 use Rattle.integer.specs.Integer.{wide, room, tag, sizeOf, greatest, spell, bytesOf, readOf, told, saying, encOf}
 use Rattle.integer.specs.declared.Reading.{Reading}
 use Rattle.integer.specs.declared.Reading.the-variants.{Whole, More}
 use Rattle.integer.specs.declared.Writing.{Writing}
 use Rattle.integer.specs.declared.Writing.the-variants.{Done, TooGreat, TooShort}
+use Rattle.integer.proofs.Cases.{apart}
 use Rattle.integer.proofs.Digits.{length-bytesOf, spell-bytesOf, head-bytesOf, room-suc, room-pos, room-top}
 use Rattle.integer.proofs.Widths.{Form, wide-form, size-form, size-room, size-least, size-few, wide-at}
 use Rattle.integer.proofs.Front.{Reads, parts, joined}
@@ -75,6 +76,15 @@ enc-few n = rw length-enc (size-few n)
 pub enc-some : (n : ℕ) → n ≤ greatest → 0 < length (encOf n)
 enc-some n h = rw length-enc (size-form n h .some)
 
+-- the shortest form of a smaller number is no longer
+pub no-longer : (a b : ℕ) → a ≤ b → b ≤ greatest → length (encOf a) ≤ length (encOf b)
+no-longer a b k h =
+    let first = getD (encOf b ++ []) 0 0 in
+    let e : wide first ≡ sizeOf b = sym (parts (round-trip b [] h) .width) ∙ length-enc b in
+    let lt : a < room (wide first) = rw e (omega (arith, size-room b h)) in
+    let le : sizeOf a ≤ sizeOf b = rw e at (size-least a first lt) in
+    omega (arith, length-enc a, length-enc b)
+
 -- ---- only the bytes used count
 
 pub only-used : (s t : List ℕ) {n used : ℕ} → take used s ≡ take used t → readOf s ≡ whole n used → readOf t ≡ whole n used
@@ -112,17 +122,17 @@ enc-apart a b s t h k e =
 
 pub told-once : (a b : Reading) → told a ≡ told b → a ≡ b
 told-once (Whole n u) (Whole m v) e = cc
-told-once (Whole n u) More e = absurd (let z : _≡_ {A = ℕ} 0 1 = cc in omega arith)
-told-once More (Whole m v) e = absurd (let z : _≡_ {A = ℕ} 0 1 = cc in omega arith)
+told-once (Whole n u) More e = absurd (apart (sym e))
+told-once More (Whole m v) e = absurd (apart e)
 told-once More More e = refl
 
 pub saying-once : (a b : Writing) → saying a ≡ saying b → a ≡ b
 saying-once (Done k) (Done l) e = cc
-saying-once (Done k) TooGreat e = absurd (let z : _≡_ {A = ℕ} 0 1 = cc in omega arith)
-saying-once (Done k) TooShort e = absurd (let z : _≡_ {A = ℕ} 0 1 = cc in omega arith)
-saying-once TooGreat (Done l) e = absurd (let z : _≡_ {A = ℕ} 0 1 = cc in omega arith)
+saying-once (Done k) TooGreat e = absurd (apart (sym e))
+saying-once (Done k) TooShort e = absurd (apart (sym e))
+saying-once TooGreat (Done l) e = absurd (apart e)
 saying-once TooGreat TooGreat e = refl
 saying-once TooGreat TooShort e = absurd (let z : _≡_ {A = ℕ} 5 7 = cc in omega arith)
-saying-once TooShort (Done l) e = absurd (let z : _≡_ {A = ℕ} 0 1 = cc in omega arith)
+saying-once TooShort (Done l) e = absurd (apart e)
 saying-once TooShort TooGreat e = absurd (let z : _≡_ {A = ℕ} 5 7 = cc in omega arith)
 saying-once TooShort TooShort e = refl

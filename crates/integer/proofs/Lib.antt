@@ -5,3 +5,4 @@ pub mod Front
 pub mod Laws
 pub mod Writes
 pub mod Parts
+pub mod Only

@@ -1,7 +1,8 @@
 -- The four widths of RFC 9000: what their first byte, their room and their sizes have to do with each other.
 -- Assumes nothing.
 use Prim.Native.Nat.{ℕ, zero, suc, _+_, _-_, _*_, _/_, _%_, _^_, _≤_, _<_}
-use mathlib.Core.Path.{_≡_, refl, sym, ap}
+use mathlib.Core.Path.{_≡_, refl, ap, _∙_}
+use native.Mathlib.Nat.{mod-eq-of-lt}
 use native.Mathlib.Omega.{arith}
 use lib.Dec.{lit<, lit≤}
 use Rattle.integer.specs.Integer.{wide, room, tag, sizeOf, greatest}
@@ -22,6 +23,12 @@ wide-cases P a b c d first = below-four (λ e. P (2 ^ e)) a b c d (first / 64 % 
 pub wide-at : (first e : ℕ) → first / 64 % 4 ≡ e → wide first ≡ 2 ^ e
 unfolding wide
 wide-at first e p = ap (λ (k : ℕ). 2 ^ k) p
+
+-- the top two bits of a byte are those of the width that it gives
+pub wide-tag : (first : ℕ) → first < 256 → tag (wide first) ≡ first / 64
+unfolding wide tag
+wide-tag first h =
+    below-four (λ e. tag (2 ^ e) ≡ e) refl refl refl refl (first / 64 % 4) (omega arith) ∙ mod-eq-of-lt (omega arith)
 
 -- the size of a number, by its range: RFC 9000's table
 pub size-cases : (P : ℕ → Type 0) (n : ℕ) → (n ≤ 63 → P 1) → (63 < n → n ≤ 16_383 → P 2) → (16_383 < n → n ≤ 1_073_741_823 → P 4) → (1_073_741_823 < n → n ≤ greatest → P 8) → (greatest < n → P 0) → P (sizeOf n)

@@ -34,7 +34,7 @@ list-lies kind s at {l} h =
     let t = list-at kind s at h in
     let n = number-at s at (t .count-at) in
     let r = run-at true kind (l .entries .count) 0 s (l .entries .start) (t .run) in
-    record { starts = omega (arith, n .after); ordered = omega (arith, r .fits); ends = omega (arith, t .ends) }
+    record { starts = omega (arith, n .after); ordered = omega (arith, r .least .fits); ends = omega (arith, t .ends) }
 
 -- what lies within some bytes lies within more
 wider : {low at start stop end high : ℕ} → low ≤ at → end ≤ high → Between at start stop end → Between low start stop high
@@ -61,7 +61,7 @@ all-inside low h at-end = tt
 all-inside low {end = end} h (one-more f r) =
     let g = field-fits f in
     let k = scanned-shortest r in
-    (field-lies low end h (omega (arith, k .fits)) f, all-inside low (omega (arith, g .fits)) r)
+    (field-lies low end h (omega (arith, k .least .fits)) f, all-inside low (omega (arith, g .least .fits)) r)
 all-inside low h (taken r) = all-inside low h r
 all-inside low h (left r) = all-inside low h r
 

@@ -1,15 +1,15 @@
--- For every layout: what is read whole is permitted, and its shortest form is no longer than what was read.
--- Assumes nothing.
-use Prim.Native.Nat.{ℕ, _+_, _≤_}
+-- For every layout: what is read whole is permitted, and its shortest form is no longer than what was read; where it is as long,
+-- it is what was read. Assumes nothing.
+use Prim.Native.Nat.{ℕ, _≤_}
 use mathlib.Core.Path.{_≡_, refl}
 use mathlib.Core.List.{List, map}
 use mathlib.Core.Bool.{true}
-use native.Mathlib.Omega.{arith}
-use lib.ListN.{length, length-append}
+use lib.ListN.{length}
 use borrow.Author.Tests.{eq-eqb}
 use Rattle.field.specs.Outcome.{whole}
 use Rattle.field.specs.Value.{Value, mean, encode}
 use Rattle.field.specs.declared.Piece.{Piece}
+use Rattle.field.proofs.Least.{Least, least-none, least-then}
 use Rattle.field.proofs.Shortest.{field-fits}
 use Rattle.layout.specs.Layout.{Layout, readBy}
 use Rattle.layout.specs.Permitted.{code, permitted}
@@ -19,24 +19,24 @@ use Rattle.layout.proofs.Good.{field-good}
 -- What is read whole is permitted, and its shortest form is no longer than what was read; it ends within the bytes.
 pub record Shortest (l : Layout) (s : List ℕ) (at : ℕ) (vs : List Value) (end : ℕ) : Type 0 where
   pub allowed : permitted l vs ≡ true
-  pub fits : at + length (encode vs) ≤ end
+  pub least : Least s at (encode vs) end
   pub within : at ≤ length s → end ≤ length s
 
 -- by the steps of the reading,
 pub scanned-shortest : {s : List ℕ} {l : Layout} {at : ℕ} {ps : List Piece} {end : ℕ} → Scanned s l at ps end → Shortest l s at (map (mean s) ps) end
 unfolding permitted encode
-scanned-shortest at-end = record { allowed = refl; fits = omega arith; within = λ k. k }
+scanned-shortest {s} {at = at} at-end = record { allowed = refl; least = least-none s at; within = λ k. k }
 scanned-shortest (one-more {form = form} f r) =
     let g = field-good f in
     let h = field-fits f in
     let k = scanned-shortest r in
     record {
       allowed = rw (g .as-asked, eq-eqb (code form) (code form) refl, g .allowed, g .hands-on) (k .allowed);
-      fits = rw length-append (omega (arith, h .fits, k .fits));
+      least = least-then (h .least) (k .least);
       within = λ _. k .within (h .within);
     }
-scanned-shortest (taken r) = let k = scanned-shortest r in record { allowed = k .allowed; fits = k .fits; within = k .within }
-scanned-shortest (left r) = let k = scanned-shortest r in record { allowed = k .allowed; fits = k .fits; within = k .within }
+scanned-shortest (taken r) = let k = scanned-shortest r in record { allowed = k .allowed; least = k .least; within = k .within }
+scanned-shortest (left r) = let k = scanned-shortest r in record { allowed = k .allowed; least = k .least; within = k .within }
 
 -- and so by what was read
 pub shortest : (l : Layout) (s : List ℕ) (at : ℕ) {vs : List Value} {end : ℕ} → readBy l s at ≡ whole vs end → Shortest l s at vs end

@@ -3,7 +3,8 @@ use Prim.Native.Nat.{ℕ, _+_, _≤_}
 use mathlib.Core.Path.{_≡_}
 use mathlib.Core.List.{List, _++_}
 use mathlib.Core.Bool.{true}
-use lib.ListN.{length}
+use lib.ListN.{length, drop}
+use Rattle.integer.specs.Octets.{Octets}
 use Rattle.field.specs.Outcome.{whole, no}
 use Rattle.field.specs.Value.{Value, encode}
 use Rattle.field.specs.declared.Fault.{Fault}
@@ -26,7 +27,11 @@ module _ (l : Layout) where
 
   -- 2. What is read whole is permitted, and its shortest form is no longer than what was read;
   pub shortest : (s : List ℕ) (at : ℕ) {vs : List Value} {end : ℕ} → readBy l s at ≡ whole vs end → (permitted l vs ≡ true) × (at + length (encode vs) ≤ end)
-  shortest s at h = let r = shorter.shortest l s at h in (r .allowed, r .fits)
+  shortest s at h = let r = shorter.shortest l s at h in (r .allowed, r .least .fits)
+
+  -- of forms that are as short it is the only one;
+  pub only : (s : List ℕ) (at : ℕ) {vs : List Value} {end : ℕ} → Octets s → readBy l s at ≡ whole vs end → end ≤ at + length (encode vs) → drop at s ≡ encode vs ++ drop end s
+  only s at o h = shorter.shortest l s at h .least .is o
 
   -- so encoded again it reads back the same.
   pub again : (s : List ℕ) (at : ℕ) {vs : List Value} {end : ℕ} (before rest : List ℕ) → readBy l s at ≡ whole vs end → readBy l (before ++ (encode vs ++ rest)) (length before) ≡ whole vs (length before + length (encode vs))

@@ -2,3 +2,4 @@ pub mod Layout
 pub mod Permitted
 pub mod Inside
 pub mod Typed
+pub mod Same

@@ -9,7 +9,7 @@ use lib.ListN.{length, take}
 use lib.Dec.{eqb}
 use borrow.Author.Tests.{le-leb, lt-leb, eq-eqb, eqb-true}
 use Rattle.integer.specs.Answer.{Answer, whole as answered, refused}
-use Rattle.integer.proofs.Cases.{pick-by, pick-le}
+use Rattle.integer.proofs.Cases.{pick-by, pick-le, apart}
 use Rattle.field.specs.Outcome.{Outcome, whole, no}
 use Rattle.field.specs.Entries.{numberAt}
 use Rattle.field.specs.Value.{onFound}
@@ -92,10 +92,6 @@ pub record WholeAt (s : List ℕ) (t : Typed) (used : ℕ) : Type 0 where
   pub ends : used ≡ at + size
   pub present : used ≤ length s
   pub body : scan (layoutOf (t .type)) (take used s) at ≡ whole (t .pieces) used
-
--- what is whole was not refused
-pub apart : {A : Type 0} {a : A} {used n : ℕ} → refused n ≡ answered a used → ⊥
-apart h = let z : _≡_ {A = ℕ} 0 1 = cc in omega arith
 
 -- what holds of a message and its end holds of those that the same answer tells
 as-answered : (P : Typed → ℕ → Type 0) {m t : Typed} {end used : ℕ} → P m end → answered m end ≡ answered t used → P t used

@@ -14,4 +14,6 @@ pub mod Once
 pub mod Writes
 pub mod Shape
 pub mod RoundTrip
+pub mod Alike
+pub mod Only
 pub mod Again

@@ -1,11 +1,15 @@
--- One possible answer: 01's number and values lose nothing. A type and fields are those of one message, which is made of them
+-- One possible answer, and one possible content of the buffer: 01's number and values lose nothing. A type and fields are those of one message, which is made of them
 -- again, by its family; and so is the answer that tells it. Assumes nothing.
 use Prim.Native.Nat.{ℕ}
-use mathlib.Core.Path.{_≡_, refl}
+use mathlib.Core.Path.{_≡_, refl, sym, _∙_}
+use mathlib.Core.List.{List}
 use lib.Dec.{eqb, leb}
-use Rattle.integer.specs.Answer.{pick, Answer, whole as answered, refused}
+use Rattle.integer.specs.Answer.{pick, Answer, whole as answered, refused, Leaves}
 use Rattle.layout.specs.Typed.{Typed}
 use Rattle.layout.proofs.Parts.{once}
+use Rattle.shortest.specs.Writing.{answering}
+use Rattle.shortest.specs.declared.Writing.{Writing}
+use Rattle.shortest.proofs.Once.{answering-once}
 use Rattle.subscription.proofs.Once.{messageOf as subscriptionOf, message-back as subscription-back}
 use Rattle.subscription.specs.Told.{saidOf as subscriptionSaid}
 use Rattle.subscription.specs.declared.SubscriptionMessage.{SubscriptionMessage}
@@ -27,7 +31,8 @@ use Rattle.session.specs.Told.{saidOf as sessionSaid}
 use Rattle.session.specs.declared.SessionMessage.{SessionMessage}
 use Rattle.session.specs.declared.SessionMessage.the-variants as session
 use Rattle.message.specs.Types.{saidOf}
-use Rattle.message.specs.Reading.{told}
+use Rattle.message.specs.Reading.{readOf, told}
+use Rattle.message.specs.Writing.{writeOf}
 use Rattle.message.specs.declared.Message.{Message}
 use Rattle.message.specs.declared.Message.the-variants.{Subscription, Fetch, Announce, Session}
 use Rattle.message.specs.declared.Reading.{Reading}
@@ -147,3 +152,13 @@ said-once = once saidOf messageOf message-back
 -- and what is answered is answered in one way
 pub told-once : (a b : Reading) → told a ≡ told b → a ≡ b
 told-once = once told answerOf answer-back
+
+-- ---- of reading and of writing
+
+-- two answers that both meet the contract of `read` are the same,
+pub read-once : (s : List ℕ) (a b : Reading) → told a ≡ readOf s → told b ≡ readOf s → a ≡ b
+read-once s a b h k = told-once a b (h ∙ sym k)
+
+-- and so are two answers, and what the buffer then holds, that both meet the contract of `write`: refusals too
+pub write-once : (s : List ℕ) (m : Message) (before : List ℕ) (a b : Writing) {x y : List ℕ} → Leaves (writeOf s m before) (answering a) x → Leaves (writeOf s m before) (answering b) y → (a ≡ b) × (x ≡ y)
+write-once s m before a b p q = (answering-once a b (p .says ∙ sym (q .says)), p .holds ∙ sym (q .holds))

@@ -1,16 +1,15 @@
 -- What is written reads back: as the same message, and from exactly the bytes that were written. Assumes nothing.
 use Prim.Native.Nat.{ℕ, _+_, _≤_}
 use mathlib.Core.Path.{_≡_, refl, sym, ap, _∙_}
-use mathlib.Core.Bool.{Bool, true, false}
+use mathlib.Core.Bool.{true}
 use mathlib.Core.List.{List, [], _++_, map, append-nil}
 use native.Mathlib.Omega.{arith}
 use lib.ListN.{length, drop, length-append}
 use lib.Seq.{take-append-seam}
 use lib.Dec.{leb}
 use borrow.Author.Tests.{leb-true}
-use Rattle.integer.specs.Answer.{Written, wrote, whole as answered}
-use Rattle.integer.specs.Integer.{greatest, encOf, over}
-use Rattle.integer.proofs.Cases.{pick-by}
+use Rattle.integer.specs.Answer.{wrote, whole as answered}
+use Rattle.integer.specs.Integer.{greatest, encOf}
 use Rattle.field.specs.Outcome.{whole}
 use Rattle.field.specs.Value.{Value, mean, encode}
 use Rattle.field.specs.declared.Piece.{Piece}
@@ -18,40 +17,19 @@ use Rattle.field.proofs.Back.{From, from-start, front, behind, number-back}
 use Rattle.layout.specs.Layout.{scan}
 use Rattle.layout.specs.Permitted.{permitted}
 use Rattle.layout.specs.Typed.{Typed}
+use Rattle.layout.specs.Same.{Same}
 use Rattle.layout.proofs.Back.{both-true, scan-back}
 use Rattle.layout.proofs.Scanned.{scanned}
 use Rattle.layout.proofs.Stable.{values-stay}
-use Rattle.shortest.specs.Writing.{rightAll, encodeAll, writtenOf, frame}
+use Rattle.shortest.specs.Writing.{rightAll, encodeAll, frame}
 use Rattle.shortest.proofs.Good.{all-good}
+use Rattle.shortest.proofs.Alike.{was-written}
 use Rattle.message.specs.Types.{known, layoutOf, saidOf}
 use Rattle.message.specs.Reading.{longest, readOf}
 use Rattle.message.specs.Writing.{allowedOf, writeOf}
 use Rattle.message.specs.declared.Message.{Message}
-use Rattle.message.proofs.Front.{WholeAt, joined, apart}
+use Rattle.message.proofs.Front.{WholeAt, joined}
 use Rattle.message.proofs.Shape.{known-type, shaped}
-
--- ---- what was written
-
--- every check holds, and the bytes stand at the front of the buffer
-record Wrote (isRight isSized isShort : Bool) (bytes before : List ℕ) (after : Written) (n : ℕ) : Type 0 where
-  is-right : isRight ≡ true
-  is-sized : isSized ≡ true
-  is-short : isShort ≡ true
-  used : n ≡ length bytes
-  holds : after .holds ≡ over bytes before
-
--- where the writer says so
-was-written : (isRight isSized isShort : Bool) (bytes before : List ℕ) {n : ℕ} → writtenOf isRight isSized isShort bytes before .says ≡ wrote n
-    → Wrote isRight isSized isShort bytes before (writtenOf isRight isSized isShort bytes before) n
-unfolding writtenOf
-was-written true true true bytes before {n} h =
-    pick-by (λ (w : Written). w .says ≡ wrote n → Wrote true true true bytes before w n) (leb (length bytes) (length before))
-    (λ _ e. record { is-right = refl; is-sized = refl; is-short = refl; used = cc; holds = refl })
-    (λ _ e. absurd (apart e))
-    h
-was-written true true false bytes before h = absurd (apart h)
-was-written true false isShort bytes before h = absurd (apart h)
-was-written false isSized isShort bytes before h = absurd (apart h)
 
 -- ---- a frame
 
@@ -96,17 +74,17 @@ frame-back type vs rest k small short allowed =
       means = values-stay rest (scanned (layoutOf type) bytes at (back .reads)) ∙ back .means;
     }
 
--- and what stands so in a buffer is read from it
-read-from : {s after : List ℕ} {type used n : ℕ} {vs : List Value} → after ≡ s → n ≡ used → ReadBack s type vs used
-    → (t : Typed) × (readOf after ≡ answered t n) × (t .type ≡ type) × (map (mean after) (t .pieces) ≡ vs)
-read-from {s} {type = type} e u r =
-    (record { type = type; pieces = r .found }, rw (e, u) (joined s (r .is-whole)), refl, rw e (r .means))
+-- and what stands so in a buffer is read from it as the message whose values they are
+read-from : {s after x : List ℕ} {m : Typed} {used n : ℕ} → after ≡ s → n ≡ used → ReadBack s (m .type) (map (mean x) (m .pieces)) used
+    → (t : Typed) × (readOf after ≡ answered t n) × Same after t x m
+read-from {s} {m = m} e u r =
+    (record { type = m .type; pieces = r .found }, rw (e, u) (joined s (r .is-whole)), record { type = refl; values = rw e (r .means) })
 
 -- ---- a message
 
 -- What is written reads back as the same message, and uses exactly the bytes written.
 pub written-reads : (s : List ℕ) (m : Message) (before : List ℕ) {n : ℕ} → writeOf s m before .says ≡ wrote n
-    → (t : Typed) × (readOf (writeOf s m before .holds) ≡ answered t n) × (t .type ≡ saidOf m .type) × (map (mean (writeOf s m before .holds)) (t .pieces) ≡ map (mean s) (saidOf m .pieces))
+    → (t : Typed) × (readOf (writeOf s m before .holds) ≡ answered t n) × Same (writeOf s m before .holds) t s (saidOf m)
 unfolding writeOf encodeAll
 written-reads s m before h =
     let type = saidOf m .type in

@@ -6,6 +6,7 @@ use native.Mathlib.Omega.{arith}
 use lib.ListN.{length, length-append}
 use lib.Seq.{take-append-le}
 use Rattle.integer.specs.Answer.{Answer, whole as answered, refused}
+use Rattle.integer.proofs.Cases.{apart}
 use Rattle.field.specs.Outcome.{whole}
 use Rattle.field.specs.Entries.{numberAt}
 use Rattle.field.specs.Fields.{integer}
@@ -14,7 +15,7 @@ use Rattle.field.proofs.Unjudged.{as-number, found-number}
 use Rattle.field.proofs.Stable.{keeps-whole, field-stays}
 use Rattle.layout.specs.Typed.{Typed}
 use Rattle.message.specs.Reading.{readOf}
-use Rattle.message.proofs.Front.{Headed, Stops, no-type, unknown, no-length, too-long, missing, Judged, stopped, present, judged, answer-is, apart}
+use Rattle.message.proofs.Front.{Headed, Stops, no-type, unknown, no-length, too-long, missing, Judged, stopped, present, judged, answer-is}
 
 module _ (s x : List ℕ) where
   -- an integer that was read stays,

@@ -2,22 +2,27 @@
 -- and nothing else.
 -- Assumes nothing.
 use Prim.Native.Nat.{ℕ, _≤_}
-use mathlib.Core.Path.{_≡_}
+use mathlib.Core.Path.{_≡_, refl}
 use mathlib.Core.List.{List, _++_, map}
 use mathlib.Core.Bool.{true}
 use lib.ListN.{length, take}
-use Rattle.integer.specs.Answer.{whole as answered, refused, wrote}
+use Rattle.integer.specs.Answer.{whole as answered, refused, wrote, Leaves}
+use Rattle.integer.specs.Octets.{Octets}
 use Rattle.field.specs.Outcome.{whole}
 use Rattle.field.specs.Entries.{numberAt}
 use Rattle.field.specs.Value.{part, mean}
 use Rattle.layout.specs.Permitted.{permitted}
 use Rattle.layout.specs.Inside.{Inside}
 use Rattle.layout.specs.Typed.{Typed}
+use Rattle.layout.specs.Same.{Same}
+use Rattle.shortest.specs.Writing.{answering}
+use Rattle.shortest.specs.declared.Writing.{Writing}
 use Rattle.message.specs.Types.{known, layoutOf, saidOf}
-use Rattle.message.specs.Reading.{readOf}
+use Rattle.message.specs.Reading.{readOf, told}
 use Rattle.message.specs.Names.{nameOf, namedIn}
 use Rattle.message.specs.Writing.{writeOf}
 use Rattle.message.specs.declared.Message.{Message}
+use Rattle.message.specs.declared.Reading.{Reading}
 use Rattle.message.proofs.Naming as naming
 use Rattle.message.proofs.Front.{WholeAt}
 use Rattle.message.proofs.Front as front
@@ -27,6 +32,9 @@ use Rattle.message.proofs.Enough as enough
 use Rattle.message.proofs.Fields as fields
 use Rattle.message.proofs.RoundTrip as round-trip
 use Rattle.message.proofs.Again as again
+use Rattle.message.proofs.Only as only
+use Rattle.message.proofs.Alike as alike
+use Rattle.message.proofs.Once as once
 
 module _ (s : List ℕ) where
   -- 1. Every refusal is one of 1 to 6.
@@ -77,7 +85,7 @@ module _ (s : List ℕ) where
 module _ (s : List ℕ) (m : Message) (before : List ℕ) where
   -- 6. What is written reads back as the same message, and exactly the bytes written are used.
   pub reads-back : {n : ℕ} → writeOf s m before .says ≡ wrote n
-      → (t : Typed) × (readOf (writeOf s m before .holds) ≡ answered t n) × (t .type ≡ saidOf m .type) × (map (mean (writeOf s m before .holds)) (t .pieces) ≡ map (mean s) (saidOf m .pieces))
+      → (t : Typed) × (readOf (writeOf s m before .holds) ≡ answered t n) × Same (writeOf s m before .holds) t s (saidOf m)
   reads-back = round-trip.written-reads s m before
 
   module _ {used : ℕ} (read : readOf s ≡ answered (saidOf m) used) where
@@ -92,3 +100,38 @@ module _ (s : List ℕ) (m : Message) (before : List ℕ) where
     -- and for want of room only where there is less than it was read from.
     pub written-again : used ≤ length before → (n : ℕ) × (writeOf s m before .says ≡ wrote n)
     written-again = again.written-again s m before read
+
+  module _ {n : ℕ} (written : writeOf s m before .says ≡ wrote n) (b : List ℕ) {t : Typed} (read : readOf b ≡ answered t (length b)) (same : Same b t s (saidOf m)) where
+    -- 8. The written bytes are the only shortest form of that message: no bytes that read as the same message are fewer,
+    pub none-shorter : n ≤ length b
+    none-shorter = only.none-shorter s m before written b read same
+
+    -- and those that are as many are the ones written.
+    pub only-one : Octets b → length b ≡ n → b ≡ take n (writeOf s m before .holds)
+    only-one = only.only-one s m before written b read same
+
+  -- 9. Writing twice gives the same bytes: into another buffer a message takes as many, and the same ones;
+  pub elsewhere : (other : List ℕ) {n k : ℕ} → writeOf s m before .says ≡ wrote n → writeOf s m other .says ≡ wrote k → (n ≡ k) × (take n (writeOf s m before .holds) ≡ take k (writeOf s m other .holds))
+  elsewhere = alike.alike s s m m (record { type = refl; values = refl }) before
+
+  -- and into the buffer that was just written it changes nothing: the answer is the same, and so is the content.
+  pub again-alike : writeOf s m (writeOf s m before .holds) ≡ writeOf s m before
+  again-alike = alike.again s m before
+
+module _ (s t : List ℕ) (m k : Message) (same : Same s (saidOf m) t (saidOf k)) where
+  -- Two messages that are the same take the same bytes, in whatever buffers;
+  pub written-twice : (a b : List ℕ) {n j : ℕ} → writeOf s m a .says ≡ wrote n → writeOf t k b .says ≡ wrote j → (n ≡ j) × (take n (writeOf s m a .holds) ≡ take j (writeOf t k b .holds))
+  written-twice = alike.alike s t m k same
+
+  -- and in one buffer they have the same answer and leave the same content, refusals too. Only 5 may be answered for one of them and
+  -- not for the other: whether bytes make what is stated of them is no part of a value.
+  pub written-alike : (before : List ℕ) → (writeOf s m before .says ≡ refused 5 → ⊥) → (writeOf t k before .says ≡ refused 5 → ⊥) → writeOf s m before ≡ writeOf t k before
+  written-alike = alike.written-alike s t m k same
+
+-- 10. The contract of `read` leaves one possible answer,
+pub read-once : (s : List ℕ) (a b : Reading) → told a ≡ readOf s → told b ≡ readOf s → a ≡ b
+read-once = once.read-once
+
+-- and that of `write` one possible answer and one possible content of the buffer, refusals too.
+pub write-once : (s : List ℕ) (m : Message) (before : List ℕ) (a b : Writing) {x y : List ℕ} → Leaves (writeOf s m before) (answering a) x → Leaves (writeOf s m before) (answering b) y → (a ≡ b) × (x ≡ y)
+write-once = once.write-once
