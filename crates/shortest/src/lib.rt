@@ -2,6 +2,7 @@
 mod judging;
 mod places;
 mod putting;
+mod small;
 mod writer;
 
 use field::Piece;
@@ -16,6 +17,7 @@ pub use places::of7;
 pub use places::of9;
 pub use places::of10;
 pub use putting::put;
+pub use small::are_small;
 pub use writer::write;
 pub use writer::write_framed;
 
