@@ -1,6 +1,7 @@
 // Control messages: section 8 of source document 004. A message is Type, Length and a body of Length bytes.
 mod name;
 mod reader;
+mod sound;
 mod types;
 mod writer;
 
@@ -13,6 +14,7 @@ pub use name::track_name;
 pub use reader::read;
 use session::SessionKind;
 use session::SessionMessage;
+pub use sound::is_sound;
 use subscription::SubscriptionKind;
 use subscription::SubscriptionMessage;
 pub use writer::write;
