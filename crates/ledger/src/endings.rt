@@ -53,7 +53,7 @@ fn without(l: Ledger, at: usize) -> Ledger
     let mut next = l;
     let mut i = at;
     while i < 63 {
-        let row = next.rows[i + 1];
+        let row = l.rows[i + 1];
         next.rows[i] = row;
         i += 1;
     }

@@ -19,7 +19,7 @@ use subscription::Subscribe;
 use subscription::SubscribeOk;
 
 pub fn add(l: Ledger, m: Subscribe) -> Taken
-    requires { ⌜ l .used ≤ 64 ⌝ }
+    requires { ⌜ (l .used ≤ 64) × (l .capacity ≤ 64) ⌝ }
     ensures { λ r. ⌜ told r ≡ subscribeStep l m ⌝ }
 {
     let part = l.part;
