@@ -12,6 +12,7 @@ pub mod Theorems
 pub mod Naming
 pub mod Once
 pub mod Writes
+pub mod Sounding
 pub mod Shape
 pub mod RoundTrip
 pub mod Alike

@@ -2,3 +2,4 @@ pub mod Types
 pub mod Reading
 pub mod Names
 pub mod Writing
+pub mod Sound

@@ -1,6 +1,7 @@
 // Control messages: section 8 of source document 004. A message is Type, Length and a body of Length bytes.
 mod name;
 mod reader;
+mod sound;
 mod types;
 mod writer;
 
@@ -13,6 +14,7 @@ pub use name::track_name;
 pub use reader::read;
 use session::SessionMessage;
 use session::kinds::SessionKind;
+pub use sound::is_sound;
 use subscription::SubscriptionMessage;
 use subscription::kinds::SubscriptionKind;
 pub use writer::write;

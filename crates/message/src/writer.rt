@@ -20,7 +20,7 @@ pub fn write(out: &mut [u8], bytes: &[u8], m: Message) -> Writing
 }
 
 // The fields of a message.
-fn fields(m: Message) -> Fields
+pub fn fields(m: Message) -> Fields
     ensures { λ r. ⌜ typedOf r ≡ saidOf m ⌝ }
 {
     match m {
@@ -32,7 +32,7 @@ fn fields(m: Message) -> Fields
 }
 
 // Whether a message holds no forbidden value.
-fn is_allowed(m: Message) -> bool
+pub fn is_allowed(m: Message) -> bool
     ensures { λ r. ⌜ r ≡ allowedOf m ⌝ }
 {
     match m {

@@ -13,6 +13,7 @@ pub mod Pieces
 pub mod Single
 pub mod Rows
 pub mod SoFar
+pub mod AllSmall
 pub mod Filling
 pub mod Written
 pub mod Once

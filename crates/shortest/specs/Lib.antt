@@ -1,3 +1,4 @@
 pub mod Judging
 pub mod Putting
 pub mod Writing
+pub mod Small

@@ -2,11 +2,13 @@
 mod judging;
 pub mod places;
 mod putting;
+mod small;
 mod writer;
 
 use field::Piece;
 pub use judging::measure;
 pub use putting::put;
+pub use small::are_small;
 pub use writer::write;
 pub use writer::write_framed;
 

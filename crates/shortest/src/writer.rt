@@ -16,7 +16,7 @@ use crate::putting::put_number;
 use crate::putting::put_piece;
 
 // How many fields there are: no more than there are places.
-fn ten(used: usize) -> usize
+pub fn ten(used: usize) -> usize
     ensures { λ r. ⌜ r ≡ tenOf used ⌝ }
 {
     if used < 10 { used } else { 10 }

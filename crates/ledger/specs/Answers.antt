@@ -1,0 +1,115 @@
+-- What a ledger answers, in the numbers of document 01, and the ledger that it leaves.
+use Prim.Native.Nat.{ℕ}
+use mathlib.Core.Bool.{Bool, true, false}
+use lib.Dec.{eqb}
+use Rattle.integer.specs.Answer.{pick}
+use Rattle.ledger.specs.Ledgers.{isLedger, isOpen}
+use Rattle.ledger.specs.declared.Part.{Part}
+use Rattle.ledger.specs.declared.Part.the-variants.{Subscriber, Publisher}
+use Rattle.ledger.specs.declared.Rule.{Rule}
+use Rattle.ledger.specs.declared.Rule.the-variants.{R1, R2, R3, R4, R5, R6, R7}
+use Rattle.ledger.specs.declared.Session.{Session}
+use Rattle.ledger.specs.declared.Session.the-variants.{Closed}
+use Rattle.ledger.specs.declared.Ledger.{Ledger}
+use Rattle.ledger.specs.declared.Answer.{Answer}
+use Rattle.ledger.specs.declared.Answer.the-variants.{Forbidden, Done, NotKept, AlreadyClosed, Full, Stale, Breaks, NotALedger, StartRefused, Counted, Outside, NoRow, StillPending}
+use Rattle.ledger.specs.declared.Taken.{Taken}
+use Rattle.ledger.specs.declared.Gate.{Gate}
+use Rattle.ledger.specs.declared.Gate.the-variants.{Pass, Stop}
+
+abbrev pub ruleNumber : Rule → ℕ
+ruleNumber R1 = 1
+ruleNumber R2 = 2
+ruleNumber R3 = 3
+ruleNumber R4 = 4
+ruleNumber R5 = 5
+ruleNumber R6 = 6
+ruleNumber R7 = 7
+
+-- "R3 closes as Too Many Subscribes, R4 as Duplicate Track Alias, the others as Protocol Violation": table 1 of source
+-- document 004
+abbrev pub closeCode : Rule → ℕ
+closeCode R1 = 0x3
+closeCode R2 = 0x3
+closeCode R3 = 0x6
+closeCode R4 = 0x4
+closeCode R5 = 0x3
+closeCode R6 = 0x3
+closeCode R7 = 0x3
+
+-- ---- 01's number of an answer, and the rule that stands behind a 13 (0 behind another)
+
+pub record Said : Type 0 where
+  pub number : ℕ
+  pub rule : ℕ
+
+abbrev pub only : ℕ → Said
+only number = record { number = number; rule = 0 }
+
+abbrev pub said : Answer → Said
+said Forbidden = only 5
+said Done = only 8
+said NotKept = only 9
+said AlreadyClosed = only 10
+said Full = only 11
+said Stale = only 12
+said (Breaks rule) = record { number = 13; rule = ruleNumber rule }
+said NotALedger = only 14
+said StartRefused = only 15
+said Counted = only 16
+said Outside = only 17
+said NoRow = only 18
+said StillPending = only 19
+
+-- what a call comes to: what is said, and the next ledger
+pub record Came : Type 0 where
+  pub says : Said
+  pub next : Ledger
+
+abbrev pub told : Taken → Came
+told t = record { says = said (t .answer); next = t .ledger }
+
+-- ---- the answers that leave the ledger as it was, and those that do not
+
+abbrev pub same : Ledger → ℕ → Came
+same l number = record { says = only number; next = l }
+
+abbrev pub done : Ledger → Came
+done next = record { says = only 8; next = next }
+
+abbrev pub closedBy : Ledger → Rule → Ledger
+closedBy l rule = record {
+  rows = l .rows;
+  part = l .part;
+  session = Closed rule;
+  capacity = l .capacity;
+  maximum = l .maximum;
+  next = l .next;
+  used = l .used;
+}
+
+-- a message that this end sends
+abbrev pub isOwn : Part → Part → Bool
+isOwn Subscriber Subscriber = true
+isOwn Subscriber Publisher = false
+isOwn Publisher Subscriber = false
+isOwn Publisher Publisher = true
+
+-- "13 breaks rule R1 to R7, number given; own message: same ledger; peer's: closed, rule kept, rows unchanged"
+unfoldable pub breaks : Ledger → Bool → Rule → Came
+breaks l own rule =
+    record { says = record { number = 13; rule = ruleNumber rule }; next = pick own l (closedBy l rule) }
+
+-- ---- "Order: 14, 5, 10, then the rest"
+
+-- 0 where the rest is next
+unfoldable pub gateOf : Ledger → Bool → ℕ
+gateOf l sound = pick (isLedger l) (pick sound (pick (isOpen (l .session)) 0 10) 5) 14
+
+abbrev pub toldGate : Gate → Said
+toldGate Pass = only 0
+toldGate (Stop answer) = said answer
+
+-- the rest, behind the gate
+unfoldable pub gated : Ledger → Bool → Came → Came
+gated l sound rest = pick (eqb (gateOf l sound) 0) rest (same l (gateOf l sound))

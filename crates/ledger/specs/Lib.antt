@@ -1,0 +1,4 @@
+pub mod Ledgers
+pub mod Answers
+pub mod Steps
+pub mod Runs

@@ -1,0 +1,55 @@
+-- Arrivals that come together: three numbers each, taken one by one.
+use Prim.Native.Nat.{ℕ}
+use mathlib.Core.Path.{_≡_}
+use mathlib.Core.List.{List, [], _∷_}
+use lib.ListN.{length}
+use lib.Dec.{leb}
+use Rattle.integer.specs.Answer.{pick, Answer, refused, Nothing, wrote}
+use Rattle.integer.specs.Integer.{over}
+use Rattle.field.specs.declared.Arrival.{Arrival}
+use Rattle.ledger.specs.Steps.{arrivalOf}
+use Rattle.ledger.specs.declared.Ledger.{Ledger}
+use Rattle.ledger.specs.declared.Filled.{Filled}
+use Rattle.ledger.specs.declared.Filled.the-variants.{Done, TooShort}
+use Rattle.ledger.specs.declared.Ran.{Ran}
+
+-- "An arrival is alias, group, object"; one or two numbers at the end are none
+unfoldable pub arrivalsIn : List ℕ → List Arrival
+arrivalsIn [] = []
+arrivalsIn (alias ∷ []) = []
+arrivalsIn (alias ∷ group ∷ []) = []
+arrivalsIn (alias ∷ group ∷ object ∷ rest) =
+    record { alias = alias; place = record { group = group; object = object } } ∷ arrivalsIn rest
+
+-- the ledger behind them,
+unfoldable pub behind : Ledger → List Arrival → Ledger
+behind l [] = l
+behind l (a ∷ rest) = behind (arrivalOf l a .next) rest
+
+-- and 01's number of each
+unfoldable pub numbersOf : Ledger → List Arrival → List ℕ
+numbersOf l [] = []
+numbersOf l (a ∷ rest) = arrivalOf l a .says .number ∷ numbersOf (arrivalOf l a .next) rest
+
+-- what a run does: what is said, the ledger behind it, and what the buffer for the numbers then holds
+pub record Run : Type 0 where
+  pub says : Answer Nothing
+  pub next : Ledger
+  pub holds : List ℕ
+
+-- 7 where there is no room for a number for each arrival, and then nothing is changed
+unfoldable pub runOf : Ledger → List ℕ → List ℕ → Run
+runOf l run before =
+    let came = arrivalsIn run in
+    pick (leb (length came) (length before))
+    (record { says = wrote (length came); next = behind l came; holds = over (numbersOf l came) before })
+    (record { says = refused 7; next = l; holds = before })
+
+abbrev pub saying : Filled → Answer Nothing
+saying (Done count) = wrote count
+saying TooShort = refused 7
+
+pub record Runs (w : Run) (r : Ran) (after : List ℕ) : Type 0 where
+  pub says : saying (r .answer) ≡ w .says
+  pub next : r .ledger ≡ w .next
+  pub holds : after ≡ w .holds

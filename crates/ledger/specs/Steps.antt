@@ -1,0 +1,202 @@
+-- The ledger's steps, in the order and the words of document 01.
+use Prim.Native.Nat.{ℕ, suc, _+_, _-_}
+use mathlib.Core.Bool.{Bool, true, false, not}
+use mathlib.Core.List.{List, [], _∷_, _++_}
+use lib.ListN.{take, drop, getD, set}
+use lib.Dec.{leb, ltb, eqb}
+use Rattle.integer.specs.Answer.{pick}
+use Rattle.field.specs.Outcome.{both}
+use Rattle.field.specs.declared.Arrival.{Arrival}
+use Rattle.field.specs.declared.Place.{Place}
+use Rattle.subscription.specs.declared.Content.{Content}
+use Rattle.subscription.specs.declared.Subscribe.{Subscribe}
+use Rattle.subscription.specs.declared.SubscribeOk.{SubscribeOk}
+use Rattle.subscription.specs.declared.SubscribeError.{SubscribeError}
+use Rattle.subscription.specs.declared.SubscribeDone.{SubscribeDone}
+use Rattle.subscription.specs.declared.SubscriptionMessage.{SubscriptionMessage}
+use Rattle.subscription.specs.declared.SubscriptionMessage.the-variants.{SubscribeUpdate as ASubscribeUpdate, Subscribe as ASubscribe, SubscribeOk as ASubscribeOk, SubscribeError as ASubscribeError, Unsubscribe as AUnsubscribe, SubscribeDone as ASubscribeDone, MaxSubscribeId as AMaxSubscribeId, SubscribesBlocked as ASubscribesBlocked}
+use Rattle.message.specs.Sound.{soundOf}
+use Rattle.message.specs.declared.Message.{Message}
+use Rattle.message.specs.declared.Message.the-variants.{Subscription, Fetch, Announce, Session}
+use Rattle.row.specs.Places.{small, smallPlace}
+use Rattle.row.specs.Ranges.{askedOf}
+use Rattle.row.specs.Rows.{unusedRow, pendingRow, arriveOf, openOf, mayEnd}
+use Rattle.row.specs.declared.Row.{Row}
+use Rattle.row.specs.declared.Arriving.{Arriving}
+use Rattle.row.specs.declared.Arriving.the-variants.{Waiting, Outside, Counted}
+use Rattle.row.specs.declared.Opening.{Opening}
+use Rattle.row.specs.declared.Opening.the-variants.{Refused, Opened}
+use Rattle.row.specs.declared.Ending.{Ending}
+use Rattle.row.specs.declared.Ending.the-variants.{SubscribeError as Erring, SubscribeDone as Ended, Unsubscribe as Leaving}
+use Rattle.ledger.specs.Ledgers.{held, hasAlias, emptyLedger}
+use Rattle.ledger.specs.Answers.{Came, only, same, done, isOwn, breaks, gated}
+use Rattle.ledger.specs.declared.Part.{Part}
+use Rattle.ledger.specs.declared.Part.the-variants.{Subscriber, Publisher}
+use Rattle.ledger.specs.declared.Rule.{Rule}
+use Rattle.ledger.specs.declared.Rule.the-variants.{R1, R2, R3, R4, R5, R6, R7}
+use Rattle.ledger.specs.declared.Ledger.{Ledger}
+use Rattle.ledger.specs.declared.Found.{Found}
+use Rattle.ledger.specs.declared.Found.the-variants.{At, Missing}
+
+-- ---- starting
+
+-- "A ledger starts with its own end's part (subscriber or publisher), a row capacity and a maximum Subscribe ID." "15 start
+-- refused: rows not 1 to 64, maximum above the greatest integer; no ledger": what is then handed back has no capacity, and
+-- every call on it answers 14
+abbrev pub refusedStart : Part → Came
+refusedStart part = record { says = only 15; next = emptyLedger part 0 0 }
+
+unfoldable pub startOf : Part → ℕ → ℕ → Came
+startOf part capacity maximum =
+    pick (both (leb 1 capacity) (both (leb capacity 64) (small maximum))) (done (emptyLedger part capacity maximum)) (refusedStart part)
+
+-- ---- rows in their places
+
+-- where the first row stands, counted from `from`, that has this number
+unfoldable pub find : (Row → ℕ) → ℕ → ℕ → List Row → Found
+find of n from [] = Missing
+find of n from (r ∷ rs) = pick (eqb (of r) n) (At from) (find of n (from + 1) rs)
+
+abbrev pub idOf : Row → ℕ
+idOf r = r .id
+
+abbrev pub aliasOf : Row → ℕ
+aliasOf r = r .alias
+
+abbrev pub rowAt : Ledger → ℕ → Row
+rowAt l i = getD (l .rows) i unusedRow
+
+-- other rows, of which so many are in use, and another next ID
+abbrev pub withRows : Ledger → List Row → ℕ → ℕ → Ledger
+withRows l rows used next = record {
+  rows = rows;
+  part = l .part;
+  session = l .session;
+  capacity = l .capacity;
+  maximum = l .maximum;
+  next = next;
+  used = used;
+}
+
+-- one row changed
+unfoldable pub changed : Ledger → ℕ → Row → Ledger
+changed l i r = withRows l (set (l .rows) i r) (l .used) (l .next)
+
+-- "a pending row is added last", "and the ID becomes the highest"
+unfoldable pub added : Ledger → Row → Ledger
+added l r = withRows l (set (l .rows) (l .used) r) (l .used + 1) (r .id + 1)
+
+-- "row removed, rows after move up one place"
+unfoldable pub freed : Ledger → ℕ → Ledger
+freed l i = withRows l (take i (l .rows) ++ (drop (suc i) (l .rows) ++ unusedRow ∷ [])) (l .used - 1) (l .next)
+
+-- ---- SUBSCRIBE
+
+-- "SUBSCRIBE (sent by the subscriber). R2: ID not above the highest accepted, if any. R3: ID not below the maximum. R4: alias
+-- held by any row. Then 11. Else a pending row is added last, its range not known yet for filter 2 and as asked for 3 and 4, and
+-- the ID becomes the highest."
+unfoldable pub subscribeStep : Ledger → Subscribe → Came
+subscribeStep l m =
+    let own = isOwn (l .part) Subscriber in
+    pick (ltb (m .id) (l .next)) (breaks l own R2)
+    (pick (leb (l .maximum) (m .id)) (breaks l own R3)
+    (pick (hasAlias (m .alias) (held l)) (breaks l own R4)
+    (pick (leb (l .capacity) (l .used)) (same l 11) (done (added l (pendingRow (m .id) (m .alias) (askedOf (m .filter))))))))
+
+-- ---- SUBSCRIBE_OK, SUBSCRIBE_ERROR, SUBSCRIBE_DONE (publisher), UNSUBSCRIBE (subscriber)
+
+-- "No row: R5 if the ID is above the highest or none was accepted, else 12."
+unfoldable pub noRow : Ledger → Part → ℕ → Came
+noRow l sender id = pick (leb (l .next) id) (breaks l (isOwn (l .part) sender) R5) (same l 12)
+
+-- "OK on pending makes it active"; "R6: OK or ERROR on active"
+abbrev pub openedAt : Ledger → ℕ → Opening → Came
+openedAt l i Refused = breaks l (isOwn (l .part) Publisher) R6
+openedAt l i (Opened r) = done (changed l i r)
+
+abbrev pub okAt : Ledger → Found → SubscribeOk → Came
+okAt l Missing m = noRow l Publisher (m .id)
+okAt l (At i) m = openedAt l i (openOf (rowAt l i) (m .content))
+
+unfoldable pub okStep : Ledger → SubscribeOk → Came
+okStep l m = okAt l (find idOf (m .id) 0 (held l)) m
+
+-- who sends what ends a subscription
+abbrev pub senderOf : Ending → Part
+senderOf Erring = Publisher
+senderOf Ended = Publisher
+senderOf Leaving = Subscriber
+
+-- "ERROR on pending, DONE on active and UNSUBSCRIBE on either free it"; "R6: OK or ERROR on active, DONE on pending"
+abbrev pub endAt : Ledger → Found → Ending → ℕ → Came
+endAt l Missing ending id = noRow l (senderOf ending) id
+endAt l (At i) ending id =
+    pick (mayEnd ending (rowAt l i .state)) (done (freed l i)) (breaks l (isOwn (l .part) (senderOf ending)) R6)
+
+unfoldable pub endStep : Ledger → Ending → ℕ → Came
+endStep l ending id = endAt l (find idOf id 0 (held l)) ending id
+
+-- ---- MAX_SUBSCRIBE_ID
+
+abbrev pub withMaximum : Ledger → ℕ → Ledger
+withMaximum l maximum = record {
+  rows = l .rows;
+  part = l .part;
+  session = l .session;
+  capacity = l .capacity;
+  maximum = maximum;
+  next = l .next;
+  used = l .used;
+}
+
+-- "MAX_SUBSCRIBE_ID (publisher). R7: not larger than the maximum."
+unfoldable pub maximumStep : Ledger → ℕ → Came
+maximumStep l id = pick (leb id (l .maximum)) (breaks l (isOwn (l .part) Publisher) R7) (done (withMaximum l id))
+
+-- ---- arrivals
+
+-- "An arrival is alias, group, object. With an active row and a place in range it is counted"; "for an arrival 18, 19, 17"
+abbrev pub arrivedAt : Ledger → ℕ → Arriving → Came
+arrivedAt l i Waiting = same l 19
+arrivedAt l i Outside = same l 17
+arrivedAt l i (Counted r) = record { says = only 16; next = changed l i r }
+
+abbrev pub arriveAt : Ledger → Found → Place → Came
+arriveAt l Missing place = same l 18
+arriveAt l (At i) place = arrivedAt l i (arriveOf (rowAt l i) place)
+
+unfoldable pub arrivalStep : Ledger → Arrival → Came
+arrivalStep l a = arriveAt l (find aliasOf (a .alias) 0 (held l)) (a .place)
+
+unfoldable pub smallArrival : Arrival → Bool
+smallArrival a = both (small (a .alias)) (smallPlace (a .place))
+
+-- ---- each call: the gate, then its step
+
+-- what each message does; "All other messages: 9."
+abbrev pub subscriptionStep : Ledger → SubscriptionMessage → Came
+subscriptionStep l (ASubscribeUpdate m) = same l 9
+subscriptionStep l (ASubscribe m) = subscribeStep l m
+subscriptionStep l (ASubscribeOk m) = okStep l m
+subscriptionStep l (ASubscribeError m) = endStep l Erring (m .id)
+subscriptionStep l (AUnsubscribe id) = endStep l Leaving id
+subscriptionStep l (ASubscribeDone m) = endStep l Ended (m .id)
+subscriptionStep l (AMaxSubscribeId id) = maximumStep l id
+subscriptionStep l (ASubscribesBlocked id) = same l 9
+
+abbrev pub messageStep : Ledger → Message → Came
+messageStep l (Subscription m) = subscriptionStep l m
+messageStep l (Fetch m) = same l 9
+messageStep l (Announce m) = same l 9
+messageStep l (Session m) = same l 9
+
+-- "A message is taken by a ledger, which hands back the next ledger and an answer."
+unfoldable pub takeOf : Ledger → Message → Came
+takeOf l m = gated l (soundOf m) (messageStep l m)
+
+-- "Malformed: R1.", always the peer's
+unfoldable pub malformedOf : Ledger → Came
+malformedOf l = gated l true (breaks l false R1)
+
+unfoldable pub arrivalOf : Ledger → Arrival → Came
+arrivalOf l a = gated l (smallArrival a) (arrivalStep l a)

@@ -1,0 +1,52 @@
+// Arrivals.
+ghost use mathlib.Core.Path.{_≡_};
+ghost use Prim.Native.Nat.{_≤_};
+ghost use Rattle.ledger.specs.Answers.{told};
+ghost use Rattle.ledger.specs.Steps.{arrivalStep, smallArrival};
+use crate::Answer;
+use crate::Found;
+use crate::Ledger;
+use crate::Taken;
+use crate::finding::find_alias;
+use crate::subscribing::with_row;
+use field::Arrival;
+use row::Arriving;
+
+// Whether no number of an arrival is above the greatest integer.
+pub fn is_small(a: Arrival) -> bool
+    ensures { λ r. ⌜ r ≡ smallArrival a ⌝ }
+{
+    if a.alias > integer::GREATEST {
+        return false;
+    }
+    let place = a.place;
+    row::is_small(place)
+}
+
+pub fn count(l: Ledger, a: Arrival) -> Taken
+    requires { ⌜ l .used ≤ 64 ⌝ }
+    ensures { λ r. ⌜ told r ≡ arrivalStep l a ⌝ }
+{
+    let place = a.place;
+    let Found::At(i) = find_alias(l, a.alias) else {
+        return Taken {
+            answer: Answer::NoRow,
+            ledger: l,
+        };
+    };
+    let row = l.rows[i];
+    match row::arrive(row, place) {
+        Arriving::Waiting => Taken {
+            answer: Answer::StillPending,
+            ledger: l,
+        },
+        Arriving::Outside => Taken {
+            answer: Answer::Outside,
+            ledger: l,
+        },
+        Arriving::Counted(counted) => Taken {
+            answer: Answer::Counted,
+            ledger: with_row(l, i, counted),
+        },
+    }
+}

@@ -1,0 +1,95 @@
+// The ledger of subscriptions in one direction: which module is subscribed, and the greatest place each has shown. A message or
+// an arrival is taken by a ledger, which hands back the next ledger and an answer.
+mod arrivals;
+mod checks;
+mod endings;
+mod finding;
+mod gating;
+mod messages;
+mod rules;
+mod starting;
+mod subscribing;
+
+use row::Row;
+pub use rules::close_code;
+pub use starting::start;
+
+// The end of a session that a ledger belongs to, or that sends a message.
+pub enum Part {
+    Subscriber,
+    Publisher,
+}
+
+// The rules that a message may break.
+pub enum Rule {
+    R1,
+    R2,
+    R3,
+    R4,
+    R5,
+    R6,
+    R7,
+}
+
+// A session is open, or closed by the rule that a peer's message broke.
+pub enum Session {
+    Open,
+    Closed(Rule),
+}
+
+// The rows in use stand first, rising by ID. `next` is one more than the highest ID accepted, 0 for none.
+pub struct Ledger {
+    pub rows: [Row; 64],
+    pub part: Part,
+    pub session: Session,
+    pub capacity: usize,
+    pub maximum: u64,
+    pub next: u64,
+    pub used: usize,
+}
+
+// What a ledger answers, in the order of document 01's numbers: 5, 8 to 19.
+pub enum Answer {
+    Forbidden,
+    Done,
+    NotKept,
+    AlreadyClosed,
+    Full,
+    Stale,
+    Breaks(Rule),
+    NotALedger,
+    StartRefused,
+    Counted,
+    Outside,
+    NoRow,
+    StillPending,
+}
+
+// The next ledger and an answer.
+pub struct Taken {
+    pub answer: Answer,
+    pub ledger: Ledger,
+}
+
+// What a run of arrivals answers: how many there were, or that there is no room for their answers.
+pub enum Filled {
+    Done(usize),
+    TooShort,
+}
+
+pub struct Ran {
+    pub answer: Filled,
+    pub ledger: Ledger,
+}
+
+// Whether a call goes on to its step, or what it is answered before.
+enum Gate {
+    Pass,
+    Stop(Answer),
+}
+
+// Where a row stands.
+enum Found {
+    At(usize),
+    Missing,
+}

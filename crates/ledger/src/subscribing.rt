@@ -1,0 +1,103 @@
+// SUBSCRIBE, which adds a row, and SUBSCRIBE_OK, which makes it active.
+ghost use mathlib.Core.Path.{_≡_};
+ghost use Prim.Native.Nat.{_≤_, _<_};
+ghost use Rattle.ledger.specs.Answers.{told};
+ghost use Rattle.ledger.specs.Steps.{added, changed, noRow, subscribeStep, okStep};
+use crate::Answer;
+use crate::Found;
+use crate::Ledger;
+use crate::Part;
+use crate::Rule;
+use crate::Taken;
+use crate::finding::find_alias;
+use crate::finding::find_id;
+use crate::rules::break_rule;
+use crate::rules::is_own;
+use row::Opening;
+use row::Row;
+use subscription::Subscribe;
+use subscription::SubscribeOk;
+
+pub fn add(l: Ledger, m: Subscribe) -> Taken
+    requires { ⌜ (l .used ≤ 64) × (l .capacity ≤ 64) ⌝ }
+    ensures { λ r. ⌜ told r ≡ subscribeStep l m ⌝ }
+{
+    let part = l.part;
+    let own = is_own(part, Part::Subscriber);
+    if m.id < l.next {
+        return break_rule(l, own, Rule::R2);
+    }
+    if m.id >= l.maximum {
+        return break_rule(l, own, Rule::R3);
+    }
+    if let Found::At(_) = find_alias(l, m.alias) {
+        return break_rule(l, own, Rule::R4);
+    }
+    if l.used >= l.capacity {
+        return Taken {
+            answer: Answer::Full,
+            ledger: l,
+        };
+    }
+    let filter = m.filter;
+    Taken {
+        answer: Answer::Done,
+        ledger: with_last(l, row::pending(m.id, m.alias, row::asked(filter))),
+    }
+}
+
+// The row is added last, and its ID becomes the highest.
+fn with_last(l: Ledger, row: Row) -> Ledger
+    requires { ⌜ (l .used < 64) × (row .id < l .maximum) ⌝ }
+    ensures { λ r. ⌜ r ≡ added l row ⌝ }
+{
+    let mut next = l;
+    let used = l.used;
+    next.rows[used] = row;
+    next.used = used + 1;
+    next.next = row.id + 1;
+    next
+}
+
+// One row changed.
+pub fn with_row(l: Ledger, i: usize, row: Row) -> Ledger
+    requires { ⌜ i < 64 ⌝ }
+    ensures { λ r. ⌜ r ≡ changed l i row ⌝ }
+{
+    let mut next = l;
+    next.rows[i] = row;
+    next
+}
+
+// A message about a subscription that has no row: unknown, or stale.
+pub fn no_row(l: Ledger, sender: Part, id: u64) -> Taken
+    ensures { λ r. ⌜ told r ≡ noRow l sender id ⌝ }
+{
+    if id < l.next {
+        return Taken {
+            answer: Answer::Stale,
+            ledger: l,
+        };
+    }
+    let part = l.part;
+    break_rule(l, is_own(part, sender), Rule::R5)
+}
+
+pub fn accept(l: Ledger, m: SubscribeOk) -> Taken
+    requires { ⌜ l .used ≤ 64 ⌝ }
+    ensures { λ r. ⌜ told r ≡ okStep l m ⌝ }
+{
+    let Found::At(i) = find_id(l, m.id) else {
+        return no_row(l, Part::Publisher, m.id);
+    };
+    let content = m.content;
+    let row = l.rows[i];
+    let Opening::Opened(opened) = row::open(row, content) else {
+        let part = l.part;
+        return break_rule(l, is_own(part, Part::Publisher), Rule::R6);
+    };
+    Taken {
+        answer: Answer::Done,
+        ledger: with_row(l, i, opened),
+    }
+}

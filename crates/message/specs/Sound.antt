@@ -1,0 +1,10 @@
+-- "A ledger call answers 5 for a value forbidden above or a number over the greatest integer."
+use mathlib.Core.Bool.{Bool}
+use Rattle.field.specs.Outcome.{both}
+use Rattle.shortest.specs.Small.{smallAll}
+use Rattle.message.specs.Types.{saidOf}
+use Rattle.message.specs.Writing.{allowedOf}
+use Rattle.message.specs.declared.Message.{Message}
+
+unfoldable pub soundOf : Message → Bool
+soundOf m = both (allowedOf m) (smallAll (saidOf m .pieces))

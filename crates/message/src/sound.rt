@@ -1,0 +1,15 @@
+// Whether a message may reach a ledger: it holds no forbidden value, and no number above the greatest integer.
+ghost use mathlib.Core.Path.{_≡_};
+ghost use Rattle.message.specs.Sound.{soundOf};
+use crate::Message;
+use crate::writer::fields;
+use crate::writer::is_allowed;
+
+pub fn is_sound(m: Message) -> bool
+    ensures { λ r. ⌜ r ≡ soundOf m ⌝ }
+{
+    if !is_allowed(m) {
+        return false;
+    }
+    shortest::are_small(fields(m))
+}

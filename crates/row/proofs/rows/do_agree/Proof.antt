@@ -1,0 +1,18 @@
+-- `do_agree` meets its contract. Assumes nothing.
+use borrow.Author.Needs.{needs}
+use Rattle.row.proofs.Checks.{checks}
+use Rattle.row.specs.Rows.{agree}
+use Rattle.row.proofs.rows.do_agree.Statement.{statement}
+use Rattle.row.proofs.rows.do_agree.Tie as tie
+
+pub do-agree-spec : {M : Type 1} → statement M
+unfolding agree
+do-agree-spec =
+    tie.close
+    (tie.spec
+    (λ c. search needs)
+    (λ c. search needs)
+    (λ c. rw (c .before .before .g .given .1) (search checks))
+    (λ c κs. search needs)
+    (λ c. rw (c .enum-told .given .1))
+    (λ c. rw (c .before .before .before .g .given .1) (search checks)))

@@ -1,0 +1,124 @@
+-- "A row: ID, alias, pending or active, range, greatest place counted or none, count."
+use Prim.Native.Nat.{ℕ, _+_}
+use mathlib.Core.Bool.{Bool, true, false, not}
+use lib.Dec.{leb, ltb, eqb}
+use Rattle.integer.specs.Answer.{pick}
+use Rattle.field.specs.Outcome.{both}
+use Rattle.field.specs.declared.Place.{Place}
+use Rattle.subscription.specs.declared.Content.{Content}
+use Rattle.row.specs.Places.{before, small, smallPlace}
+use Rattle.row.specs.Ranges.{inRange, isKnown, smallRange, settledOf}
+use Rattle.row.specs.declared.State.{State}
+use Rattle.row.specs.declared.State.the-variants.{Pending, Active}
+use Rattle.row.specs.declared.Range.{Range}
+use Rattle.row.specs.declared.Range.the-variants.{Unknown}
+use Rattle.row.specs.declared.Greatest.{Greatest}
+use Rattle.row.specs.declared.Greatest.the-variants.{Nowhere, At}
+use Rattle.row.specs.declared.Row.{Row}
+use Rattle.row.specs.declared.Arriving.{Arriving}
+use Rattle.row.specs.declared.Arriving.the-variants.{Waiting, Outside, Counted}
+use Rattle.row.specs.declared.Opening.{Opening}
+use Rattle.row.specs.declared.Opening.the-variants.{Refused, Opened}
+use Rattle.row.specs.declared.Ending.{Ending}
+use Rattle.row.specs.declared.Ending.the-variants.{SubscribeError, SubscribeDone, Unsubscribe}
+
+-- ---- what a row is
+
+-- the count at which a row stops
+abbrev pub top : ℕ
+top = 4_294_967_295
+
+-- "count is 0 exactly when no place is held"
+unfoldable pub agree : Greatest → ℕ → Bool
+agree Nowhere count = eqb count 0
+agree (At place) count = both (not (eqb count 0)) (smallPlace place)
+
+-- "a pending row has count 0; an active row's range is known"
+unfoldable pub suits : State → Range → ℕ → Bool
+suits Pending range count = eqb count 0
+suits Active range count = isKnown range
+
+-- "no number is above the greatest integer, no count above 4,294,967,295"
+unfoldable pub isRow : Row → Bool
+isRow r =
+    both (small (r .id))
+    (both (small (r .alias))
+    (both (leb (r .count) top)
+    (both (smallRange (r .range)) (both (agree (r .greatest) (r .count)) (suits (r .state) (r .range) (r .count))))))
+
+-- "unused rows are pending, without range or place, all numbers 0"
+abbrev pub unusedRow : Row
+unusedRow = record { id = 0; alias = 0; state = Pending; range = Unknown; greatest = Nowhere; count = 0 }
+
+unfoldable pub isPending : State → Bool
+isPending Pending = true
+isPending Active = false
+
+unfoldable pub isNowhere : Greatest → Bool
+isNowhere Nowhere = true
+isNowhere (At place) = false
+
+unfoldable pub isUnused : Row → Bool
+isUnused r =
+    both (eqb (r .id) 0)
+    (both (eqb (r .alias) 0)
+    (both (eqb (r .count) 0) (both (isPending (r .state)) (both (not (isKnown (r .range))) (isNowhere (r .greatest))))))
+
+-- ---- what becomes of a row
+
+-- "a pending row is added"
+abbrev pub pendingRow : ℕ → ℕ → Range → Row
+pendingRow id alias range = record { id = id; alias = alias; state = Pending; range = range; greatest = Nowhere; count = 0 }
+
+-- "the row keeps the greater place"
+unfoldable pub greater : Greatest → Place → Place
+greater Nowhere place = place
+greater (At held) place = pick (before held place) place held
+
+-- "the count rises by one but stops at 4,294,967,295"
+unfoldable pub risen : ℕ → ℕ
+risen count = pick (ltb count top) (count + 1) count
+
+unfoldable pub countedRow : Row → Place → Row
+countedRow r place = record {
+  id = r .id;
+  alias = r .alias;
+  state = r .state;
+  range = r .range;
+  greatest = At (greater (r .greatest) place);
+  count = risen (r .count);
+}
+
+-- "With an active row and a place in range it is counted"
+abbrev pub arriveIn : State → Row → Place → Arriving
+arriveIn Pending r place = Waiting
+arriveIn Active r place = pick (inRange (r .range) place) (Counted (countedRow r place)) Outside
+
+unfoldable pub arriveOf : Row → Place → Arriving
+arriveOf r place = arriveIn (r .state) r place
+
+-- "OK on pending makes it active", with the range that it settles
+abbrev pub activeRow : Row → Range → Row
+activeRow r range = record {
+  id = r .id;
+  alias = r .alias;
+  state = Active;
+  range = range;
+  greatest = r .greatest;
+  count = r .count;
+}
+
+abbrev pub openIn : State → Row → Content → Opening
+openIn Pending r content = Opened (activeRow r (settledOf (r .range) content))
+openIn Active r content = Refused
+
+unfoldable pub openOf : Row → Content → Opening
+openOf r content = openIn (r .state) r content
+
+-- "ERROR on pending, DONE on active and UNSUBSCRIBE on either free it"
+abbrev pub mayEnd : Ending → State → Bool
+mayEnd SubscribeError Pending = true
+mayEnd SubscribeError Active = false
+mayEnd SubscribeDone Pending = false
+mayEnd SubscribeDone Active = true
+mayEnd Unsubscribe state = true

@@ -1,0 +1,34 @@
+-- The loop that looks at the numbers of all fields: those that are left tell what all of them tell. Assumes nothing.
+use Prim.Native.Nat.{ℕ, _+_, _≤_, _<_}
+use mathlib.Core.Path.{_≡_, refl, sym, _∙_}
+use mathlib.Core.Bool.{Bool, true, false, not}
+use borrow.Author.Tests.{not-true, not-false}
+use lib.ListN.{length, getD}
+use Rattle.shortest.specs.Small.{smallPiece, smallAll}
+use Rattle.shortest.specs.Writing.{slot, fieldsOf, tenOf}
+use Rattle.shortest.specs.declared.Slot.{Slot}
+use Rattle.shortest.specs.declared.Fields.{Fields}
+use Rattle.shortest.proofs.Rows.{fieldsFrom, from-first, from-next, from-last}
+
+pub Left : Fields → ℕ → Type 0
+Left f i = smallAll (fieldsFrom f i) ≡ smallAll (fieldsOf f)
+
+pub all-left : (f : Fields) → Left f 0
+unfolding Left
+all-left f = rw (from-first f)
+
+module _ (f : Fields) (i : ℕ) (l : length (f .at) ≡ 10) (a : Left f i) where
+  -- one that is too great decides
+  pub one-great : {b : Bool} (d : Slot) → i < tenOf (f .used) → b ≡ smallPiece (slot (getD (f .at) i d)) → not b ≡ true → false ≡ smallAll (fieldsOf f)
+  unfolding Left smallAll
+  one-great {b} d h e n = sym (rw (from-next f i l d h, ← e, not-true b n)) ∙ a
+
+  -- one that isn't leaves it to the rest
+  pub one-small : {b : Bool} (d : Slot) → i < tenOf (f .used) → b ≡ smallPiece (slot (getD (f .at) i d)) → not b ≡ false → Left f (i + 1)
+  unfolding Left smallAll
+  one-small {b} d h e n = sym (rw (from-next f i l d h, ← e, not-false b n)) ∙ a
+
+  -- behind the last, none was too great
+  pub none-great : tenOf (f .used) ≤ i → true ≡ smallAll (fieldsOf f)
+  unfolding Left smallAll
+  none-great h = sym (rw (from-last f i l h)) ∙ a
