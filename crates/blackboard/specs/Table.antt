@@ -15,12 +15,27 @@ use Rattle.message.specs.Types.{known, layoutOf}
 use Rattle.message.specs.Reading.{bodyOf, readOf as messageOf}
 use Rattle.message.specs.Writing.{allowedOf, writeOf as messageAs}
 use Rattle.message.specs.declared.Message.{Message}
-use Rattle.message.specs.declared.Message.the-variants.{Fetch}
+use Rattle.message.specs.declared.Message.the-variants.{Fetch, Subscription}
 use Rattle.fetch.specs.Allowed.{allowedOf as fetchAllowed}
 use Rattle.fetch.specs.declared.FetchMessage.the-variants.{FetchCancel}
 use Rattle.shortest.specs.Judging.{right, sized}
 use Rattle.shortest.specs.Writing.{rightAll, sizedAll, encodeAll, writtenOf, frame}
 use Rattle.field.specs.Value.{mean, encField, encode}
+use Rattle.shortest.specs.Small.{smallPiece, smallAll}
+use Rattle.field.specs.Value.{nowhere}
+use Rattle.field.specs.Rules.{askable}
+use Rattle.subscription.specs.Allowed.{allowedFilter, allowedOf as subscriptionAllowed}
+use Rattle.subscription.specs.declared.Filter.the-variants.{Latest}
+use Rattle.subscription.specs.declared.SubscriptionMessage.the-variants.{Subscribe}
+use Rattle.message.specs.Sound.{soundOf}
+use Rattle.row.specs.Places.{small, smallPlace}
+use Rattle.row.specs.Ranges.{isKnown, smallRange}
+use Rattle.row.specs.Rows.{agree, suits, isRow, isPending, isNowhere, isUnused}
+use Rattle.ledger.specs.Ledgers.{held, rising, hasAlias, distinct, allUnused, bounded, isLedger}
+use Rattle.ledger.specs.Answers.{Said, only, breaks, gateOf, gated}
+use Rattle.ledger.specs.Steps.{startOf, added, subscribeStep, takeOf}
+use Rattle.ledger.specs.declared.Ledger.{Ledger}
+use Rattle.ledger.specs.declared.Part.the-variants.{Subscriber}
 use Rattle.integer.specs.Integer.{wide, room, tag, sizeOf, spell, bytesOf, encOf, readOf, putOf, writeOf}
 
 -- a line: what is done, and what it comes to
@@ -33,11 +48,34 @@ pub data Line : Type 0 where
   receives : List ℕ → Answer Typed → Line
   -- a control message whose parts point into bytes is written into a buffer, which then holds this
   sends : List ℕ → Message → List ℕ → Written → Line
+  -- a subscriber's ledger with so many rows and a maximum takes messages
+  takes : ℕ → ℕ → List Message → List Said → Line
 
 pub data Result : Type 0 where
   read : Answer ℕ → Result
   write : Written → Result
   receive : Answer Typed → Result
+  answer : List Said → Result
+
+-- what each message is answered, one after the other
+unfoldable pub answersTo : Ledger → List Message → List Said
+answersTo l [] = []
+answersTo l (m ∷ ms) = takeOf l m .says ∷ answersTo (takeOf l m .next) ms
+
+-- a SUBSCRIBE from the latest on, of a track that has neither bytes nor fields here
+abbrev pub subscribing : ℕ → ℕ → Message
+subscribing id alias =
+    Subscription
+    (Subscribe
+    (record {
+      id = id;
+      alias = alias;
+      track = record { namespace = record { start = 0; end = 0; count = 0 }; name = nowhere };
+      priority = 0;
+      order = 1;
+      filter = Latest;
+      parameters = record { start = 0; end = 0; count = 0 };
+    }))
 
 -- what a line's doing comes to, by the definitions that the contracts cite
 unfoldable pub found : Line → Result
@@ -45,6 +83,7 @@ found (reads s r) = read (readOf s)
 found (writes n before r) = write (writeOf n before)
 found (receives s r) = receive (messageOf s)
 found (sends s m before r) = write (messageAs s m before)
+found (takes rows maximum ms r) = answer (answersTo (startOf Subscriber rows maximum .next) ms)
 
 -- what the line says
 unfoldable pub stated : Line → Result
@@ -52,6 +91,7 @@ stated (reads s r) = read r
 stated (writes n before r) = write r
 stated (receives s r) = receive r
 stated (sends s m before r) = write r
+stated (takes rows maximum ms r) = answer r
 
 unfoldable pub lines : List Line
 lines =
@@ -87,10 +127,15 @@ lines =
     -- P10 `17 7F FF`: 1; `17 80 00 40 00`: 3
     ∷ receives (0x17 ∷ 0x7F ∷ 0xFF ∷ []) (refused 1)
     ∷ receives (0x17 ∷ 0x80 ∷ 0x00 ∷ 0x40 ∷ 0x00 ∷ []) (refused 3)
+    -- P11 maximum 10: ID 9 done, ID 10 R3
+    ∷ takes 64 10 (subscribing 9 1 ∷ subscribing 10 2 ∷ []) (only 8 ∷ record { number = 13; rule = 3 } ∷ [])
+    -- "ID 9 twice with the same alias: R2. Maximum 0: every ID R3."
+    ∷ takes 64 10 (subscribing 9 1 ∷ subscribing 9 1 ∷ []) (only 8 ∷ record { number = 13; rule = 2 } ∷ [])
+    ∷ takes 64 0 (subscribing 0 0 ∷ []) (record { number = 13; rule = 3 } ∷ [])
     ∷ []
 
 computed : map found lines ≡ map stated lines
-unfolding found stated lines wide room tag sizeOf spell bytesOf readOf putOf writeOf numberAt fieldAt scan fetchCancel known layoutOf bodyOf messageOf messageAs allowedOf fetchAllowed right sized rightAll sizedAll encodeAll encode encField mean writtenOf frame encOf
+unfolding found stated lines wide room tag sizeOf spell bytesOf readOf putOf writeOf numberAt fieldAt scan fetchCancel known layoutOf bodyOf messageOf messageAs allowedOf fetchAllowed right sized rightAll sizedAll encodeAll encode encField mean writtenOf frame encOf answersTo smallPiece smallAll askable allowedFilter subscriptionAllowed soundOf small smallPlace isKnown smallRange agree suits isRow isPending isNowhere isUnused held rising hasAlias distinct allUnused bounded isLedger breaks gateOf gated startOf added subscribeStep takeOf
 computed = refl
 
 -- two functions that map a list alike agree at each of its members
