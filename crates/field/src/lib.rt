@@ -60,6 +60,12 @@ pub struct Place {
     pub object: u64,
 }
 
+// An arrival: the alias of its track, and its place.
+pub struct Arrival {
+    pub alias: u64,
+    pub place: Place,
+}
+
 // Why something failed: a code, and the reason in words.
 pub struct Failure {
     pub code: u64,

@@ -19,3 +19,5 @@ pub mod Once
 pub mod Good
 pub mod Again
 pub mod Longer
+pub mod Fitting
+pub mod Passed

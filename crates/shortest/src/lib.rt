@@ -17,6 +17,7 @@ pub use places::of9;
 pub use places::of10;
 pub use putting::put;
 pub use writer::write;
+pub use writer::write_bare;
 pub use writer::write_framed;
 
 // How a field, or several, is judged against the bytes it may take: it takes so many; or more than it may; or it is over a
