@@ -3,3 +3,11 @@ pub mod Headed
 pub mod Closing
 pub mod Ending
 pub mod Writes
+pub mod Once
+pub mod Shape
+pub mod Fields
+pub mod Front
+pub mod Keeps
+pub mod Follows
+pub mod Headers
+pub mod Theorems

@@ -7,10 +7,11 @@ use borrow.Author.Tests.{not-true, not-false}
 use lib.Dec.{leb}
 use Rattle.integer.specs.Answer.{Answer, refused, Nothing, Leaves}
 use Rattle.integer.specs.Integer.{encOf, greatest}
+use Rattle.field.specs.Value.{mean}
 use Rattle.field.specs.declared.Piece.{Piece}
 use Rattle.layout.specs.Typed.{Typed}
-use Rattle.shortest.specs.Judging.{sized}
-use Rattle.shortest.specs.Writing.{fieldsOf, typedOf, sizedAll, writtenOf, plainOf, bareOf}
+use Rattle.shortest.specs.Judging.{right, sized}
+use Rattle.shortest.specs.Writing.{fieldsOf, typedOf, rightAll, sizedAll, encodeAll, writtenOf, plainOf, bareOf}
 use Rattle.shortest.specs.declared.Fields.{Fields}
 use Rattle.header.specs.Told.{datagramSaid, streamSaid, payloadPieces, subgroupObjectPieces, fetchObjectPieces}
 use Rattle.header.specs.Allowed.{datagramAllowed}
@@ -26,16 +27,16 @@ use Rattle.header.specs.declared.FetchObject.{FetchObject}
 
 -- ---- no header has a field with a size, and the number of each type can be written
 
-abbrev Writable : List ℕ → Typed → Type 0
+abbrev pub Writable : List ℕ → Typed → Type 0
 Writable s t = (leb (t .type) greatest ≡ true) × (sizedAll s (t .pieces) ≡ true)
 
 module _ (s : List ℕ) where
-  datagram-writable : (d : Datagram) → Writable s (datagramSaid d)
+  pub datagram-writable : (d : Datagram) → Writable s (datagramSaid d)
   unfolding sizedAll sized
   datagram-writable (Object d) = (refl, refl)
   datagram-writable (WithStatus d n) = (refl, refl)
 
-  stream-writable : (h : StreamHeader) → Writable s (streamSaid h)
+  pub stream-writable : (h : StreamHeader) → Writable s (streamSaid h)
   unfolding sizedAll sized
   stream-writable (Subgroup h) = (refl, refl)
   stream-writable (Fetch id) = (refl, refl)
@@ -52,6 +53,13 @@ module _ (s : List ℕ) where
   pub fetch-object-sized : (o : FetchObject) → sizedAll s (fetchObjectPieces o) ≡ true
   unfolding sizedAll sized
   fetch-object-sized o = payload-sized (o .payload)
+
+-- ---- the header of a stream points into no bytes, so it is the same over any
+
+pub stream-any : (s : List ℕ) (h : StreamHeader) (before : List ℕ) → streamWritten h before ≡ headerWritten true (encOf (streamSaid h .type)) s (streamSaid h .pieces) before
+unfolding streamWritten headerWritten rightAll right encodeAll mean
+stream-any s (Subgroup h) before = refl
+stream-any s (Fetch id) before = refl
 
 -- ---- what is written
 

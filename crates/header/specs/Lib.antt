@@ -5,3 +5,5 @@ pub mod Reading
 pub mod Allowed
 pub mod Writing
 pub mod Arrivals
+pub mod Laws
+pub mod Codecs
