@@ -1,16 +1,15 @@
 -- What is written reads back: as the same message, and from exactly the bytes that were written. Assumes nothing.
 use Prim.Native.Nat.{ℕ, _+_, _≤_}
 use mathlib.Core.Path.{_≡_, refl, sym, ap, _∙_}
-use mathlib.Core.Bool.{Bool, true, false}
+use mathlib.Core.Bool.{true}
 use mathlib.Core.List.{List, [], _++_, map, append-nil}
 use native.Mathlib.Omega.{arith}
 use lib.ListN.{length, drop, length-append}
 use lib.Seq.{take-append-seam}
 use lib.Dec.{leb}
 use borrow.Author.Tests.{leb-true}
-use Rattle.integer.specs.Answer.{Written, wrote, whole as answered}
-use Rattle.integer.specs.Integer.{greatest, encOf, over}
-use Rattle.integer.proofs.Cases.{pick-by}
+use Rattle.integer.specs.Answer.{wrote, whole as answered}
+use Rattle.integer.specs.Integer.{greatest, encOf}
 use Rattle.field.specs.Outcome.{whole}
 use Rattle.field.specs.Value.{Value, mean, encode}
 use Rattle.field.specs.declared.Piece.{Piece}
@@ -21,37 +20,15 @@ use Rattle.layout.specs.Typed.{Typed}
 use Rattle.layout.proofs.Back.{both-true, scan-back}
 use Rattle.layout.proofs.Scanned.{scanned}
 use Rattle.layout.proofs.Stable.{values-stay}
-use Rattle.shortest.specs.Writing.{rightAll, encodeAll, writtenOf, frame}
+use Rattle.shortest.specs.Writing.{rightAll, encodeAll, frame}
 use Rattle.shortest.proofs.Good.{all-good}
+use Rattle.shortest.proofs.Passed.{was-written}
 use Rattle.message.specs.Types.{known, layoutOf, saidOf}
 use Rattle.message.specs.Reading.{longest, readOf}
 use Rattle.message.specs.Writing.{allowedOf, writeOf}
 use Rattle.message.specs.declared.Message.{Message}
-use Rattle.message.proofs.Front.{WholeAt, joined, apart}
+use Rattle.message.proofs.Front.{WholeAt, joined}
 use Rattle.message.proofs.Shape.{known-type, shaped}
-
--- ---- what was written
-
--- every check holds, and the bytes stand at the front of the buffer
-record Wrote (isRight isSized isShort : Bool) (bytes before : List ℕ) (after : Written) (n : ℕ) : Type 0 where
-  is-right : isRight ≡ true
-  is-sized : isSized ≡ true
-  is-short : isShort ≡ true
-  used : n ≡ length bytes
-  holds : after .holds ≡ over bytes before
-
--- where the writer says so
-was-written : (isRight isSized isShort : Bool) (bytes before : List ℕ) {n : ℕ} → writtenOf isRight isSized isShort bytes before .says ≡ wrote n
-    → Wrote isRight isSized isShort bytes before (writtenOf isRight isSized isShort bytes before) n
-unfolding writtenOf
-was-written true true true bytes before {n} h =
-    pick-by (λ (w : Written). w .says ≡ wrote n → Wrote true true true bytes before w n) (leb (length bytes) (length before))
-    (λ _ e. record { is-right = refl; is-sized = refl; is-short = refl; used = cc; holds = refl })
-    (λ _ e. absurd (apart e))
-    h
-was-written true true false bytes before h = absurd (apart h)
-was-written true false isShort bytes before h = absurd (apart h)
-was-written false isSized isShort bytes before h = absurd (apart h)
 
 -- ---- a frame
 
