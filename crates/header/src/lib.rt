@@ -8,14 +8,18 @@ mod rules;
 mod streams;
 mod writer;
 
+use field::Place;
+use field::Span;
+
+// What was sent is read, and leads to arrivals;
 pub use arrivals::datagram_arrival;
 pub use arrivals::subgroup_arrival;
 pub use datagrams::read_datagram;
-use field::Place;
-use field::Span;
 pub use objects::read_fetch_object;
 pub use objects::read_subgroup_object;
 pub use streams::read_stream;
+
+// and what is to be sent is written.
 pub use writer::write_datagram;
 pub use writer::write_fetch_object;
 pub use writer::write_stream;

@@ -1,6 +1,7 @@
 // Answers lines of bytes: each line of standard input is the name of a reader and bytes in hexadecimal. The number that reading
 // answers is printed for each, and after a 0 the bytes used.
 mod numbers;
+mod objects;
 
 ghost use mathlib.Core.Path.{_≡_};
 ghost use Prim.Native.Nat.{_≤_};
@@ -118,10 +119,10 @@ fn answer(word: &[u8], s: &[u8]) {
         say(numbers::of_datagram(header::read_datagram(s)));
     }
     if is_same(word, b"subobj") {
-        say(numbers::of_subgroup_object(header::read_subgroup_object(s)));
+        say(objects::of_subgroup_object(header::read_subgroup_object(s)));
     }
     if is_same(word, b"fetchobj") {
-        say(numbers::of_fetch_object(header::read_fetch_object(s)));
+        say(objects::of_fetch_object(header::read_fetch_object(s)));
     }
 }
 

@@ -1,13 +1,11 @@
 // Document 01's number of what each reader answers.
 ghost use mathlib.Core.Path.{_≡_};
 ghost use Rattle.message.specs.Reading.{told};
-ghost use Rattle.header.specs.Told.{toldStream, toldDatagram, toldSubgroupObject, toldFetchObject};
+ghost use Rattle.header.specs.Told.{toldDatagram, toldStream};
 ghost use Rattle.lines.specs.Saying.{saidOf};
 use crate::Said;
 use header::DatagramRead;
-use header::FetchObjectRead;
 use header::StreamRead;
-use header::SubgroupObjectRead;
 use message::Reading;
 
 pub fn of_message(r: Reading) -> Said
@@ -24,16 +22,6 @@ pub fn of_message(r: Reading) -> Said
     }
 }
 
-pub fn of_stream(r: StreamRead) -> Said
-    ensures { λ a. ⌜ a ≡ saidOf (toldStream r) ⌝ }
-{
-    match r {
-        StreamRead::Whole(_, used) => Said { number: 0, used },
-        StreamRead::More => Said { number: 1, used: 0 },
-        StreamRead::Unknown => Said { number: 2, used: 0 },
-    }
-}
-
 pub fn of_datagram(r: DatagramRead) -> Said
     ensures { λ a. ⌜ a ≡ saidOf (toldDatagram r) ⌝ }
 {
@@ -45,22 +33,12 @@ pub fn of_datagram(r: DatagramRead) -> Said
     }
 }
 
-pub fn of_subgroup_object(r: SubgroupObjectRead) -> Said
-    ensures { λ a. ⌜ a ≡ saidOf (toldSubgroupObject r) ⌝ }
+pub fn of_stream(r: StreamRead) -> Said
+    ensures { λ a. ⌜ a ≡ saidOf (toldStream r) ⌝ }
 {
     match r {
-        SubgroupObjectRead::Whole(_, used) => Said { number: 0, used },
-        SubgroupObjectRead::More => Said { number: 1, used: 0 },
-        SubgroupObjectRead::Forbidden => Said { number: 5, used: 0 },
-    }
-}
-
-pub fn of_fetch_object(r: FetchObjectRead) -> Said
-    ensures { λ a. ⌜ a ≡ saidOf (toldFetchObject r) ⌝ }
-{
-    match r {
-        FetchObjectRead::Whole(_, used) => Said { number: 0, used },
-        FetchObjectRead::More => Said { number: 1, used: 0 },
-        FetchObjectRead::Forbidden => Said { number: 5, used: 0 },
+        StreamRead::Whole(_, used) => Said { number: 0, used },
+        StreamRead::More => Said { number: 1, used: 0 },
+        StreamRead::Unknown => Said { number: 2, used: 0 },
     }
 }

@@ -1,7 +1,7 @@
 -- `of_fetch_object` meets its contract: each answer has its number. Assumes nothing.
 use borrow.Author.Needs.{needs}
-use Rattle.lines.proofs.numbers.of_fetch_object.Statement.{statement}
-use Rattle.lines.proofs.numbers.of_fetch_object.Tie as tie
+use Rattle.lines.proofs.objects.of_fetch_object.Statement.{statement}
+use Rattle.lines.proofs.objects.of_fetch_object.Tie as tie
 
 pub of-fetch-object-spec : {M : Type 1} → statement M
 of-fetch-object-spec =
