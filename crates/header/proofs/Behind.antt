@@ -1,6 +1,6 @@
 -- A layout with another behind it: what is read by the first, and then by the other. Assumes nothing.
 use Prim.Native.Nat.{ℕ}
-use mathlib.Core.Path.{_≡_, refl, sym, ap, _∙_}
+use mathlib.Core.Path.{_≡_, refl}
 use mathlib.Core.List.{List, [], _∷_}
 use mathlib.Core.Bool.{true, false}
 use Rattle.field.specs.Outcome.{Outcome, whole, no, andThen}

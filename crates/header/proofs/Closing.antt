@@ -2,11 +2,11 @@
 use Prim.Native.Nat.{ℕ, _≤_, _<_}
 use mathlib.Core.Path.{_≡_, refl, sym, ap, _∙_}
 use mathlib.Core.List.{List, [], _∷_}
-use mathlib.Core.Bool.{Bool, true, false, not}
+use mathlib.Core.Bool.{Bool, false, not}
 use lib.ListN.{length}
 use borrow.Author.Tests.{lt-ltb, le-ltb}
 use Rattle.integer.specs.Answer.{Answer, whole as answered, refused}
-use Rattle.field.specs.Outcome.{Outcome, whole, no, answer}
+use Rattle.field.specs.Outcome.{Outcome, whole, answer}
 use Rattle.field.specs.Fields.{integer, fieldAt}
 use Rattle.field.specs.Told.{toldNumber}
 use Rattle.field.specs.declared.NumberRead.{NumberRead}

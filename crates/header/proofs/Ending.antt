@@ -1,7 +1,7 @@
 -- The header of an object on a stream: what it begins with, then its extension headers and what was told of its payload.
 -- Assumes nothing.
 use Prim.Native.Nat.{ℕ}
-use mathlib.Core.Path.{_≡_, refl, sym, ap, _∙_}
+use mathlib.Core.Path.{_≡_, sym, ap, _∙_}
 use mathlib.Core.List.{List, [], _∷_}
 use Rattle.integer.specs.Answer.{Answer, refused}
 use Rattle.field.specs.Outcome.{answer}

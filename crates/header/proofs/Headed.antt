@@ -1,10 +1,10 @@
 -- A header behind its type: a law for each of its answers in turn, by what was told of the type and of the fields. Assumes nothing.
 use Prim.Native.Nat.{ℕ}
-use mathlib.Core.Path.{_≡_, refl, sym, ap, _∙_}
+use mathlib.Core.Path.{_≡_, sym, ap, _∙_}
 use mathlib.Core.List.{List}
 use borrow.Author.Tests.{ne-eqb}
 use Rattle.integer.specs.Answer.{Answer, whole as answered, refused}
-use Rattle.field.specs.Outcome.{Outcome, whole, no, answer}
+use Rattle.field.specs.Outcome.{Outcome, whole, answer}
 use Rattle.field.specs.Entries.{numberAt}
 use Rattle.field.specs.Fields.{integer, fieldAt}
 use Rattle.field.specs.Told.{toldNumber}

@@ -7,11 +7,10 @@ use mathlib.Core.List.{List, [], _++_, map}
 use native.Mathlib.Omega.{arith}
 use lib.ListN.{length, take}
 use lib.Dec.{lit≤}
-use Rattle.integer.specs.Answer.{Answer, whole as answered, refused, wrote, Written}
+use Rattle.integer.specs.Answer.{Answer, whole as answered, refused}
 use Rattle.integer.specs.Integer.{encOf}
 use Rattle.field.specs.Outcome.{Outcome, whole, no, answer}
 use Rattle.field.specs.Value.{mean}
-use Rattle.field.specs.declared.Fault.the-variants.{Cut}
 use Rattle.field.specs.declared.Piece.{Piece}
 use Rattle.layout.specs.Layout.{Layout, scan}
 use Rattle.layout.specs.Typed.{Typed}
@@ -22,8 +21,8 @@ use Rattle.header.specs.Layouts.{Named, datagrams, streams}
 use Rattle.header.specs.Told.{datagramSaid, streamSaid, subgroupObjectPieces, fetchObjectPieces}
 use Rattle.header.specs.Reading.{headedOf, datagramOf, streamOf, subgroupObjectOf, fetchObjectOf}
 use Rattle.header.specs.Allowed.{datagramAllowed, payloadAllowed}
-use Rattle.header.specs.Writing.{headerWritten, datagramWritten, streamWritten, subgroupObjectWritten, fetchObjectWritten}
-use Rattle.header.specs.Laws.{Codec, Alike, ReadsAs, Kept, Steady}
+use Rattle.header.specs.Writing.{headerWritten, datagramWritten, subgroupObjectWritten, fetchObjectWritten}
+use Rattle.header.specs.Laws.{Kept, Steady}
 use Rattle.header.specs.Codecs.{takesPayload, datagram, stream, untyped, subgroupObject, fetchObject}
 use Rattle.header.proofs.Shape.{Shaped, datagram-shape, stream-shape, subgroup-object-shape, fetch-object-shape}
 use Rattle.header.proofs.Writes.{Writable, datagram-writable, stream-writable, stream-any, subgroup-object-sized, fetch-object-sized}

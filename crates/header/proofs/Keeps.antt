@@ -6,12 +6,10 @@ use mathlib.Core.List.{List, [], _++_, map}
 use native.Mathlib.Nat.{zero-add}
 use native.Mathlib.Omega.{arith}
 use lib.ListN.{length, take, length-append}
-use lib.Dec.{lit≤}
 use borrow.Author.Tests.{leb-true}
 use Rattle.integer.specs.Answer.{whole as answered, refused, wrote, Written}
 use Rattle.integer.specs.Integer.{greatest, encOf}
 use Rattle.field.specs.Outcome.{whole}
-use Rattle.field.specs.Entries.{numberAt}
 use Rattle.field.specs.Value.{mean, encode}
 use Rattle.field.specs.declared.Piece.{Piece}
 use Rattle.field.proofs.Back.{from-start, front, number-back}

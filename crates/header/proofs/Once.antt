@@ -1,7 +1,6 @@
 -- One possible answer: 01's number and values lose nothing. Fields, and a type where there is one, are those of one header, which is
 -- made of them again, each by its position; and so is the answer that tells it. Assumes nothing.
-use Prim.Native.Nat.{ℕ}
-use mathlib.Core.Path.{_≡_, refl, ap}
+use mathlib.Core.Path.{_≡_, refl}
 use mathlib.Core.List.{List, [], _∷_}
 use lib.ListN.{drop}
 use lib.Dec.{eqb}

@@ -1,5 +1,4 @@
 -- Which values a header may hold: what its layout tests.
-use Prim.Native.Nat.{ℕ}
 use mathlib.Core.Bool.{Bool, true}
 use lib.Dec.{ltb}
 use Rattle.header.specs.Rules.{isStatus}

@@ -1,5 +1,4 @@
 -- Each header as its fields, in the order of its layout, with the number of its type where it has one; and what a reader answers.
-use Prim.Native.Nat.{ℕ}
 use mathlib.Core.List.{List, [], _∷_, _++_}
 use Rattle.integer.specs.Answer.{Answer, whole as answered, refused}
 use Rattle.field.specs.Outcome.{Outcome, whole, no}

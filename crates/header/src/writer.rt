@@ -1,6 +1,5 @@
 // A header is written as its shortest form: 5, then 7, each over the whole header; a refusal writes nothing.
 ghost use mathlib.Core.Path.{_≡_};
-ghost use mathlib.Core.List.{List};
 ghost use Rattle.integer.specs.Answer.{Leaves};
 ghost use Rattle.shortest.specs.Writing.{typedOf, answering};
 ghost use Rattle.header.specs.Told.{datagramSaid, streamSaid, subgroupObjectPieces, fetchObjectPieces};

@@ -1,7 +1,7 @@
 -- What was read can be written again: the writer refuses it for want of room only, and it takes no more bytes than it was read
 -- from. Assumes nothing.
 use Prim.Native.Nat.{ℕ, _≤_, _<_}
-use mathlib.Core.Path.{_≡_, refl, sym, _∙_}
+use mathlib.Core.Path.{_≡_, sym, _∙_}
 use mathlib.Core.List.{List, [], _++_}
 use native.Mathlib.Omega.{arith}
 use lib.ListN.{length, getD, length-append}

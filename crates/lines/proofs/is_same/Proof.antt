@@ -1,5 +1,5 @@
 -- `is_same` meets its contract. The measure is what is left of the first. Assumes nothing.
-use Prim.Native.Nat.{_≤_, _-_}
+use Prim.Native.Nat.{_-_}
 use borrow.Author.Needs.{needs}
 use lib.ListN.{length}
 use Rattle.lines.proofs.is_same.Statement.{statement}
