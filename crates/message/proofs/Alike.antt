@@ -11,6 +11,7 @@ use Rattle.layout.specs.Typed.{Typed}
 use Rattle.layout.specs.Same.{Same}
 use Rattle.layout.proofs.Back.{both-true}
 use Rattle.shortest.specs.Writing.{rightAll, encodeAll, frame}
+use Rattle.shortest.proofs.Passed.{was-written}
 use Rattle.shortest.proofs.Alike as shortest
 use Rattle.message.specs.Types.{saidOf}
 use Rattle.message.specs.Writing.{allowedOf, writeOf}
@@ -31,7 +32,7 @@ pub record Frame (s : List ℕ) (m : Message) (before : List ℕ) (n : ℕ) : Ty
 
 pub is-frame : (s : List ℕ) (m : Message) (before : List ℕ) {n : ℕ} → writeOf s m before .says ≡ wrote n → Frame s m before n
 unfolding writeOf
-is-frame s m before h = let w = shortest.was-written _ _ _ _ before h in record { used = w .used; stands = shortest.wrote-bytes w }
+is-frame s m before h = let w = was-written _ _ _ _ before h in record { used = w .used; stands = shortest.wrote-bytes w }
 
 -- Writing again into the buffer that was just written changes nothing.
 pub again : (s : List ℕ) (m : Message) (before : List ℕ) → writeOf s m (writeOf s m before .holds) ≡ writeOf s m before

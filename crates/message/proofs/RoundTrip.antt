@@ -23,7 +23,7 @@ use Rattle.layout.proofs.Scanned.{scanned}
 use Rattle.layout.proofs.Stable.{values-stay}
 use Rattle.shortest.specs.Writing.{rightAll, encodeAll, frame}
 use Rattle.shortest.proofs.Good.{all-good}
-use Rattle.shortest.proofs.Alike.{was-written}
+use Rattle.shortest.proofs.Passed.{was-written}
 use Rattle.message.specs.Types.{known, layoutOf, saidOf}
 use Rattle.message.specs.Reading.{longest, readOf}
 use Rattle.message.specs.Writing.{allowedOf, writeOf}

@@ -4,20 +4,17 @@ use Prim.Native.Nat.{ℕ}
 use mathlib.Core.Path.{_≡_, refl, sym, _∙_}
 use mathlib.Core.Bool.{Bool, true, false}
 use mathlib.Core.List.{List, [], _∷_, _++_, map}
-use lib.Dec.{eqb}
-use Rattle.integer.specs.Answer.{pick}
 use Rattle.field.specs.Outcome.{both}
 use Rattle.field.specs.Rules.{askable, givable}
-use Rattle.field.specs.Value.{Value, mean}
+use Rattle.field.specs.Value.{mean}
 use Rattle.field.specs.declared.Entries.{Entries}
 use Rattle.field.specs.declared.Kind.the-variants.{Parameters}
 use Rattle.field.specs.declared.Piece.the-variants.{Number, List as Listing}
-use Rattle.layout.specs.Layout.{Layout, done, forbidden, field, when, place, failure, parameters}
-use Rattle.layout.specs.Permitted.{good, formOf, handed, code, permitted}
+use Rattle.layout.specs.Layout.{done, place, failure, parameters}
+use Rattle.layout.specs.Permitted.{code, permitted}
 use Rattle.layout.specs.Typed.{Typed}
-use Rattle.layout.proofs.Back.{both-true as both-parts}
-use Rattle.shortest.proofs.Tests.{both-true}
-use Rattle.shortest.proofs.Good.{AllGood, more}
+use Rattle.shortest.proofs.Good.{AllGood}
+use Rattle.shortest.proofs.Fitting.{fitting, fitting-permitted, permitted-fitting, tested, test-alone}
 use Rattle.subscription.specs.Rules.{endsAfter}
 use Rattle.subscription.specs.Layouts.{subscribeUpdate, ending, filter, delivery, subscribe, content, subscribeOk, subscribeError, subscribeDone, only}
 use Rattle.subscription.specs.Told.{filterPieces, contentPieces, saidOf as subscriptionSaid}
@@ -51,52 +48,6 @@ use Rattle.message.specs.declared.Message.{Message}
 use Rattle.message.specs.declared.Message.the-variants.{Subscription, Fetch, Announce, Session}
 use Rattle.message.specs.declared.Kind.the-variants.{Announce as KindOfAnnounce}
 use Rattle.message.proofs.Layouts.{is-known, layout-announce}
-
--- ---- a shape
-
--- values are of the forms that a layout asks for, and pass its tests
-fitting : Layout → List Value → Bool
-fitting done [] = true
-fitting done (v ∷ vs) = false
-fitting forbidden vs = false
-fitting (field form next) [] = false
-fitting (field form next) (v ∷ vs) = both (eqb (code form) (code (formOf v))) (fitting (next (handed v)) vs)
-fitting (when test l m) vs = pick test (fitting l vs) (fitting m vs)
-
--- good values that do are permitted,
-fitting-permitted : (l : Layout) (vs : List Value) → fitting l vs ≡ true → AllGood vs → permitted l vs ≡ true
-unfolding fitting permitted
-fitting-permitted done [] h g = refl
-fitting-permitted done (v ∷ vs) h g = h
-fitting-permitted forbidden vs h g = h
-fitting-permitted (field form next) [] h g = h
-fitting-permitted (field form next) (v ∷ vs) h (more g gs) =
-    let p = both-parts (eqb (code form) (code (formOf v))) (fitting (next (handed v)) vs) h in
-    rw (p .0, g) (fitting-permitted (next (handed v)) vs (p .1) gs)
-fitting-permitted (when true l m) vs h g = fitting-permitted l vs h g
-fitting-permitted (when false l m) vs h g = fitting-permitted m vs h g
-
--- and only such are
-permitted-fitting : (l : Layout) (vs : List Value) → permitted l vs ≡ true → fitting l vs ≡ true
-unfolding fitting permitted
-permitted-fitting done [] h = refl
-permitted-fitting done (v ∷ vs) h = h
-permitted-fitting forbidden vs h = h
-permitted-fitting (field form next) [] h = h
-permitted-fitting (field form next) (v ∷ vs) h =
-    let p = both-parts (eqb (code form) (code (formOf v))) _ h in
-    let q = both-parts (good v) (permitted (next (handed v)) vs) (p .1) in
-    rw (p .0) (permitted-fitting (next (handed v)) vs (q .1))
-permitted-fitting (when true l m) vs h = permitted-fitting l vs h
-permitted-fitting (when false l m) vs h = permitted-fitting m vs h
-
--- a test before another, or alone
-tested : (a b : Bool) → pick a b false ≡ both a b
-tested true b = refl
-tested false b = refl
-
-test-alone : (a : Bool) → pick a true false ≡ a
-test-alone a = tested a true ∙ both-true a
 
 -- ---- the families
 

@@ -8,9 +8,9 @@ use lib.Dec.{leb}
 use lib.ListN.{length, take, drop, length-append, length-drop}
 use lib.Seq.{take-append-seam, drop-append-seam}
 use borrow.Author.Tests.{le-leb, lt-leb}
-use Rattle.integer.specs.Answer.{refused, wrote, Written}
+use Rattle.integer.specs.Answer.{refused, Written}
 use Rattle.integer.specs.Integer.{over}
-use Rattle.integer.proofs.Cases.{pick-by, pick-le, apart}
+use Rattle.integer.proofs.Cases.{pick-le}
 use Rattle.field.specs.Outcome.{both}
 use Rattle.field.specs.Value.{Value, mean, encode}
 use Rattle.field.specs.declared.Piece.{Piece}
@@ -19,29 +19,9 @@ use Rattle.shortest.specs.Judging.{right}
 use Rattle.shortest.specs.Writing.{rightAll, sizedAll, encodeAll, writtenOf}
 use Rattle.shortest.proofs.Tests.{both-first, both-second}
 use Rattle.shortest.proofs.Good.{sized-good}
+use Rattle.shortest.proofs.Passed.{Wrote}
 
 -- ---- what was written
-
--- every check holds, and the bytes stand at the front of the buffer
-pub record Wrote (isRight isSized isShort : Bool) (bytes before : List ℕ) (after : Written) (n : ℕ) : Type 0 where
-  pub is-right : isRight ≡ true
-  pub is-sized : isSized ≡ true
-  pub is-short : isShort ≡ true
-  pub used : n ≡ length bytes
-  pub holds : after .holds ≡ over bytes before
-
--- where the writer says so
-pub was-written : (isRight isSized isShort : Bool) (bytes before : List ℕ) {n : ℕ} → writtenOf isRight isSized isShort bytes before .says ≡ wrote n
-    → Wrote isRight isSized isShort bytes before (writtenOf isRight isSized isShort bytes before) n
-unfolding writtenOf
-was-written true true true bytes before {n} h =
-    pick-by (λ (w : Written). w .says ≡ wrote n → Wrote true true true bytes before w n) (leb (length bytes) (length before))
-    (λ _ e. record { is-right = refl; is-sized = refl; is-short = refl; used = cc; holds = refl })
-    (λ _ e. absurd (apart e))
-    h
-was-written true true false bytes before h = absurd (apart h)
-was-written true false isShort bytes before h = absurd (apart h)
-was-written false isSized isShort bytes before h = absurd (apart h)
 
 -- the bytes that it says it wrote are those that were judged
 pub wrote-bytes : {isRight isSized isShort : Bool} {bytes before : List ℕ} {after : Written} {n : ℕ} → Wrote isRight isSized isShort bytes before after n → take n (after .holds) ≡ bytes

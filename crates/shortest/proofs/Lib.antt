@@ -20,5 +20,7 @@ pub mod Once
 pub mod Good
 pub mod Again
 pub mod Longer
+pub mod Fitting
+pub mod Passed
 pub mod Alike
 pub mod Framed

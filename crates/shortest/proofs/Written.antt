@@ -5,7 +5,7 @@ use mathlib.Core.Bool.{Bool, true, false}
 use mathlib.Core.List.{List, _++_, append-assoc}
 use native.Mathlib.Omega.{arith}
 use borrow.Author.Tests.{le-leb, lt-leb}
-use lib.Dec.{leb}
+use lib.Dec.{leb, lit≤}
 use lib.ListN.{length, length-append}
 use Rattle.integer.specs.Answer.{refused, wrote, Written, Leaves}
 use Rattle.integer.specs.Integer.{sizeOf, greatest, encOf}
@@ -14,7 +14,7 @@ use Rattle.field.specs.Outcome.{both}
 use Rattle.field.specs.declared.Piece.{Piece}
 use Rattle.shortest.specs.Judging.{judged}
 use Rattle.shortest.specs.Putting.{Put}
-use Rattle.shortest.specs.Writing.{rightAll, sizedAll, encodeAll, measureAll, writtenOf, frame, plainOf, framedOf}
+use Rattle.shortest.specs.Writing.{rightAll, sizedAll, encodeAll, measureAll, writtenOf, frame, plainOf, bareOf, framedOf}
 use Rattle.shortest.specs.declared.Measured.{Measured}
 use Rattle.shortest.specs.declared.Measured.the-variants.{Takes, TooLong, Oversize, Forbidden}
 use Rattle.shortest.proofs.Judges.{Taken, judged-takes, judged-wrong, judged-great, judged-long}
@@ -119,6 +119,38 @@ module _ (s : List ℕ) {kind : ℕ} (ps : List Piece) (before : List ℕ) (smal
     header k =
         let t = taken s ps (length before) said e in
         record { ready = record { small = small; is-right = t .is-right; is-sized = t .is-sized; is-short = refl; fits = omega (arith, length-enc kind, length-append (encOf kind) (encodeAll s ps)) } }
+
+-- ---- the header of an object, which has no type: its fields alone
+
+module _ (s : List ℕ) (ps : List Piece) (before : List ℕ) {r : Measured} (said : r ≡ measureAll s ps (length before)) where
+  -- 5: one of them can't be written,
+  pub bare-forbidden : r ≡ Forbidden → Leaves (bareOf s ps before) (refused 5) before
+  unfolding bareOf measureAll
+  bare-forbidden = fields-forbidden {kind = 0} _ _ _ _ _ (lit≤ tt) _ _ said
+
+  -- 6: or is over a size,
+  pub bare-oversize : r ≡ Oversize → Leaves (bareOf s ps before) (refused 6) before
+  unfolding bareOf measureAll
+  bare-oversize = fields-oversize {kind = 0} _ _ _ _ _ (lit≤ tt) _ _ said
+
+  -- 7: or they are longer than the output
+  pub bare-over : r ≡ TooLong → Leaves (bareOf s ps before) (refused 7) before
+  unfolding bareOf
+  bare-over e =
+      let t = too-long s ps (length before) said e in
+      output-short {kind = 0} _ _ _ _ _ (lit≤ tt) (t .0 .0) (t .0 .1) refl (t .1)
+
+  module _ {n : ℕ} (e : r ≡ Takes n) where
+    -- all was checked,
+    pub bare-asks : (rightAll s ps ≡ true) × (length (encodeAll s ps) ≤ length before)
+    bare-asks = let t = taken s ps (length before) said e in (t .is-right, t .fits)
+
+    -- and they are put
+    pub bare-done : {used : ℕ} {after : List ℕ} → Put (encodeAll s ps) before used after → Leaves (bareOf s ps before) (wrote used) after
+    unfolding bareOf
+    bare-done q =
+        let t = taken s ps (length before) said e in
+        done {kind = 0} (record { small = lit≤ tt; is-right = t .is-right; is-sized = t .is-sized; is-short = refl; fits = t .fits }) q
 
 -- ---- a message: its type, a length, and its body
 

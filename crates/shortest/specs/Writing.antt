@@ -73,6 +73,10 @@ unfoldable pub plainOf : List ℕ → ℕ → List Piece → List ℕ → Writte
 plainOf s kind ps before =
     writtenOf (both (leb kind greatest) (rightAll s ps)) (sizedAll s ps) true (encOf kind ++ encodeAll s ps) before
 
+-- THE HEADER OF AN OBJECT, which has no type: its fields alone
+unfoldable pub bareOf : List ℕ → List Piece → List ℕ → Written
+bareOf s ps before = writtenOf (rightAll s ps) (sizedAll s ps) true (encodeAll s ps) before
+
 -- A MESSAGE, whose body may take so many bytes
 unfoldable pub framedOf : ℕ → List ℕ → ℕ → List Piece → List ℕ → Written
 framedOf longest s kind ps before =

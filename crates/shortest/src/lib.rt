@@ -10,6 +10,7 @@ pub use judging::measure;
 pub use putting::put;
 pub use small::are_small;
 pub use writer::write;
+pub use writer::write_bare;
 pub use writer::write_framed;
 
 // How a field, or several, is judged against the bytes it may take: it takes so many; or more than it may; or it is over a

@@ -6,7 +6,7 @@ ghost use Prim.Native.Nat.{_≤_};
 ghost use lib.ListN.{length};
 ghost use Rattle.integer.specs.Answer.{Leaves};
 ghost use Rattle.shortest.specs.Putting.{Put};
-ghost use Rattle.shortest.specs.Writing.{tenOf, fieldsOf, rightAll, encodeAll, measureAll, plainOf, framedOf, answering};
+ghost use Rattle.shortest.specs.Writing.{tenOf, fieldsOf, rightAll, encodeAll, measureAll, plainOf, bareOf, framedOf, answering};
 use crate::Fields;
 use crate::Measured;
 use crate::Writing;
@@ -78,6 +78,19 @@ pub fn write(out: &mut [u8], bytes: &[u8], f: Fields) -> Writing
             let b = put_all(&mut out[a..], bytes, f);
             Writing::Done(a + b)
         }
+    }
+}
+
+// The header of an object, which has no type: its fields alone. 5, then 6, then 7; a refusal writes nothing.
+pub fn write_bare(out: &mut [u8], bytes: &[u8], f: Fields) -> Writing
+    ensures { λ r. ⌜ Leaves (bareOf (now (bytes .entry)) (fieldsOf f) (now (out .entry))) (answering r) (now (out .exit)) ⌝ }
+{
+    let room = out.len();
+    match measure_all(bytes, f, room) {
+        Measured::Forbidden => Writing::Forbidden,
+        Measured::Oversize => Writing::Oversize,
+        Measured::TooLong => Writing::TooShort,
+        Measured::Takes(_) => Writing::Done(put_all(out, bytes, f)),
     }
 }
 

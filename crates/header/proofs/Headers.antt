@@ -1,0 +1,130 @@
+-- The four headers keep what reader and writer owe each other; and on a stream, bytes that follow change no answer but 1.
+-- Assumes nothing.
+use Prim.Native.Nat.{ℕ, _≤_}
+use mathlib.Core.Path.{_≡_, refl, sym, ap, _∙_}
+use mathlib.Core.Bool.{Bool, true, false}
+use mathlib.Core.List.{List, [], _++_, map}
+use native.Mathlib.Omega.{arith}
+use lib.ListN.{length, take}
+use lib.Dec.{lit≤}
+use Rattle.integer.specs.Answer.{Answer, whole as answered, refused}
+use Rattle.integer.specs.Integer.{encOf}
+use Rattle.field.specs.Outcome.{Outcome, whole, no, answer}
+use Rattle.field.specs.Value.{mean}
+use Rattle.field.specs.declared.Piece.{Piece}
+use Rattle.layout.specs.Layout.{Layout, scan}
+use Rattle.layout.specs.Typed.{Typed}
+use Rattle.shortest.specs.Writing.{sizedAll}
+use Rattle.shortest.proofs.Fitting.{fitting}
+use Rattle.header.specs.Layouts as layouts
+use Rattle.header.specs.Layouts.{Named, datagrams, streams}
+use Rattle.header.specs.Told.{datagramSaid, streamSaid, subgroupObjectPieces, fetchObjectPieces}
+use Rattle.header.specs.Reading.{headedOf, datagramOf, streamOf, subgroupObjectOf, fetchObjectOf}
+use Rattle.header.specs.Allowed.{datagramAllowed, payloadAllowed}
+use Rattle.header.specs.Writing.{headerWritten, datagramWritten, subgroupObjectWritten, fetchObjectWritten}
+use Rattle.header.specs.Laws.{Kept, Steady}
+use Rattle.header.specs.Codecs.{takesPayload, datagram, stream, untyped, subgroupObject, fetchObject}
+use Rattle.header.proofs.Shape.{Shaped, datagram-shape, stream-shape, subgroup-object-shape, fetch-object-shape}
+use Rattle.header.proofs.Writes.{Writable, datagram-writable, stream-writable, stream-any, subgroup-object-sized, fetch-object-sized}
+use Rattle.header.proofs.Front.{apart, scan-steady, headed-steady}
+use Rattle.header.proofs.Fields as fields
+use Rattle.header.proofs.Keeps.{bare-back, typed-back, typed-count, typed-no-longer, typed-only-room, typed-written-again}
+use Rattle.header.proofs.Follows.{is-headed, may-follow}
+
+-- ---- bytes that follow
+
+-- what is answered the same when bytes follow, unless it is 1, is steady
+steady : {B : Type 0} (readOf : List ℕ → Answer B) → ((s rest : List ℕ) → (readOf s ≡ refused 1 → ⊥) → readOf (s ++ rest) ≡ readOf s) → Steady readOf
+steady readOf same =
+    record {
+      whole-stays = λ s rest h. same s rest (λ e. apart (sym e ∙ h)) ∙ h;
+      refusal-stays = λ s rest other h. same s rest (λ e. other (cc)) ∙ h;
+    }
+
+pub stream-steady : Steady streamOf
+unfolding streamOf
+stream-steady = steady streamOf (headed-steady 1 streams)
+
+-- a header without a type
+bare-steady : (l : Layout) (s rest : List ℕ) → (answer 1 (scan l s 0) ≡ refused 1 → ⊥) → answer 1 (scan l (s ++ rest) 0) ≡ answer 1 (scan l s 0)
+bare-steady l s rest other = ap (answer 1) (scan-steady l s rest 0 (λ e. other (ap (answer 1) e)))
+
+pub subgroup-object-steady : Steady subgroupObjectOf
+unfolding subgroupObjectOf
+subgroup-object-steady = steady subgroupObjectOf (bare-steady layouts.subgroupObject)
+
+pub fetch-object-steady : Steady fetchObjectOf
+unfolding fetchObjectOf
+fetch-object-steady = steady fetchObjectOf (bare-steady layouts.fetchObject)
+
+-- ---- headers without a type
+
+-- what is told whole was read whole
+was-whole : {ps : List Piece} {used : ℕ} (o : Outcome (List Piece)) → answer 1 o ≡ answered ps used → o ≡ whole ps used
+was-whole (whole qs end) h = cc
+was-whole (no fault) h = absurd (apart h)
+
+module _ {A : Type 0} (l : Layout) (said : A → List Piece) (allowed : A → Bool) (shape : (s : List ℕ) (a : A) → fitting l (map (mean s) (said a)) ≡ allowed a) (sizes : (s : List ℕ) (a : A) → sizedAll s (said a) ≡ true) where
+  bare-kept : Kept (record { said = said; typed = untyped; readOf = λ s. answer 1 (scan l s 0); writeOf = λ s a before. headerWritten (allowed a) [] s (said a) before; takesMore = λ _. true })
+  bare-kept =
+      record {
+        reads-back = λ s a before rest says _.
+            let b = bare-back l s (said a) (allowed a) (shape s a) (sizes s a) before rest says in
+            record { found = b .found; reads = ap (answer 1) (b .reads); alike = record { types = refl; fields = b .means } };
+        no-longer = λ s a before read. fields.no-longer l [] s (said a) (allowed a) (shape s a) before (was-whole (scan l s 0) read) (lit≤ tt);
+        only-room = λ s a before read. fields.only-room l [] s (said a) (allowed a) (shape s a) before (was-whole (scan l s 0) read) (lit≤ tt);
+        written-again = λ s a before read. fields.written-again l [] s (said a) (allowed a) (shape s a) before (was-whole (scan l s 0) read) (lit≤ tt);
+      }
+
+pub subgroup-object-kept : Kept subgroupObject
+unfolding subgroupObjectOf subgroupObjectWritten
+subgroup-object-kept = bare-kept layouts.subgroupObject subgroupObjectPieces (λ o. payloadAllowed (o .payload)) subgroup-object-shape subgroup-object-sized
+
+pub fetch-object-kept : Kept fetchObject
+unfolding fetchObjectOf fetchObjectWritten
+fetch-object-kept = bare-kept layouts.fetchObject fetchObjectPieces (λ o. payloadAllowed (o .payload)) fetch-object-shape fetch-object-sized
+
+-- ---- headers behind a type
+
+module _ {A : Type 0} (cut : ℕ) (types : ℕ → Named) (said : A → Typed) (allowed : A → Bool) (shape : (s : List ℕ) (a : A) → Shaped types s (said a) (allowed a)) (writable : (s : List ℕ) (a : A) → Writable s (said a)) where
+  -- a reader that says whole where a header is read whole, and only bytes follow that may
+  record Reader (takesMore : A → Bool) (readOf : List ℕ → Answer Typed) : Type 0 where
+    heads : (s : List ℕ) {t : Typed} {used : ℕ} → readOf s ≡ answered t used → headedOf cut types s ≡ answered t used
+    reads : (a : A) (s rest : List ℕ) {t : Typed} {used : ℕ} → t .type ≡ said a .type → (takesMore a ≡ false → rest ≡ []) → length s ≤ used → headedOf cut types (s ++ rest) ≡ answered t used → readOf (s ++ rest) ≡ answered t used
+
+  module _ (takesMore : A → Bool) (readOf : List ℕ → Answer Typed) (r : Reader takesMore readOf) where
+    typed-kept : Kept (record { said = said; typed = λ t. t; readOf = readOf; writeOf = λ s a before. headerWritten (allowed a) (encOf (said a .type)) s (said a .pieces) before; takesMore = takesMore })
+    typed-kept =
+        record {
+          reads-back = λ s a before rest {n} says follows.
+              let b = typed-back cut types s (shape s a) before (writable s a) rest says in
+              let bytes = take n (headerWritten (allowed a) (encOf (said a .type)) s (said a .pieces) before .holds) in
+              record { found = b .found; reads = r .reads a bytes rest (b .alike .types) follows (omega (arith, typed-count cut types s (shape s a) before (writable s a) says)) (b .reads); alike = b .alike };
+          no-longer = λ s a before read. typed-no-longer cut types s (shape s a) before (r .heads s read);
+          only-room = λ s a before read. typed-only-room cut types s (shape s a) before (r .heads s read);
+          written-again = λ s a before read. typed-written-again cut types s (shape s a) before (r .heads s read);
+        }
+
+pub datagram-kept : Kept datagram
+unfolding datagramWritten
+datagram-kept =
+    typed-kept 4 datagrams datagramSaid datagramAllowed datagram-shape datagram-writable takesPayload datagramOf
+    (record { heads = λ s h. is-headed s h; reads = λ d s rest e f end h. may-follow d s rest e f end h })
+
+-- that of a stream is written the same over any bytes
+stream-over : Kept (record { said = streamSaid; typed = λ t. t; readOf = streamOf; writeOf = λ s h before. headerWritten true (encOf (streamSaid h .type)) s (streamSaid h .pieces) before; takesMore = λ _. true })
+unfolding streamOf
+stream-over =
+    typed-kept 1 streams streamSaid (λ _. true) stream-shape stream-writable (λ _. true) streamOf
+    (record { heads = λ s h. h; reads = λ a s rest e f end h. h })
+
+pub stream-kept : Kept stream
+stream-kept =
+    record {
+      reads-back = λ s h before rest says f.
+          let b = stream-over .reads-back s h before rest (rw (stream-any s h before) at says) f in
+          rw (stream-any s h before) (record { found = b .found; reads = b .reads; alike = b .alike });
+      no-longer = λ s h before read says. stream-over .no-longer s h before read (rw (stream-any s h before) at says);
+      only-room = λ s h before read says. stream-over .only-room s h before read (rw (stream-any s h before) at says);
+      written-again = λ s h before read room. rw (stream-any s h before) (stream-over .written-again s h before read room);
+    }

@@ -1,0 +1,13 @@
+pub mod Behind
+pub mod Headed
+pub mod Closing
+pub mod Ending
+pub mod Writes
+pub mod Once
+pub mod Shape
+pub mod Fields
+pub mod Front
+pub mod Keeps
+pub mod Follows
+pub mod Headers
+pub mod Theorems

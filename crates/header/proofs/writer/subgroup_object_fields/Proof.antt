@@ -1,0 +1,13 @@
+-- `subgroup_object_fields` meets its contract. Assumes nothing.
+use borrow.Author.Needs.{needs}
+use mathlib.Core.Path.{_∙_}
+use Rattle.header.proofs.writer.subgroup_object_fields.Statement.{statement}
+use Rattle.header.proofs.writer.subgroup_object_fields.Tie as tie
+
+pub subgroup-object-fields-spec : {M : Type 1} → statement M
+subgroup-object-fields-spec =
+    tie.close
+    (tie.spec
+    (λ c. search needs) (λ c κs. search needs) (λ c. search needs) (λ c κs. search needs)
+    (λ c. c .of3 .ensures ∙ rw (c .before .before .payload .given .1))
+    (λ c. c .of4 .ensures ∙ rw (c .before .before .payload2 .given .1)))

@@ -1,0 +1,47 @@
+-- What reader and writer of a header owe each other, said once for every header.
+use Prim.Native.Nat.{ℕ, _≤_}
+use mathlib.Core.Path.{_≡_}
+use mathlib.Core.List.{List, [], _++_, map}
+use mathlib.Core.Bool.{Bool, false}
+use lib.ListN.{length, take}
+use Rattle.integer.specs.Answer.{Answer, whole as answered, refused, wrote, Written}
+use Rattle.field.specs.Value.{mean}
+use Rattle.layout.specs.Typed.{Typed}
+
+-- A header A, of which reading tells B: its type and fields over the bytes s, what reading answers, what writing does, and whether
+-- bytes may follow it
+pub record Codec (A B : Type 0) : Type 0 where
+  pub said : A → B
+  pub typed : B → Typed
+  pub readOf : List ℕ → Answer B
+  pub writeOf : List ℕ → A → List ℕ → Written
+  pub takesMore : A → Bool
+
+-- "Two messages are the same when their numbers are equal and their byte fields equal": headers too, one over the bytes s and the
+-- other over r
+pub record Alike (s : List ℕ) (t : Typed) (r : List ℕ) (u : Typed) : Type 0 where
+  pub types : t .type ≡ u .type
+  pub fields : map (mean s) (t .pieces) ≡ map (mean r) (u .pieces)
+
+-- a header is read whole, from so many bytes, and it is like another
+pub record ReadsAs {A B : Type 0} (c : Codec A B) (s : List ℕ) (used : ℕ) (r : List ℕ) (a : A) : Type 0 where
+  pub found : B
+  pub reads : c .readOf s ≡ answered found used
+  pub alike : Alike s (c .typed found) r (c .typed (c .said a))
+
+pub record Kept {A B : Type 0} (c : Codec A B) : Type 0 where
+  -- What is written reads back as the same header from exactly the bytes written, whatever follows that may follow.
+  pub reads-back : (s : List ℕ) (a : A) (before rest : List ℕ) {n : ℕ} → c .writeOf s a before .says ≡ wrote n → (c .takesMore a ≡ false → rest ≡ []) → ReadsAs c (take n (c .writeOf s a before .holds) ++ rest) n s a
+  -- What was read is written into no more bytes than it was read from,
+  pub no-longer : (s : List ℕ) (a : A) (before : List ℕ) {used n : ℕ} → c .readOf s ≡ answered (c .said a) used → c .writeOf s a before .says ≡ wrote n → n ≤ used
+  -- is refused for nothing but want of room,
+  pub only-room : (s : List ℕ) (a : A) (before : List ℕ) {used k : ℕ} → c .readOf s ≡ answered (c .said a) used → c .writeOf s a before .says ≡ refused k → k ≡ 7
+  -- and for want of room only where there is less than it was read from.
+  pub written-again : (s : List ℕ) (a : A) (before : List ℕ) {used : ℕ} → c .readOf s ≡ answered (c .said a) used → used ≤ length before → (n : ℕ) × (c .writeOf s a before .says ≡ wrote n)
+
+-- On a stream bytes come one after the other:
+pub record Steady {B : Type 0} (readOf : List ℕ → Answer B) : Type 0 where
+  -- those that follow change nothing of a whole header,
+  pub whole-stays : (s rest : List ℕ) {b : B} {used : ℕ} → readOf s ≡ answered b used → readOf (s ++ rest) ≡ answered b used
+  -- nor of a refusal other than 1.
+  pub refusal-stays : (s rest : List ℕ) {n : ℕ} → (n ≡ 1 → ⊥) → readOf s ≡ refused n → readOf (s ++ rest) ≡ refused n

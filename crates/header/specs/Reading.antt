@@ -1,0 +1,39 @@
+-- What reading a data header answers. "On a stream, a cut header answers 1; in a datagram, which is always whole, it answers 4, and
+-- so do bytes after a status datagram."
+use Prim.Native.Nat.{ℕ}
+use mathlib.Core.List.{List}
+use lib.ListN.{length}
+use lib.Dec.{eqb, ltb}
+use Rattle.integer.specs.Answer.{pick, Answer, whole as answered, refused}
+use Rattle.field.specs.Outcome.{answer, both}
+use Rattle.field.specs.Entries.{numberAt}
+use Rattle.field.specs.Value.{onFound}
+use Rattle.field.specs.declared.Piece.{Piece}
+use Rattle.layout.specs.Layout.{scan}
+use Rattle.layout.specs.Typed.{Typed, typed}
+use Rattle.header.specs.Layouts.{Named, onKnown, datagrams, streams, subgroupObject, fetchObject}
+
+-- a header at the front of s, behind its type: by the answer for a cut one, and what each type names
+unfoldable pub headedOf : ℕ → (ℕ → Named) → List ℕ → Answer Typed
+headedOf cut types s =
+    onFound (numberAt s 0)
+    (λ type at. onKnown (types type) (λ l. answer cut (typed type (scan l s at))) (refused 2))
+    (refused cut)
+
+-- a datagram of so many bytes: none follows a status, and what follows else is the payload
+abbrev pub closed : ℕ → Answer Typed → Answer Typed
+closed size (answered t used) = pick (both (eqb (t .type) 0x2) (ltb used size)) (refused 4) (answered t used)
+closed size (refused n) = refused n
+
+unfoldable pub datagramOf : List ℕ → Answer Typed
+datagramOf s = closed (length s) (headedOf 4 datagrams s)
+
+unfoldable pub streamOf : List ℕ → Answer Typed
+streamOf s = headedOf 1 streams s
+
+-- the header of an object has no type
+unfoldable pub subgroupObjectOf : List ℕ → Answer (List Piece)
+subgroupObjectOf s = answer 1 (scan subgroupObject s 0)
+
+unfoldable pub fetchObjectOf : List ℕ → Answer (List Piece)
+fetchObjectOf s = answer 1 (scan fetchObject s 0)

@@ -1,0 +1,13 @@
+-- `of_datagram` meets its contract: each answer has its number. Assumes nothing.
+use borrow.Author.Needs.{needs}
+use Rattle.lines.proofs.numbers.of_datagram.Statement.{statement}
+use Rattle.lines.proofs.numbers.of_datagram.Tie as tie
+
+pub of-datagram-spec : {M : Type 1} → statement M
+of-datagram-spec =
+    tie.close
+    (tie.spec
+    (λ c. search needs) (λ c. search needs) (λ c. search needs) (λ c. search needs) (λ c. rw (c .before .r .given .1))
+    (λ c. rw (c .enum-told .given .1))
+    (λ c. rw (c .enum-told2 .given .1))
+    (λ c. rw (c .enum-told3 .given .1)))

@@ -1,0 +1,16 @@
+-- `of_message` meets its contract: each answer has its number. Assumes nothing.
+use borrow.Author.Needs.{needs}
+use Rattle.lines.proofs.numbers.of_message.Statement.{statement}
+use Rattle.lines.proofs.numbers.of_message.Tie as tie
+
+pub of-message-spec : {M : Type 1} → statement M
+of-message-spec =
+    tie.close
+    (tie.spec
+    (λ c. search needs) (λ c. search needs) (λ c. search needs) (λ c. search needs) (λ c. search needs) (λ c. search needs) (λ c. search needs) (λ c. rw (c .before .r .given .1))
+    (λ c. rw (c .enum-told .given .1))
+    (λ c. rw (c .enum-told2 .given .1))
+    (λ c. rw (c .enum-told3 .given .1))
+    (λ c. rw (c .enum-told4 .given .1))
+    (λ c. rw (c .enum-told5 .given .1))
+    (λ c. rw (c .enum-told6 .given .1)))
