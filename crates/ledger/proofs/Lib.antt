@@ -6,3 +6,7 @@ pub mod Facts
 pub mod Gates
 pub mod Finds
 pub mod Taking
+pub mod Keyed
+pub mod Rises
+pub mod Sounds
+pub mod Views

@@ -21,13 +21,14 @@ module _ (key : Row → ℕ) (n : ℕ) where
   looks l = refl
 
   module _ (l : Ledger) (i : ℕ) (long : length (l .rows) ≡ 64) (few : l .used ≤ 64) (a : Looking l i) where
-    pub is-here : (d : Row) → i < l .used → key (getD (l .rows) i d) ≡ n → At i ≡ find key n 0 (held l)
-    unfolding Looking find
-    is-here d h e = sym (rw (held-next l long few i d h, eq-eqb _ _ e)) ∙ a
+    module _ (d : Row) (h : i < l .used) {x : ℕ} (number : x ≡ key (getD (l .rows) i d)) where
+      pub is-here : x ≡ n → At i ≡ find key n 0 (held l)
+      unfolding Looking find
+      is-here e = sym (rw (held-next l long few i d h, ← number, eq-eqb x n e)) ∙ a
 
-    pub not-here : (d : Row) → i < l .used → (key (getD (l .rows) i d) ≡ n → ⊥) → Looking l (i + 1)
-    unfolding Looking find
-    not-here d h e = sym (rw (held-next l long few i d h, ne-eqb _ _ e)) ∙ a
+      pub not-here : (x ≡ n → ⊥) → Looking l (i + 1)
+      unfolding Looking find
+      not-here e = sym (rw (held-next l long few i d h, ← number, ne-eqb x n e)) ∙ a
 
     pub nowhere : l .used ≤ i → Missing ≡ find key n 0 (held l)
     unfolding Looking find

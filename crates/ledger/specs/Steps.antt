@@ -35,6 +35,8 @@ use Rattle.ledger.specs.declared.Part.the-variants.{Subscriber, Publishe
 use Rattle.ledger.specs.declared.Rule.{Rule}
 use Rattle.ledger.specs.declared.Rule.the-variants.{R1, R2, R3, R4, R5, R6, R7}
 use Rattle.ledger.specs.declared.Ledger.{Ledger}
+use Rattle.ledger.specs.declared.Key.{Key}
+use Rattle.ledger.specs.declared.Key.the-variants.{Id, Alias}
 use Rattle.ledger.specs.declared.Found.{Found}
 use Rattle.ledger.specs.declared.Found.the-variants.{At, Missing}
 
@@ -62,6 +64,10 @@ idOf r = r .id
 
 abbrev pub aliasOf : Row → ℕ
 aliasOf r = r .alias
+
+abbrev pub keyOf : Key → Row → ℕ
+keyOf Id = idOf
+keyOf Alias = aliasOf
 
 abbrev pub rowAt : Ledger → ℕ → Row
 rowAt l i = getD (l .rows) i unusedRow

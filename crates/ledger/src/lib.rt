@@ -88,7 +88,12 @@ enum Gate {
     Stop(Answer),
 }
 
-// Where a row stands.
+// What a row is found by, and where it stands.
+enum Key {
+    Id,
+    Alias,
+}
+
 enum Found {
     At(usize),
     Missing,
