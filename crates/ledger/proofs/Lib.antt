@@ -10,3 +10,8 @@ pub mod Keyed
 pub mod Rises
 pub mod Sounds
 pub mod Views
+pub mod Changes
+pub mod Behind
+pub mod Keeps
+pub mod Once
+pub mod Same

@@ -36,7 +36,7 @@ pending-is id alias range i a s = rw (i, a, s)
 
 -- ---- the row behind an arrival
 
-abbrev counting : Arriving → Row → Row
+abbrev pub counting : Arriving → Row → Row
 counting Waiting r = r
 counting Outside r = r
 counting (Counted next) r = next
@@ -94,7 +94,7 @@ after-is place r s w =
 
 -- ---- the row behind a SUBSCRIBE_OK
 
-abbrev opening : Opening → Row → Row
+abbrev pub opening : Opening → Row → Row
 opening Refused r = r
 opening (Opened next) r = next
 
