@@ -54,8 +54,8 @@ startOf part capacity maximum =
 
 -- ---- rows in their places
 
--- where the first row stands, counted from `from`, that has this number
-unfoldable pub find : (Row → ℕ) → ℕ → ℕ → List Row → Found
+-- where the first stands, counted from `from`, that has this number
+unfoldable pub find : {A : Type 0} → (A → ℕ) → ℕ → ℕ → List A → Found
 find of n from [] = Missing
 find of n from (r ∷ rs) = pick (eqb (of r) n) (At from) (find of n (from + 1) rs)
 
