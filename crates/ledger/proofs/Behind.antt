@@ -15,14 +15,14 @@ use Rattle.subscription.specs.declared.Content.{Content}
 use Rattle.subscription.specs.declared.Subscribe.{Subscribe}
 use Rattle.subscription.specs.declared.SubscribeOk.{SubscribeOk}
 use Rattle.row.specs.Ranges.{askedOf}
-use Rattle.row.specs.Rows.{unusedRow, pendingRow, arriveOf, openOf, mayEnd}
+use Rattle.row.specs.Rows.{unusedRow, pendingRow, arriveOf, leftBy, openOf, mayEnd}
 use Rattle.row.specs.declared.Row.{Row}
 use Rattle.row.specs.declared.Arriving.{Arriving}
 use Rattle.row.specs.declared.Arriving.the-variants.{Waiting, Outside, Counted}
 use Rattle.row.specs.declared.Opening.{Opening}
 use Rattle.row.specs.declared.Opening.the-variants.{Refused, Opened}
 use Rattle.row.specs.declared.Ending.{Ending}
-use Rattle.row.proofs.Keeping.{counting, after, opening, opened}
+use Rattle.row.proofs.Keeping.{after, opening, opened}
 use Rattle.ledger.specs.Ledgers.{held, hasAlias}
 use Rattle.ledger.specs.Answers.{Came, isOwn, breaks, closedBy, done}
 use Rattle.ledger.specs.Steps.{find, idOf, aliasOf, rowAt, withRows, changed, noRow, subscribeStep, openedAt, okAt, okStep, endAt, endStep, maximumStep, arrivedAt, arriveAt, arrivalStep}
@@ -42,7 +42,7 @@ use Rattle.ledger.proofs.Changes.{within-places, within-room}
 
 module _ (l : Ledger) (i : ℕ) where
   -- the row itself, stored back
-  same-row : l ≡ changed l i (rowAt l i)
+  pub same-row : l ≡ changed l i (rowAt l i)
   unfolding changed
   same-row = ap (λ (rs : List Row). withRows l rs (l .used) (l .next)) (sym (set-getD (l .rows) i unusedRow))
 
@@ -51,7 +51,7 @@ module _ (l : Ledger) (i : ℕ) where
   unfolding after
   arrived-is place = go (arriveOf (rowAt l i) place)
     where
-      go : (w : Arriving) → arrivedAt l i w .next ≡ changed l i (counting w (rowAt l i))
+      go : (w : Arriving) → arrivedAt l i w .next ≡ changed l i (leftBy w (rowAt l i))
       go Waiting = same-row
       go Outside = same-row
       go (Counted r) = refl

@@ -15,3 +15,5 @@ pub mod Behind
 pub mod Keeps
 pub mod Once
 pub mod Same
+pub mod Naming
+pub mod Running

@@ -7,6 +7,7 @@ mod finding;
 mod gating;
 mod messages;
 mod rules;
+mod run;
 mod starting;
 mod subscribing;
 

@@ -14,7 +14,7 @@ use Rattle.subscription.specs.declared.Content.the-variants.{Nothing, Largest}
 use Rattle.shortest.proofs.Tests.{both-first, both-second}
 use Rattle.row.specs.Places.{before, small, smallPlace}
 use Rattle.row.specs.Ranges.{inRange, isKnown, smallRange, latest, moved, settledOf}
-use Rattle.row.specs.Rows.{top, agree, suits, isRow, pendingRow, greater, risen, countedRow, arriveIn, arriveOf, activeRow, openIn, openOf}
+use Rattle.row.specs.Rows.{top, agree, suits, isRow, pendingRow, greater, risen, countedRow, arriveIn, arriveOf, leftBy, activeRow, openIn, openOf}
 use Rattle.row.specs.declared.State.{State}
 use Rattle.row.specs.declared.State.the-variants.{Pending, Active}
 use Rattle.row.specs.declared.Range.{Range}
@@ -23,7 +23,6 @@ use Rattle.row.specs.declared.Greatest.{Greatest}
 use Rattle.row.specs.declared.Greatest.the-variants.{Nowhere, At}
 use Rattle.row.specs.declared.Row.{Row}
 use Rattle.row.specs.declared.Arriving.{Arriving}
-use Rattle.row.specs.declared.Arriving.the-variants.{Waiting, Outside, Counted}
 use Rattle.row.specs.declared.Opening.{Opening}
 use Rattle.row.specs.declared.Opening.the-variants.{Refused, Opened}
 use Rattle.row.proofs.Facts.{IsRow, row-parts, row-whole}
@@ -36,22 +35,17 @@ pending-is id alias range i a s = rw (i, a, s)
 
 -- ---- the row behind an arrival
 
-abbrev pub counting : Arriving → Row → Row
-counting Waiting r = r
-counting Outside r = r
-counting (Counted next) r = next
-
 unfoldable pub after : Place → Row → Row
-after place r = counting (arriveOf r place) r
+after place r = leftBy (arriveOf r place) r
 
 -- either it is counted, at an active row, or nothing changes
 after-by : (P : Row → Type 0) (place : Place) (r : Row) → P r → (r .state ≡ Active → P (countedRow r place)) → P (after place r)
 unfolding after arriveOf
 after-by P place r same counted = go (r .state) refl
   where
-    go : (s : State) → r .state ≡ s → P (counting (arriveIn s r place) r)
+    go : (s : State) → r .state ≡ s → P (leftBy (arriveIn s r place) r)
     go Pending e = same
-    go Active e = pick-by (λ (w : Arriving). P (counting w r)) (inRange (r .range) place) (λ _. counted e) (λ _. same)
+    go Active e = pick-by (λ (w : Arriving). P (leftBy w r)) (inRange (r .range) place) (λ _. counted e) (λ _. same)
 
 pub after-id : (place : Place) (r : Row) → after place r .id ≡ r .id
 unfolding countedRow
