@@ -8,7 +8,7 @@ use lib.Dec.{eqb}
 use Rattle.integer.specs.Answer.{pick}
 use Rattle.layout.proofs.Steps.{kept, broken}
 use Rattle.ledger.specs.Ledgers.{isLedger, isOpen}
-use Rattle.ledger.specs.Answers.{Said, only, said, told, Came, same, gateOf, toldGate, gated}
+use Rattle.ledger.specs.Answers.{Said, only, said, told, Came, same, stops, gateOf, toldGate, gated}
 use Rattle.ledger.specs.declared.Session.{Session}
 use Rattle.ledger.specs.declared.Ledger.{Ledger}
 use Rattle.ledger.specs.declared.Answer.{Answer}
@@ -43,7 +43,7 @@ passes false sound opened e = absurd (omega arith)
 
 -- a ledger, sound numbers, an open session
 pub gate-passed : (l : Ledger) (sound : Bool) → gateOf l sound ≡ 0 → (isLedger l ≡ true) × (sound ≡ true) × (isOpen (l .session) ≡ true)
-unfolding gateOf
+unfolding gateOf stops
 gate-passed l sound e = passes (isLedger l) sound (isOpen (l .session)) e
 
 -- ---- a call, by what the gate told

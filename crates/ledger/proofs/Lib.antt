@@ -6,3 +6,14 @@ pub mod Facts
 pub mod Gates
 pub mod Finds
 pub mod Taking
+pub mod Keyed
+pub mod Rises
+pub mod Sounds
+pub mod Views
+pub mod Changes
+pub mod Behind
+pub mod Keeps
+pub mod Once
+pub mod Same
+pub mod Naming
+pub mod Running

@@ -1,34 +1,31 @@
--- The loops that look for a row: those that are left give what all of them give. Assumes nothing.
+-- The loops that look for a number: those that are left give what all of them give. Assumes nothing.
 use Prim.Native.Nat.{ℕ, _+_, _≤_, _<_}
 use mathlib.Core.Path.{_≡_, refl, sym, _∙_}
 use mathlib.Core.List.{List, [], _∷_}
 use borrow.Author.Tests.{eq-eqb, ne-eqb}
-use lib.ListN.{length, drop, getD}
-use Rattle.row.specs.declared.Row.{Row}
-use Rattle.ledger.specs.Ledgers.{held}
+use lib.ListN.{length, take, drop, getD}
 use Rattle.ledger.specs.Steps.{find}
-use Rattle.ledger.specs.declared.Ledger.{Ledger}
-use Rattle.ledger.specs.declared.Found.{Found}
 use Rattle.ledger.specs.declared.Found.the-variants.{At, Missing}
-use Rattle.ledger.proofs.Parts.{held-next, held-end}
+use Rattle.ledger.proofs.Parts.{part-next, part-end}
 
-module _ (key : Row → ℕ) (n : ℕ) where
-  pub Looking : Ledger → ℕ → Type 0
-  Looking l i = find key n i (drop i (held l)) ≡ find key n 0 (held l)
+module _ {A : Type 0} (key : A → ℕ) (n : ℕ) (xs : List A) (used : ℕ) where
+  pub Looking : ℕ → Type 0
+  Looking i = find key n i (drop i (take used xs)) ≡ find key n 0 (take used xs)
 
-  pub looks : (l : Ledger) → Looking l 0
+  pub looks : Looking 0
   unfolding Looking
-  looks l = refl
+  looks = refl
 
-  module _ (l : Ledger) (i : ℕ) (long : length (l .rows) ≡ 64) (few : l .used ≤ 64) (a : Looking l i) where
-    pub is-here : (d : Row) → i < l .used → key (getD (l .rows) i d) ≡ n → At i ≡ find key n 0 (held l)
-    unfolding Looking find
-    is-here d h e = sym (rw (held-next l long few i d h, eq-eqb _ _ e)) ∙ a
+  module _ (i : ℕ) (long : used ≤ length xs) (a : Looking i) where
+    module _ (d : A) (h : i < used) {x : ℕ} (number : x ≡ key (getD xs i d)) where
+      pub is-here : x ≡ n → At i ≡ find key n 0 (take used xs)
+      unfolding Looking find
+      is-here e = sym (rw (part-next xs used i long d h, ← number, eq-eqb x n e)) ∙ a
 
-    pub not-here : (d : Row) → i < l .used → (key (getD (l .rows) i d) ≡ n → ⊥) → Looking l (i + 1)
-    unfolding Looking find
-    not-here d h e = sym (rw (held-next l long few i d h, ne-eqb _ _ e)) ∙ a
+      pub not-here : (x ≡ n → ⊥) → Looking (i + 1)
+      unfolding Looking find
+      not-here e = sym (rw (part-next xs used i long d h, ← number, ne-eqb x n e)) ∙ a
 
-    pub nowhere : l .used ≤ i → Missing ≡ find key n 0 (held l)
+    pub nowhere : used ≤ i → Missing ≡ find key n 0 (take used xs)
     unfolding Looking find
-    nowhere h = sym (rw (held-end l long few i h)) ∙ a
+    nowhere h = sym (rw (part-end xs used i long h)) ∙ a

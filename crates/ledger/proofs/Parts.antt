@@ -18,18 +18,25 @@ module _ {A : Type 0} (xs : List A) (i : ℕ) where
   pub rest-end : length xs ≤ i → drop i xs ≡ []
   rest-end h = drop-of-length-le xs {i = i} h
 
+-- the i-th of the first n, and those behind it
+module _ {A : Type 0} (xs : List A) (n i : ℕ) (long : n ≤ length xs) where
+  pub part-next : (d : A) → i < n → drop i (take n xs) ≡ getD xs i d ∷ drop (i + 1) (take n xs)
+  part-next d h =
+      rest-next (take n xs) i d (omega (arith, length-take-le n xs long)) ∙ rw (getD-take n xs i d h)
+
+  -- behind the last there are none
+  pub part-end : n ≤ i → drop i (take n xs) ≡ []
+  part-end h = rest-end (take n xs) i (omega (arith, length-take-le n xs long))
+
 module _ (l : Ledger) (long : length (l .rows) ≡ 64) (few : l .used ≤ 64) where
   pub held-long : length (held l) ≡ l .used
   unfolding held
   held-long = length-take-le (l .used) (l .rows) (omega arith)
 
-  -- the i-th row in use, and those behind it
   pub held-next : (i : ℕ) (d : Row) → i < l .used → drop i (held l) ≡ getD (l .rows) i d ∷ drop (i + 1) (held l)
   unfolding held
-  held-next i d h =
-      rest-next (take (l .used) (l .rows)) i d (omega (arith, length-take-le (l .used) (l .rows) (omega arith)))
-      ∙ rw (getD-take (l .used) (l .rows) i d h)
+  held-next i d h = part-next (l .rows) (l .used) i (omega arith) d h
 
-  -- behind the last there are none
   pub held-end : (i : ℕ) → l .used ≤ i → drop i (held l) ≡ []
-  held-end i h = rest-end (held l) i (omega (arith, held-long))
+  unfolding held
+  held-end i h = part-end (l .rows) (l .used) i (omega arith) h

@@ -1,3 +1,5 @@
 pub mod Checks
 pub mod Counts
 pub mod Endings
+pub mod Facts
+pub mod Keeping

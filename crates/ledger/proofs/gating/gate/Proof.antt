@@ -2,12 +2,12 @@
 use borrow.Author.Needs.{needs}
 use borrow.Author.Tests.{not-true, not-false}
 use Rattle.layout.proofs.Steps.{kept, broken}
-use Rattle.ledger.specs.Answers.{gateOf}
+use Rattle.ledger.specs.Answers.{stops, gateOf}
 use Rattle.ledger.proofs.gating.gate.Statement.{statement}
 use Rattle.ledger.proofs.gating.gate.Tie as tie
 
 pub gate-spec : {M : Type 1} → statement M
-unfolding gateOf
+unfolding gateOf stops
 gate-spec =
     tie.close
     (tie.spec
