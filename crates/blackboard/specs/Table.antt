@@ -32,7 +32,7 @@ use Rattle.row.specs.Places.{small, smallPlace}
 use Rattle.row.specs.Ranges.{isKnown, smallRange}
 use Rattle.row.specs.Rows.{agree, suits, isRow, isPending, isNowhere, isUnused}
 use Rattle.ledger.specs.Ledgers.{held, rising, hasAlias, distinct, allUnused, bounded, isLedger}
-use Rattle.ledger.specs.Answers.{Said, only, breaks, gateOf, gated}
+use Rattle.ledger.specs.Answers.{Said, only, breaks, stops, gateOf, gated}
 use Rattle.ledger.specs.Steps.{startOf, added, subscribeStep, takeOf}
 use Rattle.ledger.specs.declared.Ledger.{Ledger}
 use Rattle.ledger.specs.declared.Part.the-variants.{Subscriber}
@@ -135,7 +135,7 @@ lines =
     ∷ []
 
 computed : map found lines ≡ map stated lines
-unfolding found stated lines wide room tag sizeOf spell bytesOf readOf putOf writeOf numberAt fieldAt scan fetchCancel known layoutOf bodyOf messageOf messageAs allowedOf fetchAllowed right sized rightAll sizedAll encodeAll encode encField mean writtenOf frame encOf answersTo smallPiece smallAll askable allowedFilter subscriptionAllowed soundOf small smallPlace isKnown smallRange agree suits isRow isPending isNowhere isUnused held rising hasAlias distinct allUnused bounded isLedger breaks gateOf gated startOf added subscribeStep takeOf
+unfolding found stated lines wide room tag sizeOf spell bytesOf readOf putOf writeOf numberAt fieldAt scan fetchCancel known layoutOf bodyOf messageOf messageAs allowedOf fetchAllowed right sized rightAll sizedAll encodeAll encode encField mean writtenOf frame encOf answersTo smallPiece smallAll askable allowedFilter subscriptionAllowed soundOf small smallPlace isKnown smallRange agree suits isRow isPending isNowhere isUnused held rising hasAlias distinct allUnused bounded isLedger breaks stops gateOf gated startOf added subscribeStep takeOf
 computed = refl
 
 -- two functions that map a list alike agree at each of its members

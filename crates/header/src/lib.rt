@@ -1,6 +1,6 @@
 // Data headers: section 9 of source document 004. An object comes in a datagram, or on a stream behind the stream's header and its
 // own.
-mod arrivals;
+pub mod arrivals;
 mod datagrams;
 mod leading;
 mod objects;
@@ -12,8 +12,6 @@ use field::Place;
 use field::Span;
 
 // What was sent is read, and leads to arrivals;
-pub use arrivals::datagram_arrival;
-pub use arrivals::subgroup_arrival;
 pub use datagrams::read_datagram;
 pub use objects::read_fetch_object;
 pub use objects::read_subgroup_object;
