@@ -1,3 +1,4 @@
 pub mod Checks
 pub mod Counts
 pub mod Endings
+pub mod Staying

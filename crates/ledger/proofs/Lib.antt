@@ -1,0 +1,7 @@
+pub mod Facts
+pub mod Turning
+pub mod Standing
+pub mod Replies
+pub mod Ranks
+pub mod Sounded
+pub mod Keeping
