@@ -34,8 +34,9 @@ use Rattle.ledger.specs.declared.Part.the-variants.{Subscriber, Publishe
 use Rattle.ledger.specs.declared.Rule.{Rule}
 use Rattle.ledger.specs.declared.Rule.the-variants.{R1, R2, R3, R4, R7}
 use Rattle.ledger.proofs.Facts.{IsLedger, parts, whole}
+use Rattle.ledger.proofs.Turning.{Change}
 use Rattle.ledger.proofs.Standing.{Becomes, adds}
-use Rattle.ledger.proofs.Replies.{Reply, counting, Does, stayed, broken as brokenBy, turned, counted, arrival-does, ok-does, end-does}
+use Rattle.ledger.proofs.Replies.{Reply, Does, stayed, broken as brokenBy, turned, arrival-does, ok-does, end-does}
 use Rattle.ledger.proofs.Ranks.{rising-turn, distinct-turn, rising-last, distinct-last}
 use Rattle.ledger.proofs.Sounded.{Asks, sound-subscribe, sound-ok, sound-maximum}
 
@@ -80,13 +81,10 @@ module _ (l : Ledger) (w : isLedger l ≡ true) where
   unfolding breaks
   keeps-breaks own rule = pick-by (λ (m : Ledger). isLedger m ≡ true) own (λ _. w) (λ _. closed-ledger rule)
 
-  keeps-does : {own : Bool} {key : Row → ℕ} {n : ℕ} {r : Reply} {c : Came} → Does l own key n r c → Keeps c
+  keeps-does : {own : Bool} {said : ℕ} {also : Row → Change → Type 0} {key : Row → ℕ} {n : ℕ} {r : Reply} {c : Came} → Does l own said also key n r c → Keeps c
   keeps-does stayed = w
   keeps-does {own} (brokenBy {rule}) = keeps-breaks own rule
-  keeps-does {key = key} {n = n} (turned {f} fits still b) =
-      b .keeps (rising-turn key n f 0 (l .next) (held l) fits (parts l w .rises)) (distinct-turn key n f (held l) fits (parts l w .apart))
-  keeps-does {key = key} {n = n} (counted {place} fits b) =
-      let f = counting place in
+  keeps-does {key = key} {n = n} (turned {f} fits more b) =
       b .keeps (rising-turn key n f 0 (l .next) (held l) fits (parts l w .rises)) (distinct-turn key n f (held l) fits (parts l w .apart))
 
   keeps-asked : (m : Subscribe) {c : Came} → Asks m → Asked l m c → Keeps c

@@ -5,3 +5,4 @@ pub mod Replies
 pub mod Ranks
 pub mod Sounded
 pub mod Keeping
+pub mod Known

@@ -52,14 +52,16 @@ pub data Reply : Type 0 where
   stays : {number : ℕ} → Quiet number → Reply
   broke : Rule → Reply
   turns : (Row → Change) → Reply
-  counts : Place → Reply
 
 abbrev missed : ℕ → ℕ → Reply
 missed next id = pick (leb next id) (broke R5) (stays stale)
 
-abbrev arriving : State → Bool → Place → Reply
+abbrev pub counting : Place → Row → Change
+counting place r = now (countedRow r place)
+
+abbrev pub arriving : State → Bool → Place → Reply
 arriving Pending within place = stays pending
-arriving Active within place = pick within (counts place) (stays outside)
+arriving Active within place = pick within (turns (counting place)) (stays outside)
 
 abbrev pub arrivalReply : Place → Looked → Reply
 arrivalReply place none = stays no-row
@@ -68,7 +70,7 @@ arrivalReply place (one r) = arriving (r .state) (inRange (r .range) place) plac
 abbrev opens : Content → Row → Change
 opens content r = now (activeRow r (settledOf (r .range) content))
 
-abbrev opening : State → Content → Reply
+abbrev pub opening : State → Content → Reply
 opening Pending content = turns (opens content)
 opening Active content = broke R6
 
@@ -82,27 +84,27 @@ endReply ending id next (one r) = pick (mayEnd ending (r .state)) (turns (λ _. 
 
 -- ---- and what comes of them
 
--- what is counted so far stays
+-- what more is known of a row that is turned: an arrival is counted,
+abbrev pub Counting : Place → Row → Change → Type 0
+Counting place r c = c ≡ counting place r
+
+-- or what is counted so far stays
 abbrev pub Still : Row → Change → Type 0
 Still r gone = Unit {0}
 Still r (now next) = (next .greatest ≡ r .greatest) × (next .count ≡ r .count)
 
-abbrev pub counting : Place → Row → Change
-counting place r = now (countedRow r place)
-
--- of an own message or of the peer's
-pub data Does (l : Ledger) (own : Bool) (key : Row → ℕ) (n : ℕ) : Reply → Came → Type 0 where
-  stayed : {number : ℕ} {q : Quiet number} → Does l own key n (stays q) (same l number)
-  broken : {rule : Rule} → Does l own key n (broke rule) (breaks l own rule)
-  turned : {f : Row → Change} {after : Ledger} → Fitting key n f (held l) → ((r : Row) → Still r (f r)) → Becomes l (l .next) (turn key n f (held l)) after → Does l own key n (turns f) (done after)
-  counted : {place : Place} {after : Ledger} → Fitting key n (counting place) (held l) → Becomes l (l .next) (turn key n (counting place) (held l)) after → Does l own key n (counts place) (record { says = only 16; next = after })
+-- of an own message or of the peer's; the number is what is said where a row is turned
+pub data Does (l : Ledger) (own : Bool) (said : ℕ) (also : Row → Change → Type 0) (key : Row → ℕ) (n : ℕ) : Reply → Came → Type 0 where
+  stayed : {number : ℕ} {q : Quiet number} → Does l own said also key n (stays q) (same l number)
+  broken : {rule : Rule} → Does l own said also key n (broke rule) (breaks l own rule)
+  turned : {f : Row → Change} {after : Ledger} → Fitting key n f (held l) → ((r : Row) → also r (f r)) → Becomes l (l .next) (turn key n f (held l)) after → Does l own said also key n (turns f) (record { says = only said; next = after })
 
 module _ (l : Ledger) (w : IsLedger l) where
-  no-such : (key : Row → ℕ) (n : ℕ) (sender : Part) (id : ℕ) → Does l (isOwn (l .part) sender) key n (missed (l .next) id) (noRow l sender id)
+  no-such : (key : Row → ℕ) (n : ℕ) (sender : Part) (id : ℕ) → Does l (isOwn (l .part) sender) 8 Still key n (missed (l .next) id) (noRow l sender id)
   unfolding noRow
   no-such key n sender id = go (leb (l .next) id)
     where
-      go : (b : Bool) → Does l (isOwn (l .part) sender) key n (pick b (broke R5) (stays stale)) (pick b (breaks l (isOwn (l .part) sender) R5) (same l 12))
+      go : (b : Bool) → Does l (isOwn (l .part) sender) 8 Still key n (pick b (broke R5) (stays stale)) (pick b (breaks l (isOwn (l .part) sender) R5) (same l 12))
       go true = broken
       go false = stayed
 
@@ -127,10 +129,10 @@ module _ (l : Ledger) (w : IsLedger l) where
     fitting h r e =
         rw (← found-is e) (h (look-row key n 0 (l .next) (held l) (s .row) (w .rises) (stands-look key n s)))
 
-  pub arrival-does : (a : Arrival) → smallPlace (a .place) ≡ true → Does l true aliasOf (a .alias) (arrivalReply (a .place) (look aliasOf (a .alias) (held l))) (arrivalStep l a)
+  pub arrival-does : (a : Arrival) → smallPlace (a .place) ≡ true → Does l true 16 (Counting (a .place)) aliasOf (a .alias) (arrivalReply (a .place) (look aliasOf (a .alias) (held l))) (arrivalStep l a)
   unfolding arrivalStep arriveOf countedRow
   arrival-does a small =
-      by-place key n (λ looked f. Does l true key n (arrivalReply p looked) (arriveAt l f p)) stayed
+      by-place key n (λ looked f. Does l true 16 (Counting p) key n (arrivalReply p looked) (arriveAt l f p)) stayed
       (λ i s. rw (stands-row l w key n i s) (at i s (s .row .state) refl))
     where
       key : Row → ℕ
@@ -142,39 +144,39 @@ module _ (l : Ledger) (w : IsLedger l) where
       p : Place
       p = a .place
 
-      within : (i : ℕ) (s : Stands key n (held l) 0 i) → s .row .state ≡ Active → (b : Bool) → Does l true key n (pick b (counts p) (stays outside)) (arrivedAt l i (pick b (Counted (countedRow (s .row) p)) Outside))
+      within : (i : ℕ) (s : Stands key n (held l) 0 i) → s .row .state ≡ Active → (b : Bool) → Does l true 16 (Counting p) key n (pick b (turns (counting p)) (stays outside)) (arrivedAt l i (pick b (Counted (countedRow (s .row) p)) Outside))
       within i s e true =
-          counted
+          turned {f = counting p}
           (fitting key n i s (counting p) (λ row. record { id = refl; alias = refl; row = counted-row (s .row) p row e small }))
-          (becomes key n i s (counting p) (changes l w key n i s (countedRow (s .row) p)))
+          (λ r. refl) (becomes key n i s (counting p) (changes l w key n i s (countedRow (s .row) p)))
       within i s e false = stayed
 
-      at : (i : ℕ) (s : Stands key n (held l) 0 i) (state : State) → s .row .state ≡ state → Does l true key n (arriving state (inRange (s .row .range) p) p) (arrivedAt l i (arriveIn state (s .row) p))
+      at : (i : ℕ) (s : Stands key n (held l) 0 i) (state : State) → s .row .state ≡ state → Does l true 16 (Counting p) key n (arriving state (inRange (s .row .range) p) p) (arrivedAt l i (arriveIn state (s .row) p))
       at i s Pending e = stayed
       at i s Active e = within i s e (inRange (s .row .range) p)
 
-  pub ok-does : (m : SubscribeOk) → smallPlace (latest (m .content)) ≡ true → Does l (isOwn (l .part) Publisher) idOf (m .id) (okReply m (l .next) (look idOf (m .id) (held l))) (okStep l m)
+  pub ok-does : (m : SubscribeOk) → smallPlace (latest (m .content)) ≡ true → Does l (isOwn (l .part) Publisher) 8 Still idOf (m .id) (okReply m (l .next) (look idOf (m .id) (held l))) (okStep l m)
   unfolding okStep openOf
   ok-does m small =
-      by-place idOf n (λ looked f. Does l (isOwn (l .part) Publisher) idOf n (okReply m (l .next) looked) (okAt l f m)) (no-such idOf n Publisher n)
+      by-place idOf n (λ looked f. Does l (isOwn (l .part) Publisher) 8 Still idOf n (okReply m (l .next) looked) (okAt l f m)) (no-such idOf n Publisher n)
       (λ i s. rw (stands-row l w idOf n i s) (at i s (s .row .state)))
     where
       n : ℕ
       n = m .id
 
-      at : (i : ℕ) (s : Stands idOf n (held l) 0 i) (state : State) → Does l (isOwn (l .part) Publisher) idOf n (opening state (m .content)) (openedAt l i (openIn state (s .row) (m .content)))
+      at : (i : ℕ) (s : Stands idOf n (held l) 0 i) (state : State) → Does l (isOwn (l .part) Publisher) 8 Still idOf n (opening state (m .content)) (openedAt l i (openIn state (s .row) (m .content)))
       at i s Pending =
           let f = opens (m .content) in
           turned {f = f} (fitting idOf n i s f (λ row. record { id = refl; alias = refl; row = active-row (s .row) (m .content) row small }))
           (λ r. (refl, refl)) (becomes idOf n i s f (changes l w idOf n i s (activeRow (s .row) (settledOf (s .row .range) (m .content)))))
       at i s Active = broken
 
-  pub end-does : (ending : Ending) (id : ℕ) → Does l (isOwn (l .part) (senderOf ending)) idOf id (endReply ending id (l .next) (look idOf id (held l))) (endStep l ending id)
+  pub end-does : (ending : Ending) (id : ℕ) → Does l (isOwn (l .part) (senderOf ending)) 8 Still idOf id (endReply ending id (l .next) (look idOf id (held l))) (endStep l ending id)
   unfolding endStep
   end-does ending id =
-      by-place idOf id (λ looked f. Does l (isOwn (l .part) (senderOf ending)) idOf id (endReply ending id (l .next) looked) (endAt l f ending id)) (no-such idOf id (senderOf ending) id)
+      by-place idOf id (λ looked f. Does l (isOwn (l .part) (senderOf ending)) 8 Still idOf id (endReply ending id (l .next) looked) (endAt l f ending id)) (no-such idOf id (senderOf ending) id)
       (λ i s. rw (stands-row l w idOf id i s) (at i s (mayEnd ending (s .row .state))))
     where
-      at : (i : ℕ) → Stands idOf id (held l) 0 i → (b : Bool) → Does l (isOwn (l .part) (senderOf ending)) idOf id (pick b (turns (λ _. gone)) (broke R6)) (pick b (done (freed l i)) (breaks l (isOwn (l .part) (senderOf ending)) R6))
+      at : (i : ℕ) → Stands idOf id (held l) 0 i → (b : Bool) → Does l (isOwn (l .part) (senderOf ending)) 8 Still idOf id (pick b (turns (λ _. gone)) (broke R6)) (pick b (done (freed l i)) (breaks l (isOwn (l .part) (senderOf ending)) R6))
       at i s true = turned (λ _ _. tt) (λ _. tt) (frees l w idOf id i s)
       at i s false = broken

@@ -84,3 +84,78 @@ module _ (key : Row → ℕ) (n : ℕ) where
 
   pub turn-same : (f : Row → Change) (rs : List Row) → ((r : Row) → look key n rs ≡ one r → f r ≡ now r) → turn key n f rs ≡ rs
   turn-same f rs e = turn-found f now rs e ∙ turn-now rs
+
+-- ---- two turns
+
+-- a change keeps the number that rows are known by
+abbrev pub Known : (Row → ℕ) → Row → Change → Type 0
+Known key r gone = Unit {0}
+Known key r (now next) = key next ≡ key r
+
+-- what is put in a row's place is not the row that has another number
+module _ (key : Row → ℕ) (m n : ℕ) (other : m ≡ n → ⊥) (r : Row) (here : key r ≡ n) where
+  look-past : (c : Change) (rs : List Row) → Known key r c → look key m (put c rs) ≡ look key m rs
+  unfolding look
+  look-past gone rs k = refl
+  look-past (now x) rs k = rw (ne-eqb (key x) m (λ h. other (sym h ∙ k ∙ here)))
+
+  turn-past : (f : Row → Change) (c : Change) (rs : List Row) → Known key r c → turn key m f (put c rs) ≡ put c (turn key m f rs)
+  unfolding turn
+  turn-past f gone rs k = refl
+  turn-past f (now x) rs k = rw (ne-eqb (key x) m (λ h. other (sym h ∙ k ∙ here)))
+
+-- rows of different numbers: either is looked up as before,
+module _ (key : Row → ℕ) (m n : ℕ) (other : m ≡ n → ⊥) (f : Row → Change) (f-knows : (r : Row) → Known key r (f r)) where
+  pub look-other : (rs : List Row) → look key m (turn key n f rs) ≡ look key m rs
+  unfolding look turn
+  look-other [] = refl
+  look-other (r ∷ rs) = go (eqb (key r) n) refl (look-other rs)
+    where
+      go : (b : Bool) → eqb (key r) n ≡ b → look key m (turn key n f rs) ≡ look key m rs → look key m (pick b (put (f r) rs) (r ∷ turn key n f rs)) ≡ look key m (r ∷ rs)
+      go true h ih =
+          let here : key r ≡ n = eqb-true (key r) n h in
+          rw (ne-eqb (key r) m (λ e. other (sym e ∙ here))) (look-past key m n other r here (f r) rs (f-knows r))
+      go false h ih = rw ih
+
+  -- and they are turned in either order
+  pub turn-other : (g : Row → Change) → ((r : Row) → Known key r (g r)) → (rs : List Row) → turn key m g (turn key n f rs) ≡ turn key n f (turn key m g rs)
+  unfolding turn
+  turn-other g g-knows [] = refl
+  turn-other g g-knows (r ∷ rs) = go (eqb (key r) n) refl (eqb (key r) m) refl (turn-other g g-knows rs)
+    where
+      go : (b : Bool) → eqb (key r) n ≡ b → (c : Bool) → eqb (key r) m ≡ c → turn key m g (turn key n f rs) ≡ turn key n f (turn key m g rs) → turn key m g (pick b (put (f r) rs) (r ∷ turn key n f rs)) ≡ turn key n f (pick c (put (g r) rs) (r ∷ turn key m g rs))
+      go true h true k ih = absurd (other (sym (eqb-true (key r) m k) ∙ eqb-true (key r) n h))
+      go true h false k ih = rw h (turn-past key m n other r (eqb-true (key r) n h) g (f r) rs (f-knows r))
+      go false h true k ih =
+          rw k (sym (turn-past key n m (λ e. other (sym e)) r (eqb-true (key r) m k) f (g r) rs (g-knows r)))
+      go false h false k ih = rw (h, k) (ap (λ t. r ∷ t) ih)
+
+abbrev pub seen : (Row → Row) → Looked → Looked
+seen f none = none
+seen f (one r) = one (f r)
+
+-- one row, turned twice: in either order, where that is so of the row itself
+module _ (key : Row → ℕ) (n : ℕ) (f : Row → Row) (f-knows : (r : Row) → key (f r) ≡ key r) where
+  pub look-turned : (rs : List Row) → look key n (turn key n (λ r. now (f r)) rs) ≡ seen f (look key n rs)
+  unfolding look turn
+  look-turned [] = refl
+  look-turned (r ∷ rs) = go (eqb (key r) n) refl (look-turned rs)
+    where
+      go : (b : Bool) → eqb (key r) n ≡ b → look key n (turn key n (λ r. now (f r)) rs) ≡ seen f (look key n rs) → look key n (pick b (f r ∷ rs) (r ∷ turn key n (λ r. now (f r)) rs)) ≡ seen f (pick b (one r) (look key n rs))
+      go true h ih = rw (f-knows r, h)
+      go false h ih = rw h ih
+
+  pub turn-twice : (g : Row → Row) → ((r : Row) → key (g r) ≡ key r) → ((r : Row) → g (f r) ≡ f (g r)) → (rs : List Row) → turn key n (λ r. now (g r)) (turn key n (λ r. now (f r)) rs) ≡ turn key n (λ r. now (f r)) (turn key n (λ r. now (g r)) rs)
+  unfolding turn
+  turn-twice g g-knows either [] = refl
+  turn-twice g g-knows either (r ∷ rs) = go (eqb (key r) n) refl (turn-twice g g-knows either rs)
+    where
+      gs : List Row → List Row
+      gs = turn key n (λ r. now (g r))
+
+      fs : List Row → List Row
+      fs = turn key n (λ r. now (f r))
+
+      go : (b : Bool) → eqb (key r) n ≡ b → gs (fs rs) ≡ fs (gs rs) → gs (pick b (f r ∷ rs) (r ∷ fs rs)) ≡ fs (pick b (g r ∷ rs) (r ∷ gs rs))
+      go true h ih = rw (f-knows r, g-knows r, h, either r)
+      go false h ih = rw h (ap (λ t. r ∷ t) ih)

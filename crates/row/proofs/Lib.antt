@@ -2,3 +2,4 @@ pub mod Checks
 pub mod Counts
 pub mod Endings
 pub mod Staying
+pub mod Ordering

@@ -1,0 +1,4 @@
+pub mod Events
+pub mod Orders
+pub mod Counts
+pub mod Closings
