@@ -16,11 +16,11 @@ use Rattle.ledger.specs.declared.Ledger.{Ledger}
 use Rattle.ledger.proofs.Turning.{Looked, none, one, look, Change, now, turn, turn-found, Known, look-other, turn-other, seen, look-turned, turn-twice}
 use Rattle.ledger.proofs.Standing.{Becomes}
 use Rattle.ledger.proofs.Known.{becomes-one, becomes-then}
-use Rattle.ledger.proofs.Keeping.{take-keeps, malformed-keeps, arrival-keeps}
 use Rattle.ledger.proofs.Replies.{Reply}
-use Rattle.history.specs.Events.{Event, message, malformed, arrival, comes}
+use Rattle.history.specs.Events.{Event, message, arrival, comes}
 use Rattle.history.specs.Orders.{Names}
 use Rattle.history.proofs.Gate.{no-ledger}
+use Rattle.history.proofs.Keeping.{comes-keeps}
 use Rattle.history.proofs.Closing.{closed-next}
 use Rattle.history.proofs.Acting.{saysBy, shutsBy, doing, Acted, Acts, arrival-acts, arrival-goes, Named, named}
 use Rattle.history.proofs.Touching.{touch, touches, touch-alias, touch-reply, touch-either}
@@ -30,11 +30,6 @@ pub record Either (l : Ledger) (e f : Event) : Type 0 where
   pub next : comes (comes l e .next) f .next ≡ comes (comes l f .next) e .next
   pub first : comes (comes l f .next) e .says ≡ comes l e .says
   pub second : comes (comes l e .next) f .says ≡ comes l f .says
-
-pub comes-keeps : (l : Ledger) (e : Event) → isLedger l ≡ true → isLedger (comes l e .next) ≡ true
-comes-keeps l (message m) w = take-keeps l w m
-comes-keeps l malformed w = malformed-keeps l w
-comes-keeps l (arrival a) w = arrival-keeps l w a
 
 -- ---- where neither changes anything
 

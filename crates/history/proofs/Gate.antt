@@ -10,9 +10,20 @@ use Rattle.ledger.specs.Answers.{Came, same, gateOf, gated, breaks}
 use Rattle.ledger.specs.Ledgers.{isLedger, isOpen}
 use Rattle.ledger.specs.Steps.{takeOf, malformedOf, arrivalOf, messageStep, arrivalStep, smallArrival}
 use Rattle.ledger.specs.declared.Ledger.{Ledger}
-use Rattle.ledger.proofs.Replies.{Quiet, forbidden, closed, not-a-ledger}
+use Rattle.ledger.proofs.Replies.{Quiet}
 use Rattle.ledger.specs.declared.Rule.the-variants.{R1}
 use Rattle.history.specs.Events.{Event, message, malformed, arrival, comes}
+
+-- the numbers of the gate
+pub data Refusal : ℕ → Type 0 where
+  not-a-ledger : Refusal 14
+  forbidden : Refusal 5
+  closed : Refusal 10
+
+pub quieted : {n : ℕ} → Refusal n → Quiet n
+quieted not-a-ledger = Quiet.not-a-ledger
+quieted forbidden = Quiet.forbidden
+quieted closed = Quiet.closed
 
 -- ---- a call, by its event
 
@@ -39,7 +50,7 @@ pub record Passes (l : Ledger) (judged : Bool) : Type 0 where
   pub sound : judged ≡ true
   pub opened : isOpen (l .session) ≡ true
 
-module _ (l : Ledger) (sound : Bool) (P : Came → Type 0) (rest : Came) (step : Passes l sound → P rest) (stays : (n : ℕ) → Quiet n → P (same l n)) where
+module _ (l : Ledger) (sound : Bool) (P : Came → Type 0) (rest : Came) (step : Passes l sound → P rest) (stays : (n : ℕ) → Refusal n → P (same l n)) where
   pub gated-by : P (gated l sound rest)
   unfolding gated gateOf
   gated-by = go (isLedger l) refl sound refl (isOpen (l .session)) refl
@@ -52,7 +63,7 @@ module _ (l : Ledger) (sound : Bool) (P : Came → Type 0) (rest : Came) (step :
       go false a s b o c = stays 14 not-a-ledger
 
 module _ (l : Ledger) (e : Event) (P : Came → Type 0) where
-  pub comes-by : (Passes l (isSound e) → P (stepOf l e)) → ((n : ℕ) → Quiet n → P (same l n)) → P (comes l e)
+  pub comes-by : (Passes l (isSound e) → P (stepOf l e)) → ((n : ℕ) → Refusal n → P (same l n)) → P (comes l e)
   comes-by step stays = rw (comes-gated l e) (gated-by l (isSound e) P (stepOf l e) step stays)
 
 -- ---- one by one

@@ -33,9 +33,9 @@ use Rattle.ledger.proofs.Keeping.{Asked, asked, Raised, raises}
 use Rattle.history.specs.Events.{Event, message, malformed, arrival, comes}
 use Rattle.history.specs.Closings.{sentBy, isPeers}
 use Rattle.history.specs.Counts.{asksFor}
-use Rattle.history.proofs.Gate.{Passes, isSound, stepOf, comes-by}
+use Rattle.history.proofs.Gate.{Passes, quieted, isSound, stepOf, comes-by}
 
-abbrev newRow : Subscribe → Row
+abbrev pub newRow : Subscribe → Row
 newRow m = pendingRow (m .id) (m .alias) (askedOf (m .filter))
 
 pub data Moves (l : Ledger) : Event → Came → Type 0 where
@@ -96,7 +96,7 @@ module _ (l : Ledger) (w : isLedger l ≡ true) where
 
 -- every event of every ledger
 pub moves : (l : Ledger) (e : Event) → Moves l e (comes l e)
-moves l e = comes-by l e (Moves l e) (λ p. step-moves l (p .ledger) e (p .sound)) (λ _ q. stayed q)
+moves l e = comes-by l e (Moves l e) (λ p. step-moves l (p .ledger) e (p .sound)) (λ _ q. stayed (quieted q))
 
 -- an answer that changes nothing is none of 8, 13 and 16
 pub quiet : {n : ℕ} → Quiet n → (eqb n 8 ≡ false) × (eqb n 13 ≡ false) × (eqb n 16 ≡ false)

@@ -4,6 +4,7 @@ use Prim.Native.Nat.{ℕ, min}
 use mathlib.Core.Path.{_≡_}
 use mathlib.Core.Bool.{Bool, true, false}
 use mathlib.Core.List.{List, [], _∷_}
+use mathlib.Core.Logic.{_⊎_}
 use lib.Dec.{eqb}
 use lib.ListN.{length}
 use Rattle.integer.specs.Answer.{pick}
@@ -61,6 +62,11 @@ pub record Shows (r : Row) (ps : List Place) : Type 0 where
   pub count : r .count ≡ min top (length ps)
   pub greatest : r .greatest ≡ greatestOf ps
 
+-- of each of a list, and one of a list
 abbrev pub Each : {A : Type 0} → (A → Type 0) → List A → Type 0
 Each P [] = Unit {0}
 Each P (x ∷ xs) = P x × Each P xs
+
+abbrev pub Among : {A : Type 0} → A → List A → Type 0
+Among x [] = ⊥
+Among x (y ∷ ys) = (y ≡ x) ⊎ Among x ys

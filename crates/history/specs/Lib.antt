@@ -2,3 +2,4 @@ pub mod Events
 pub mod Orders
 pub mod Counts
 pub mod Closings
+pub mod Takings

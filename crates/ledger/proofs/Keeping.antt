@@ -4,11 +4,12 @@ use mathlib.Core.Path.{_≡_, refl, sym, ap, _∙_}
 use mathlib.Core.Bool.{Bool, true, false}
 use mathlib.Core.List.{List, [], _∷_, _++_}
 use native.Mathlib.Omega.{arith}
-use borrow.Author.Tests.{leb-true, leb-false, ltb-false}
+use borrow.Author.Tests.{leb-true, leb-false, ltb-false, le-leb}
 use lib.Dec.{eqb, leb, ltb}
 use Rattle.integer.proofs.Cases.{pick-by}
 use Rattle.integer.specs.Answer.{pick}
 use Rattle.integer.specs.Integer.{greatest}
+use Rattle.field.specs.Outcome.{both}
 use Rattle.field.specs.declared.Arrival.{Arrival}
 use Rattle.field.specs.declared.Place.{Place}
 use Rattle.layout.proofs.Back.{both-true}
@@ -21,15 +22,16 @@ use Rattle.message.specs.declared.Message.{Message}
 use Rattle.message.specs.declared.Message.the-variants.{Subscription, Fetch, Announce, Session}
 use Rattle.row.proofs.Staying.{pending-row}
 use Rattle.row.specs.Places.{small, smallPlace}
-use Rattle.row.specs.Ranges.{askedOf}
-use Rattle.row.specs.Rows.{isRow, pendingRow}
+use Rattle.row.specs.Ranges.{isKnown, askedOf}
+use Rattle.row.specs.Rows.{pendingRow, isUnused, isPending, isNowhere}
 use Rattle.row.specs.declared.Row.{Row}
 use Rattle.row.specs.declared.Ending.{Ending}
 use Rattle.row.specs.declared.Ending.the-variants.{SubscribeError as Erring, SubscribeDone as Ended, Unsubscribe as Leaving}
-use Rattle.ledger.specs.Ledgers.{held, hasAlias, bounded, isLedger, isOpen}
-use Rattle.ledger.specs.Answers.{Came, same, done, closedBy, breaks, isOwn, gateOf, gated}
-use Rattle.ledger.specs.Steps.{idOf, aliasOf, withMaximum, subscribeStep, maximumStep, arrivalStep, smallArrival, subscriptionStep, messageStep, takeOf, malformedOf, arrivalOf}
+use Rattle.ledger.specs.Ledgers.{held, rising, hasAlias, distinct, allUnused, bounded, isLedger, isOpen, emptyLedger}
+use Rattle.ledger.specs.Answers.{Said, Came, only, same, done, closedBy, breaks, isOwn, gateOf, gated}
+use Rattle.ledger.specs.Steps.{idOf, aliasOf, withMaximum, subscribeStep, maximumStep, arrivalStep, smallArrival, subscriptionStep, messageStep, startOf, takeOf, malformedOf, arrivalOf}
 use Rattle.ledger.specs.declared.Ledger.{Ledger}
+use Rattle.ledger.specs.declared.Part.{Part}
 use Rattle.ledger.specs.declared.Part.the-variants.{Subscriber, Publisher}
 use Rattle.ledger.specs.declared.Rule.{Rule}
 use Rattle.ledger.specs.declared.Rule.the-variants.{R1, R2, R3, R4, R7}
@@ -150,3 +152,19 @@ module _ (l : Ledger) (w : isLedger l ≡ true) where
   arrival-keeps a =
       gate-keeps (smallArrival a) (arrivalStep l a) (λ s.
       keeps-does (arrival-does l (parts l w) a (both-true (small (a .alias)) (smallPlace (a .place)) s .1)))
+
+-- ---- and a start that is accepted makes one
+
+empty-ledger : (part : Part) (capacity maximum : ℕ) → both (leb 1 capacity) (both (leb capacity 64) (small maximum)) ≡ true → isLedger (emptyLedger part capacity maximum) ≡ true
+unfolding isLedger bounded held rising distinct allUnused isUnused isPending isKnown isNowhere
+empty-ledger part capacity maximum e =
+    let (some, e₁) = both-true (leb 1 capacity) _ e in
+    let (few, low) = both-true (leb capacity 64) _ e₁ in
+    rw (some, few, le-leb 0 capacity (omega arith), low)
+
+pub start-ledger : (part : Part) (capacity maximum : ℕ) → startOf part capacity maximum .says ≡ only 8 → isLedger (startOf part capacity maximum .next) ≡ true
+unfolding startOf
+start-ledger part capacity maximum =
+    pick-by (λ (c : Came). c .says ≡ only 8 → isLedger (c .next) ≡ true) (both (leb 1 capacity) (both (leb capacity 64) (small maximum)))
+    (λ e _. empty-ledger part capacity maximum e)
+    (λ _ h. absurd (let z : _≡_ {A = ℕ} 15 8 = ap (λ (s : Said). s .number) h in omega arith))
