@@ -2,7 +2,6 @@
 use Prim.Native.Nat.{ℕ}
 use mathlib.Core.Path.{_≡_, refl, sym, ap, _∙_}
 use mathlib.Core.Bool.{Bool, true, false, not}
-use mathlib.Core.List.{List}
 use native.Mathlib.Omega.{arith}
 use Rattle.integer.proofs.Cases.{pick-by}
 use Rattle.integer.specs.Answer.{pick}
@@ -20,14 +19,14 @@ use Rattle.row.specs.declared.State.the-variants.{Pending, Active}
 use Rattle.row.specs.declared.Ending.{Ending}
 use Rattle.row.specs.declared.Ending.the-variants.{SubscribeError as Erring, SubscribeDone as Ended, Unsubscribe as Leaving}
 use Rattle.ledger.specs.Ledgers.{held, isLedger, isOpen}
-use Rattle.ledger.specs.Answers.{Said, Came, only, same, breaks, ruleNumber, isOwn}
+use Rattle.ledger.specs.Answers.{Said, Came, only, breaks, ruleNumber, isOwn}
 use Rattle.ledger.specs.Steps.{idOf, aliasOf, senderOf, endStep, smallArrival}
 use Rattle.ledger.specs.declared.Ledger.{Ledger}
 use Rattle.ledger.specs.declared.Part.{Part}
 use Rattle.ledger.specs.declared.Part.the-variants.{Publisher}
 use Rattle.ledger.specs.declared.Rule.{Rule}
 use Rattle.ledger.proofs.Facts.{parts}
-use Rattle.ledger.proofs.Turning.{Looked, one, look, Change, gone, now, turn, turn-found, turn-same, Known}
+use Rattle.ledger.proofs.Turning.{Looked, one, look, Change, now, turn, turn-found, turn-same, Known}
 use Rattle.ledger.proofs.Standing.{Becomes}
 use Rattle.ledger.proofs.Replies.{forbidden, not-kept, Reply, stays, broke, turns, arrivalReply, opening, okReply, endReply, Still, Does, stayed, broken, turned, arrival-does, ok-does, end-does}
 use Rattle.ledger.proofs.Sounded.{sound-ok}

@@ -1,23 +1,20 @@
 -- Histories that differ by exchanges of neighbours lead to one ledger, and each event keeps its answer. Assumes nothing.
-use Prim.Native.Nat.{ℕ}
 use mathlib.Core.Path.{_≡_, refl, sym, ap, subst, _∙_}
-use mathlib.Core.Bool.{true}
 use mathlib.Core.List.{List, [], _∷_, _++_, map}
 use Rattle.field.specs.declared.Arrival.{Arrival}
-use Rattle.ledger.specs.Ledgers.{isOpen}
 use Rattle.ledger.specs.Answers.{Said}
 use Rattle.ledger.specs.Steps.{arrivalOf}
 use Rattle.ledger.specs.declared.Ledger.{Ledger}
-use Rattle.history.specs.Events.{Event, message, arrival, comes, run, Told, told}
-use Rattle.history.specs.Orders.{Reordered, Exchanged}
-use Rattle.history.proofs.Exchanging.{Either, arrivals-either, messages-either}
+use Rattle.history.specs.Events.{Event, arrival, comes, run, Told, told}
+use Rattle.history.specs.Orders.{Reordered, EitherOrder, Exchanged}
+use Rattle.history.proofs.Exchanging.{arrivals-either, messages-either}
 
 -- ---- an exchange of two neighbours
 
 abbrev answered : Event → Said → Told
 answered e says = record { event = e; says = says }
 
-module _ {l : Ledger} {e f : Event} (x : Either l e f) (es : List Event) where
+module _ {l : Ledger} {e f : Event} (x : EitherOrder l e f) (es : List Event) where
   run-either : run l (e ∷ f ∷ es) ≡ run l (f ∷ e ∷ es)
   unfolding run
   run-either = ap (λ (k : Ledger). run k es) (x .next)
@@ -63,7 +60,7 @@ pub between : (l : Ledger) (es : List Event) {xs ys : List Arrival} (later : Lis
 between l es later r = behind l es (among (run l es) later r)
 
 -- each is answered as if it came first
-abbrev pub alone : Ledger → Arrival → Told
+abbrev alone : Ledger → Arrival → Told
 alone l a = answered (arrival a) (arrivalOf l a .says)
 
 alone-behind : (l : Ledger) (a : Arrival) (xs : List Arrival) → map (alone (arrivalOf l a .next)) xs ≡ map (alone l) xs

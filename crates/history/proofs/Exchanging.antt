@@ -1,8 +1,8 @@
 -- Two neighbouring events in either order: two arrivals, or two messages that name different subscriptions. Assumes nothing.
 use Prim.Native.Nat.{ℕ}
 use mathlib.Core.Path.{_≡_, refl, sym, ap, subst, _∙_}
-use mathlib.Core.Bool.{Bool, true, false, not}
-use mathlib.Core.List.{List, [], _∷_}
+use mathlib.Core.Bool.{Bool, true, false}
+use mathlib.Core.List.{List}
 use native.Mathlib.Omega.{arith}
 use borrow.Author.Tests.{eqb-true, eqb-false}
 use lib.Dec.{eqb}
@@ -13,27 +13,21 @@ use Rattle.ledger.specs.Ledgers.{held, isLedger, isOpen}
 use Rattle.ledger.specs.Answers.{Came}
 use Rattle.ledger.specs.Steps.{idOf, aliasOf}
 use Rattle.ledger.specs.declared.Ledger.{Ledger}
-use Rattle.ledger.proofs.Turning.{Looked, none, one, look, Change, now, turn, turn-found, Known, look-other, turn-other, seen, look-turned, turn-twice}
+use Rattle.ledger.proofs.Turning.{Looked, none, one, look, Change, now, turn, turn-found, look-other, turn-other, seen, look-turned, turn-twice}
 use Rattle.ledger.proofs.Standing.{Becomes}
 use Rattle.ledger.proofs.Known.{becomes-one, becomes-then}
 use Rattle.ledger.proofs.Replies.{Reply}
 use Rattle.history.specs.Events.{Event, message, arrival, comes}
-use Rattle.history.specs.Orders.{Names}
+use Rattle.history.specs.Orders.{Names, EitherOrder}
 use Rattle.history.proofs.Gate.{no-ledger}
 use Rattle.history.proofs.Keeping.{comes-keeps}
 use Rattle.history.proofs.Closing.{closed-next}
 use Rattle.history.proofs.Acting.{saysBy, shutsBy, doing, Acted, Acts, arrival-acts, arrival-goes, Named, named}
 use Rattle.history.proofs.Touching.{touch, touches, touch-alias, touch-reply, touch-either}
 
--- the same ledger, and each its own answer
-pub record Either (l : Ledger) (e f : Event) : Type 0 where
-  pub next : comes (comes l e .next) f .next ≡ comes (comes l f .next) e .next
-  pub first : comes (comes l f .next) e .says ≡ comes l e .says
-  pub second : comes (comes l e .next) f .says ≡ comes l f .says
-
 -- ---- where neither changes anything
 
-idle : (l : Ledger) (e f : Event) → comes l e .next ≡ l → comes l f .next ≡ l → Either l e f
+idle : (l : Ledger) (e f : Event) → comes l e .next ≡ l → comes l f .next ≡ l → EitherOrder l e f
 idle l e f a b =
     record {
       next = ap (λ (x : Ledger). comes x f .next) a ∙ b ∙ sym a ∙ ap (λ (x : Ledger). comes x e .next) (sym b);
@@ -95,7 +89,7 @@ module _ (l : Ledger) (w : isLedger l ≡ true) (o : isOpen (l .session) ≡ tru
         (second-acts .goes (second-shuts ∙ goes)))
 
   module _ {e f : Event} {key : Row → ℕ} {m n : ℕ} (x : Acts e key m) (y : Acts f key n) (unmoved : Unmoved x y) (unmoved′ : Unmoved y x) (turns-either : (next : ℕ) (rs : List Row) → turn key n (doing (y .reply next)) (turn key m (doing (x .reply next)) rs) ≡ turn key m (doing (x .reply next)) (turn key n (doing (y .reply next)) rs)) where
-    either-goes : Goes x → Goes y → Either l e f
+    either-goes : Goes x → Goes y → EitherOrder l e f
     either-goes go go′ =
         record {
           next =
@@ -168,10 +162,10 @@ unfolding Goes
 goes-on l w o a = arrival-goes a (l .part) (arrival-acts a .reply (l .next) (look aliasOf (a .alias) (held l)))
 
 -- Two arrivals may change places, in any ledger.
-pub arrivals-either : (l : Ledger) (a b : Arrival) → Either l (arrival a) (arrival b)
+pub arrivals-either : (l : Ledger) (a b : Arrival) → EitherOrder l (arrival a) (arrival b)
 unfolding Unmoved reply
 arrivals-either l a b =
-    by-standing l (Either l (arrival a) (arrival b))
+    by-standing l (EitherOrder l (arrival a) (arrival b))
     (λ w o.
     either-goes l w o (arrival-acts a) (arrival-acts b) (arrival-unmoved a b) (arrival-unmoved b a) (arrival-turns a b)
     (goes-on l w o a) (goes-on l w o b))
@@ -196,14 +190,17 @@ module _ (l : Ledger) (w : isLedger l ≡ true) (o : isOpen (l .session) ≡ tru
           absurd (let z : _≡_ {A = ℕ} 0 1 = cc in omega arith)
       judge false s = refl
 
-  open-either : Either l (message m) (message n)
-  open-either =
+  both-either : EitherOrder l (message m) (message n)
+  both-either =
       either-goes l w o (x .acting) (y .acting) (named-unmoved x y other) (named-unmoved y x (λ e. other (sym e)))
       (λ next. turn-other idOf j i (λ e. other (sym e)) (doing (x .acting .reply next)) (x .knows next) (doing (y .acting .reply next)) (y .knows next))
       first-goes (second-goes l w o (x .acting) (y .acting) (named-unmoved x y other) first-goes opened)
 
 -- Two messages that name different subscriptions, neither being SUBSCRIBE, may change places where the session is open after both.
-pub messages-either : (l : Ledger) {m n : Message} {i j : ℕ} → Names m i → Names n j → (i ≡ j → ⊥) → isOpen (comes (comes l (message m) .next) (message n) .next .session) ≡ true → Either l (message m) (message n)
+pub messages-either : (l : Ledger) {m n : Message} {i j : ℕ} → Names m i → Names n j → (i ≡ j → ⊥) → isOpen (comes (comes l (message m) .next) (message n) .next .session) ≡ true → EitherOrder l (message m) (message n)
 messages-either l {m} {n} x y other opened =
-    by-standing l (Either l (message m) (message n)) (λ w o. open-either l w o (named x) (named y) other opened)
+    by-standing l (EitherOrder l (message m) (message n)) (λ w o. both-either l w o (named x) (named y) other opened)
     (λ stays. idle l (message m) (message n) (stays (message m)) (stays (message n)))
+
+pub open-either : (l : Ledger) {m n : Message} {i j : ℕ} → Names m i → Names n j → (i ≡ j → ⊥) → isOpen (comes (comes l (message m) .next) (message n) .next .session) ≡ true → isOpen (comes (comes l (message n) .next) (message m) .next .session) ≡ true
+open-either l x y other opened = ap (λ (k : Ledger). isOpen (k .session)) (sym (messages-either l x y other opened .next)) ∙ opened

@@ -1,9 +1,9 @@
 -- The greatest of places: one of them, and none stands after it. Assumes nothing.
 use Prim.Native.Nat.{ℕ}
-use mathlib.Core.Path.{_≡_, refl, sym, ap, subst, _∙_}
+use mathlib.Core.Path.{_≡_, refl, sym, subst}
 use mathlib.Core.Bool.{Bool, true, false}
 use mathlib.Core.List.{List, [], _∷_}
-use mathlib.Core.Logic.{_⊎_, inl, inr}
+use mathlib.Core.Logic.{inl, inr}
 use native.Mathlib.Omega.{arith}
 use Rattle.integer.specs.Answer.{pick}
 use Rattle.field.specs.declared.Place.{Place}
@@ -26,9 +26,9 @@ none-nowhere [] e = refl
 none-nowhere (p ∷ ps) e = absurd (let z : _≡_ {A = ℕ} 0 1 = cc in omega arith)
 
 -- one of them, and none stands after it
-pub record Foremost (g : Place) (ps : List Place) : Type 0 where
-  pub among : Among g ps
-  pub last : Each (λ p. before g p ≡ false) ps
+record Foremost (g : Place) (ps : List Place) : Type 0 where
+  among : Among g ps
+  last : Each (λ p. before g p ≡ false) ps
 
 -- what is not behind a place is not behind one after it
 each-after : (g h : Place) (ps : List Place) → before h g ≡ false → Each (λ p. before g p ≡ false) ps → Each (λ p. before h p ≡ false) ps
@@ -47,9 +47,15 @@ foremost-more (At h) p ps e ih = go (before h p) refl
         record { among = inl refl; last = (before-self p, each-after h p ps (before-not h p q) (ih h refl .last)) }
     go false q = record { among = inr (ih h refl .among); last = (q, ih h refl .last) }
 
-pub foremost : (ps : List Place) (g : Place) → greatestOf ps ≡ At g → Foremost g ps
+foremost : (ps : List Place) (g : Place) → greatestOf ps ≡ At g → Foremost g ps
 unfolding greatestOf
 foremost [] g e = absurd (let z : _≡_ {A = ℕ} 0 1 = cc in omega arith)
 foremost (p ∷ ps) g e =
     let is : greater (greatestOf ps) p ≡ g = cc in
     subst (λ (h : Place). Foremost h (p ∷ ps)) is (foremost-more (greatestOf ps) p ps refl (foremost ps))
+
+pub among : (ps : List Place) (g : Place) → greatestOf ps ≡ At g → Among g ps
+among ps g e = foremost ps g e .among
+
+pub none-after : (ps : List Place) (g : Place) → greatestOf ps ≡ At g → Each (λ p. before g p ≡ false) ps
+none-after ps g e = foremost ps g e .last

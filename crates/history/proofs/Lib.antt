@@ -9,3 +9,4 @@ pub mod AnyOrder
 pub mod Meaning
 pub mod Foremost
 pub mod Promise
+pub mod Theorems

@@ -1,33 +1,33 @@
 -- What rows show of the places counted for them. Assumes nothing.
-use Prim.Native.Nat.{ℕ, suc, _+_, _≤_, _<_, min}
+use Prim.Native.Nat.{ℕ, suc, _≤_, _<_, min}
 use mathlib.Core.Path.{_≡_, refl, sym, ap, subst, _∙_}
-use mathlib.Core.Bool.{Bool, true, false, not}
+use mathlib.Core.Bool.{Bool, true, false}
 use mathlib.Core.List.{List, [], _∷_, _++_}
 use native.Mathlib.Omega.{arith}
 use borrow.Author.Tests.{eqb-true, ltb-true, ltb-false, eq-eqb, ne-eqb, eqb-false}
-use lib.Dec.{eqb, ltb}
-use lib.ListN.{length}
+use lib.Dec.{eqb, leb, ltb}
+use lib.ListN.{length, take}
 use Rattle.integer.proofs.Cases.{pick-by}
 use Rattle.integer.specs.Answer.{pick}
 use Rattle.field.specs.Outcome.{both}
 use Rattle.field.specs.declared.Arrival.{Arrival}
 use Rattle.field.specs.declared.Place.{Place}
 use Rattle.subscription.specs.declared.Subscribe.{Subscribe}
-use Rattle.subscription.specs.declared.SubscriptionMessage.the-variants.{Subscribe as ASubscribe, MaxSubscribeId as AMaxSubscribeId}
+use Rattle.subscription.specs.declared.SubscriptionMessage.the-variants.{Subscribe as ASubscribe}
 use Rattle.message.specs.declared.Message.{Message}
 use Rattle.message.specs.declared.Message.the-variants.{Subscription}
-use Rattle.row.specs.Rows.{top, greater, risen, countedRow}
+use Rattle.row.specs.Places.{small}
+use Rattle.row.specs.Rows.{top, risen, countedRow}
 use Rattle.row.specs.declared.Row.{Row}
-use Rattle.row.specs.declared.Greatest.the-variants.{Nowhere, At}
-use Rattle.ledger.specs.Ledgers.{held, hasAlias, distinct, isLedger}
+use Rattle.ledger.specs.Ledgers.{held, hasAlias, distinct}
 use Rattle.ledger.specs.Answers.{Came, breaks}
-use Rattle.ledger.specs.Steps.{idOf, aliasOf, withMaximum}
+use Rattle.ledger.specs.Steps.{idOf, aliasOf, startOf}
 use Rattle.ledger.specs.declared.Ledger.{Ledger}
+use Rattle.ledger.specs.declared.Part.{Part}
 use Rattle.ledger.specs.declared.Rule.{Rule}
 use Rattle.ledger.proofs.Facts.{parts}
 use Rattle.ledger.proofs.Turning.{one, look, Change, gone, now, put, turn}
-use Rattle.ledger.proofs.Standing.{Becomes}
-use Rattle.ledger.proofs.Ranks.{Fits, Fitting, apart-parts, has-not}
+use Rattle.ledger.proofs.Ranks.{Fits, apart-parts, has-not}
 use Rattle.ledger.proofs.Replies.{Quiet, Still, counting}
 use Rattle.history.specs.Events.{Event, message, malformed, arrival, comes, run, told}
 use Rattle.history.specs.Counts.{asksFor, noted, counted, greatestOf, Shows, Each}
@@ -173,8 +173,19 @@ module _ (ps : ℕ → List Place) (l : Ledger) (k : Each (Now ps) (held l)) whe
 
 -- ---- a history
 
-pub shown-after : (es : List Event) (l : Ledger) (ps : ℕ → List Place) → Each (λ r. Shows r (ps (r .alias))) (held l) → Each (λ r. Shows r (counted (r .alias) (ps (r .alias)) (told l es))) (held (run l es))
+shown-after : (es : List Event) (l : Ledger) (ps : ℕ → List Place) → Each (λ r. Shows r (ps (r .alias))) (held l) → Each (λ r. Shows r (counted (r .alias) (ps (r .alias)) (told l es))) (held (run l es))
 unfolding run told counted
 shown-after [] l ps k = k
 shown-after (e ∷ es) l ps k =
     shown-after es (comes l e .next) (λ alias. noted alias (ps alias) e (comes l e .says .number)) (shown ps l k (moves l e))
+
+none-yet : (part : Part) (capacity maximum : ℕ) → Each (λ r. Shows r []) (held (startOf part capacity maximum .next))
+unfolding startOf held
+none-yet part capacity maximum =
+    pick-by (λ (c : Came). Each (λ r. Shows r []) (take (c .next .used) (c .next .rows)))
+    (both (leb 1 capacity) (both (leb capacity 64) (small maximum))) (λ _. tt) (λ _. tt)
+
+-- from any start
+pub shown-from-start : (part : Part) (capacity maximum : ℕ) (es : List Event) → let l = startOf part capacity maximum .next in Each (λ r. Shows r (counted (r .alias) [] (told l es))) (held (run l es))
+shown-from-start part capacity maximum es =
+    shown-after es (startOf part capacity maximum .next) (λ _. []) (none-yet part capacity maximum)

@@ -1,11 +1,10 @@
 -- What an event comes to, one case for each way that a ledger goes on. Assumes nothing.
-use Prim.Native.Nat.{ℕ, _+_, _≤_, _<_}
+use Prim.Native.Nat.{ℕ, _+_, _<_}
 use mathlib.Core.Path.{_≡_, refl, subst}
 use mathlib.Core.Bool.{Bool, true, false, not}
-use mathlib.Core.List.{List, [], _∷_, _++_}
+use mathlib.Core.List.{[], _∷_, _++_}
 use lib.Dec.{eqb}
 use Rattle.field.specs.declared.Arrival.{Arrival}
-use Rattle.field.specs.declared.Place.{Place}
 use Rattle.layout.proofs.Back.{both-true}
 use Rattle.subscription.specs.declared.Subscribe.{Subscribe}
 use Rattle.subscription.specs.declared.SubscriptionMessage.{SubscriptionMessage}
@@ -17,13 +16,13 @@ use Rattle.row.specs.Ranges.{askedOf}
 use Rattle.row.specs.Rows.{pendingRow}
 use Rattle.row.specs.declared.Row.{Row}
 use Rattle.row.specs.declared.Ending.the-variants.{SubscribeError as Erring, SubscribeDone as Ended, Unsubscribe as Leaving}
-use Rattle.ledger.specs.Ledgers.{held, hasAlias, isLedger, isOpen}
-use Rattle.ledger.specs.Answers.{Came, only, same, done, breaks, isOwn}
-use Rattle.ledger.specs.Steps.{idOf, aliasOf, withMaximum, smallArrival, arrivalStep, subscriptionStep, messageStep}
+use Rattle.ledger.specs.Ledgers.{held, hasAlias, isLedger}
+use Rattle.ledger.specs.Answers.{Came, only, same, done, breaks}
+use Rattle.ledger.specs.Steps.{idOf, aliasOf, withMaximum, smallArrival, subscriptionStep}
 use Rattle.ledger.specs.declared.Ledger.{Ledger}
 use Rattle.ledger.specs.declared.Rule.{Rule}
 use Rattle.ledger.specs.declared.Rule.the-variants.{R1, R7}
-use Rattle.ledger.proofs.Facts.{IsLedger, parts}
+use Rattle.ledger.proofs.Facts.{parts}
 use Rattle.ledger.proofs.Turning.{Change, turn, turn-found}
 use Rattle.ledger.proofs.Standing.{Becomes}
 use Rattle.ledger.proofs.Ranks.{Fits, Fitting}
@@ -31,9 +30,9 @@ use Rattle.ledger.proofs.Replies.{Quiet, forbidden, not-kept, closed, full, sta
 use Rattle.ledger.proofs.Sounded.{sound-subscribe, sound-ok}
 use Rattle.ledger.proofs.Keeping.{Asked, asked, Raised, raises}
 use Rattle.history.specs.Events.{Event, message, malformed, arrival, comes}
-use Rattle.history.specs.Closings.{sentBy, isPeers}
+use Rattle.history.specs.Closings.{isPeers}
 use Rattle.history.specs.Counts.{asksFor}
-use Rattle.history.proofs.Gate.{Passes, quieted, isSound, stepOf, comes-by}
+use Rattle.history.proofs.Gate.{quieted, isSound, stepOf, comes-by}
 
 abbrev pub newRow : Subscribe → Row
 newRow m = pendingRow (m .id) (m .alias) (askedOf (m .filter))

@@ -1,22 +1,20 @@
 -- What holds a SUBSCRIBE back that found all rows in use is only that: no other event can bring a rule against it. Assumes nothing.
-use Prim.Native.Nat.{ℕ, _+_, _≤_, _<_}
-use mathlib.Core.Path.{_≡_, refl, sym, ap, subst, _∙_}
+use Prim.Native.Nat.{ℕ, _≤_, _<_}
+use mathlib.Core.Path.{_≡_, ap, _∙_}
 use mathlib.Core.Bool.{Bool, true, false}
 use mathlib.Core.List.{List, [], _∷_}
 use native.Mathlib.Omega.{arith}
 use borrow.Author.Tests.{ltb-false, leb-false, le-ltb, lt-leb}
 use lib.Dec.{eqb, leb, ltb}
 use Rattle.integer.proofs.Cases.{pick-by}
-use Rattle.integer.specs.Answer.{pick}
 use Rattle.field.specs.Outcome.{both}
 use Rattle.subscription.specs.declared.Subscribe.{Subscribe}
 use Rattle.subscription.specs.declared.SubscriptionMessage.the-variants.{Subscribe as ASubscribe}
-use Rattle.message.specs.Sound.{soundOf}
 use Rattle.message.specs.declared.Message.the-variants.{Subscription}
 use Rattle.row.specs.declared.Row.{Row}
 use Rattle.ledger.specs.Ledgers.{held, hasAlias, isLedger, isOpen}
-use Rattle.ledger.specs.Answers.{Said, Came, only, same, breaks, isOwn}
-use Rattle.ledger.specs.Steps.{idOf, aliasOf, withMaximum, subscribeStep}
+use Rattle.ledger.specs.Answers.{Said, Came, only, breaks}
+use Rattle.ledger.specs.Steps.{idOf, aliasOf, withMaximum, subscribeStep, takeOf}
 use Rattle.ledger.specs.declared.Ledger.{Ledger}
 use Rattle.ledger.specs.declared.Rule.{Rule}
 use Rattle.ledger.proofs.Turning.{Change, turn}
@@ -25,16 +23,16 @@ use Rattle.ledger.proofs.Ranks.{Fitting, has-turn}
 use Rattle.ledger.proofs.Replies.{counting}
 use Rattle.history.specs.Events.{Event, message, comes, run, told}
 use Rattle.history.specs.Takings.{isSubscribe, NoneTaken}
-use Rattle.history.proofs.Gate.{Passes, Refusal, not-a-ledger, forbidden, closed, isSound, comes-by, passed}
+use Rattle.history.proofs.Gate.{Refusal, not-a-ledger, forbidden, closed, isSound, comes-by, passed}
 use Rattle.history.proofs.Moves.{Moves, stayed, broken, counted, turned, taken, raised, moves}
 use Rattle.history.proofs.Keeping.{comes-keeps}
 
 -- nothing but the rows in use stands against a SUBSCRIBE
-pub record Waits (m : Subscribe) (l : Ledger) : Type 0 where
-  pub ledger : isLedger l ≡ true
-  pub new : l .next ≤ m .id
-  pub below : m .id < l .maximum
-  pub fresh : hasAlias (m .alias) (held l) ≡ false
+record Waits (m : Subscribe) (l : Ledger) : Type 0 where
+  ledger : isLedger l ≡ true
+  new : l .next ≤ m .id
+  below : m .id < l .maximum
+  fresh : hasAlias (m .alias) (held l) ≡ false
 
 module _ (l : Ledger) (m : Subscribe) where
   abbrev asking : Event
@@ -59,7 +57,7 @@ module _ (l : Ledger) (m : Subscribe) where
       broke : {rule : ℕ} → record { number = 13; rule = rule } ≡ only 11 → Waits m l
       broke {rule} = unlike 13 rule (λ z. omega arith)
 
-  pub eleven-waits : comes l asking .says ≡ only 11 → Waits m l × (isSound asking ≡ true)
+  eleven-waits : comes l asking .says ≡ only 11 → Waits m l × (isSound asking ≡ true)
   eleven-waits =
       comes-by l asking (λ c. c .says ≡ only 11 → Waits m l × (isSound asking ≡ true)) (λ p h. (full-waits (p .ledger) h, p .sound)) refuses
     where
@@ -70,7 +68,7 @@ module _ (l : Ledger) (m : Subscribe) where
 
   -- ---- to an 8
 
-  pub waits-taken : Waits m l → isSound asking ≡ true → isOpen (l .session) ≡ true → l .used < l .capacity → comes l asking .says ≡ only 8
+  waits-taken : Waits m l → isSound asking ≡ true → isOpen (l .session) ≡ true → l .used < l .capacity → comes l asking .says ≡ only 8
   unfolding subscribeStep
   waits-taken w s o free =
       ap (λ (c : Came). c .says) (passed l asking (w .ledger) s o)
@@ -104,8 +102,13 @@ module _ (l : Ledger) (m : Subscribe) where
   waits-on (taken fresh b) k none w = absurd (let z : _≡_ {A = ℕ} 0 1 = cc in omega arith)
   waits-on (raised {id} more) k none w = raised-waits id more k w
 
-pub waits-after : (m : Subscribe) (l : Ledger) (es : List Event) → NoneTaken (told l es) → Waits m l → Waits m (run l es)
+waits-after : (m : Subscribe) (l : Ledger) (es : List Event) → NoneTaken (told l es) → Waits m l → Waits m (run l es)
 unfolding run told
 waits-after m l [] none w = w
 waits-after m l (e ∷ es) none w =
     waits-after m (comes l e .next) es (none .1) (waits-on l m (moves l e) (comes-keeps l e (w .ledger)) (none .0) w)
+
+pub promised : (l : Ledger) (m : Subscribe) (es : List Event) → takeOf l (Subscription (ASubscribe m)) .says ≡ only 11 → NoneTaken (told l es) → isOpen (run l es .session) ≡ true → run l es .used < run l es .capacity → takeOf (run l es) (Subscription (ASubscribe m)) .says ≡ only 8
+promised l m es eleven none o free =
+    let (waits, sound) = eleven-waits l m eleven in
+    waits-taken (run l es) m (waits-after m l es none waits) sound o free

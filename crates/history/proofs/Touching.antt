@@ -1,5 +1,5 @@
 -- What an arrival makes of a row does not depend on the arrivals before it. Assumes nothing.
-use Prim.Native.Nat.{ℕ, _+_}
+use Prim.Native.Nat.{ℕ}
 use mathlib.Core.Path.{_≡_, refl, sym, ap, _∙_}
 use mathlib.Core.Bool.{Bool, true, false}
 use Rattle.integer.proofs.Cases.{pick-by}
@@ -9,7 +9,7 @@ use Rattle.field.specs.declared.Arrival.{Arrival}
 use Rattle.field.specs.declared.Place.{Place}
 use Rattle.row.proofs.Ordering.{greater-either}
 use Rattle.row.specs.Ranges.{inRange}
-use Rattle.row.specs.Rows.{greater, risen, countedRow}
+use Rattle.row.specs.Rows.{risen, countedRow}
 use Rattle.row.specs.declared.Row.{Row}
 use Rattle.row.specs.declared.State.{State}
 use Rattle.row.specs.declared.State.the-variants.{Pending, Active}

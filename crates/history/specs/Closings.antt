@@ -5,8 +5,6 @@ use mathlib.Core.List.{List, [], _∷_}
 use lib.Dec.{eqb}
 use Rattle.integer.specs.Answer.{pick}
 use Rattle.field.specs.Outcome.{both}
-use Rattle.field.specs.declared.Arrival.{Arrival}
-use Rattle.message.specs.declared.Message.{Message}
 use Rattle.message.specs.declared.Message.the-variants.{Subscription, Fetch, Announce, Session}
 use Rattle.subscription.specs.declared.SubscriptionMessage.{SubscriptionMessage}
 use Rattle.subscription.specs.declared.SubscriptionMessage.the-variants.{SubscribeUpdate, Subscribe, SubscribeOk, SubscribeError, Unsubscribe, SubscribeDone, MaxSubscribeId, SubscribesBlocked}
@@ -37,11 +35,19 @@ isPeers part (message (Session m)) = true
 isPeers part malformed = true
 isPeers part (arrival a) = false
 
--- the rule that the first of the peer's events broke, 0 where none broke one
+-- an event of the peer's that broke a rule
+abbrev pub closing : Part → Told → Bool
+closing part t = both (eqb (t .says .number) 13) (isPeers part (t .event))
+
+-- whether there was one,
+unfoldable pub anyBroken : Part → List Told → Bool
+anyBroken part [] = false
+anyBroken part (t ∷ ts) = pick (closing part t) true (anyBroken part ts)
+
+-- and the rule that the first of them broke, 0 where there was none
 unfoldable pub firstBroken : Part → List Told → ℕ
 firstBroken part [] = 0
-firstBroken part (t ∷ ts) =
-    pick (both (eqb (t .says .number) 13) (isPeers part (t .event))) (t .says .rule) (firstBroken part ts)
+firstBroken part (t ∷ ts) = pick (closing part t) (t .says .rule) (firstBroken part ts)
 
 -- the rule that a session is closed by, 0 where it is open
 abbrev pub kept : Standing → ℕ

@@ -2,14 +2,13 @@
 -- since its SUBSCRIBE was accepted, up to that top, and its place the greatest of those".
 use Prim.Native.Nat.{ℕ, min}
 use mathlib.Core.Path.{_≡_}
-use mathlib.Core.Bool.{Bool, true, false}
+use mathlib.Core.Bool.{Bool, false}
 use mathlib.Core.List.{List, [], _∷_}
 use mathlib.Core.Logic.{_⊎_}
 use lib.Dec.{eqb}
 use lib.ListN.{length}
 use Rattle.integer.specs.Answer.{pick}
 use Rattle.field.specs.Outcome.{both}
-use Rattle.field.specs.declared.Arrival.{Arrival}
 use Rattle.field.specs.declared.Place.{Place}
 use Rattle.message.specs.declared.Message.{Message}
 use Rattle.message.specs.declared.Message.the-variants.{Subscription, Fetch, Announce, Session}

@@ -1,7 +1,7 @@
 -- Histories that differ only in their order.
 use Prim.Native.Nat.{ℕ}
 use mathlib.Core.Path.{_≡_}
-use mathlib.Core.Bool.{Bool, true}
+use mathlib.Core.Bool.{true}
 use mathlib.Core.List.{List, [], _∷_}
 use Rattle.field.specs.declared.Arrival.{Arrival}
 use Rattle.message.specs.declared.Message.{Message}
@@ -29,6 +29,12 @@ pub data Names : Message → ℕ → Type 0 where
   finished : {m : SubscribeDone} → Names (Subscription (ASubscribeDone m)) (m .id)
   left : {id : ℕ} → Names (Subscription (AUnsubscribe id)) id
   updated : {m : SubscribeUpdate} → Names (Subscription (ASubscribeUpdate m)) (m .id)
+
+-- two events in either order: the same ledger, and each its own answer
+pub record EitherOrder (l : Ledger) (e f : Event) : Type 0 where
+  pub next : comes (comes l e .next) f .next ≡ comes (comes l f .next) e .next
+  pub first : comes (comes l f .next) e .says ≡ comes l e .says
+  pub second : comes (comes l e .next) f .says ≡ comes l f .says
 
 -- histories that differ by exchanges of neighbours: two arrivals; or two messages that name different subscriptions, neither
 -- being SUBSCRIBE, the session open after both

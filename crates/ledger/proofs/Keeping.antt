@@ -1,8 +1,8 @@
 -- Every step of a ledger leaves a ledger. Assumes nothing.
 use Prim.Native.Nat.{ℕ, _+_, _≤_, _<_}
-use mathlib.Core.Path.{_≡_, refl, sym, ap, _∙_}
+use mathlib.Core.Path.{_≡_, refl, ap}
 use mathlib.Core.Bool.{Bool, true, false}
-use mathlib.Core.List.{List, [], _∷_, _++_}
+use mathlib.Core.List.{[], _∷_, _++_}
 use native.Mathlib.Omega.{arith}
 use borrow.Author.Tests.{leb-true, leb-false, ltb-false, le-leb}
 use lib.Dec.{eqb, leb, ltb}
@@ -11,10 +11,8 @@ use Rattle.integer.specs.Answer.{pick}
 use Rattle.integer.specs.Integer.{greatest}
 use Rattle.field.specs.Outcome.{both}
 use Rattle.field.specs.declared.Arrival.{Arrival}
-use Rattle.field.specs.declared.Place.{Place}
 use Rattle.layout.proofs.Back.{both-true}
 use Rattle.subscription.specs.declared.Subscribe.{Subscribe}
-use Rattle.subscription.specs.declared.SubscribeOk.{SubscribeOk}
 use Rattle.subscription.specs.declared.SubscriptionMessage.{SubscriptionMessage}
 use Rattle.subscription.specs.declared.SubscriptionMessage.the-variants.{SubscribeUpdate as ASubscribeUpdate, Subscribe as ASubscribe, SubscribeOk as ASubscribeOk, SubscribeError as ASubscribeError, Unsubscribe as AUnsubscribe, SubscribeDone as ASubscribeDone, MaxSubscribeId as AMaxSubscribeId, SubscribesBlocked as ASubscribesBlocked}
 use Rattle.message.specs.Sound.{soundOf}
@@ -25,11 +23,10 @@ use Rattle.row.specs.Places.{small, smallPlace}
 use Rattle.row.specs.Ranges.{isKnown, askedOf}
 use Rattle.row.specs.Rows.{pendingRow, isUnused, isPending, isNowhere}
 use Rattle.row.specs.declared.Row.{Row}
-use Rattle.row.specs.declared.Ending.{Ending}
 use Rattle.row.specs.declared.Ending.the-variants.{SubscribeError as Erring, SubscribeDone as Ended, Unsubscribe as Leaving}
 use Rattle.ledger.specs.Ledgers.{held, rising, hasAlias, distinct, allUnused, bounded, isLedger, isOpen, emptyLedger}
 use Rattle.ledger.specs.Answers.{Said, Came, only, same, done, closedBy, breaks, isOwn, gateOf, gated}
-use Rattle.ledger.specs.Steps.{idOf, aliasOf, withMaximum, subscribeStep, maximumStep, arrivalStep, smallArrival, subscriptionStep, messageStep, startOf, takeOf, malformedOf, arrivalOf}
+use Rattle.ledger.specs.Steps.{withMaximum, subscribeStep, maximumStep, arrivalStep, smallArrival, subscriptionStep, messageStep, startOf, takeOf, malformedOf, arrivalOf}
 use Rattle.ledger.specs.declared.Ledger.{Ledger}
 use Rattle.ledger.specs.declared.Part.{Part}
 use Rattle.ledger.specs.declared.Part.the-variants.{Subscriber, Publisher}

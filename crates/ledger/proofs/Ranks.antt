@@ -1,18 +1,17 @@
 -- Rows that rise by ID and have distinct aliases still do when one of them is turned, or another is added last. Assumes nothing.
 use Prim.Native.Nat.{ℕ, _+_, _≤_, _<_}
-use mathlib.Core.Path.{_≡_, refl, sym, ap, _∙_}
+use mathlib.Core.Path.{_≡_, refl, sym}
 use mathlib.Core.Bool.{Bool, true, false, not}
 use mathlib.Core.List.{List, [], _∷_, _++_}
 use native.Mathlib.Omega.{arith}
 use borrow.Author.Tests.{leb-true, ltb-true, eqb-false, not-true, le-leb, lt-ltb, ne-eqb}
 use lib.Dec.{eqb, leb, ltb}
 use Rattle.integer.specs.Answer.{pick}
-use Rattle.field.specs.Outcome.{both}
 use Rattle.layout.proofs.Back.{both-true}
 use Rattle.row.specs.Rows.{isRow}
 use Rattle.row.specs.declared.Row.{Row}
 use Rattle.ledger.specs.Ledgers.{rising, hasAlias, distinct}
-use Rattle.ledger.proofs.Turning.{Looked, none, one, look, Change, gone, now, put, turn}
+use Rattle.ledger.proofs.Turning.{one, look, Change, gone, now, put, turn}
 
 -- ---- rising, by its parts
 
@@ -30,10 +29,6 @@ module _ (low next : ℕ) (r : Row) (rs : List Row) where
       let (below, e₂) = both-true (ltb (r .id) next) _ e₁ in
       let (row, more) = both-true (isRow r) _ e₂ in
       record { above = above; below = below; row = row; more = more }
-
-  pub rises-whole : Rises low next r rs → rising low next (r ∷ rs) ≡ true
-  unfolding rising
-  rises-whole p = rw (p .above, p .below, p .row, p .more)
 
 -- no alias is held twice, by its parts
 pub apart-parts : (r : Row) (rs : List Row) → distinct (r ∷ rs) ≡ true → (hasAlias (r .alias) rs ≡ false) × (distinct rs ≡ true)

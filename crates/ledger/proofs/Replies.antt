@@ -3,7 +3,6 @@
 use Prim.Native.Nat.{ℕ}
 use mathlib.Core.Path.{_≡_, refl, sym, ap, _∙_}
 use mathlib.Core.Bool.{Bool, true, false}
-use mathlib.Core.List.{List}
 use lib.Dec.{leb}
 use Rattle.integer.specs.Answer.{pick}
 use Rattle.field.specs.declared.Arrival.{Arrival}
@@ -21,7 +20,7 @@ use Rattle.row.specs.declared.Arriving.the-variants.{Outside, Counted}
 use Rattle.row.specs.declared.Ending.{Ending}
 use Rattle.ledger.specs.Ledgers.{held}
 use Rattle.ledger.specs.Answers.{Came, only, same, done, isOwn, breaks}
-use Rattle.ledger.specs.Steps.{find, idOf, aliasOf, changed, freed, noRow, openedAt, okAt, okStep, senderOf, endAt, endStep, arrivedAt, arriveAt, arrivalStep}
+use Rattle.ledger.specs.Steps.{find, idOf, aliasOf, freed, noRow, openedAt, okAt, okStep, senderOf, endAt, endStep, arrivedAt, arriveAt, arrivalStep}
 use Rattle.ledger.specs.declared.Ledger.{Ledger}
 use Rattle.ledger.specs.declared.Part.{Part}
 use Rattle.ledger.specs.declared.Part.the-variants.{Publisher}
@@ -32,7 +31,7 @@ use Rattle.ledger.specs.declared.Found.the-variants.{At, Missing}
 use Rattle.ledger.proofs.Facts.{IsLedger}
 use Rattle.ledger.proofs.Turning.{Looked, none, one, look, Change, gone, now, turn, turn-found}
 use Rattle.ledger.proofs.Standing.{Stands, stands, stands-nowhere, stands-look, stands-row, Becomes, changes, frees}
-use Rattle.ledger.proofs.Ranks.{Alike, Fits, Fitting, look-row}
+use Rattle.ledger.proofs.Ranks.{Fits, Fitting, look-row}
 
 -- ---- replies
 

@@ -1,14 +1,14 @@
 -- What it means for the ledger that a message's numbers are all integers. Assumes nothing.
 use Prim.Native.Nat.{ℕ}
 use mathlib.Core.Path.{_≡_, refl}
-use mathlib.Core.Bool.{Bool, true}
-use mathlib.Core.List.{List, [], _∷_, _++_}
+use mathlib.Core.Bool.{true}
+use mathlib.Core.List.{List, _++_}
 use lib.Dec.{leb}
 use Rattle.integer.specs.Integer.{greatest}
 use Rattle.field.specs.declared.Piece.{Piece}
 use Rattle.layout.proofs.Back.{both-true}
 use Rattle.shortest.specs.Small.{smallPiece, smallAll}
-use Rattle.subscription.specs.Told.{filterPieces, contentPieces, subscribePieces, okPieces}
+use Rattle.subscription.specs.Told.{filterPieces, contentPieces}
 use Rattle.subscription.specs.declared.Content.{Content}
 use Rattle.subscription.specs.declared.Content.the-variants.{Nothing, Largest}
 use Rattle.subscription.specs.declared.Filter.{Filter}

@@ -18,10 +18,9 @@ use Rattle.row.specs.declared.Row.{Row}
 use Rattle.ledger.specs.Ledgers.{held, rising, distinct, allUnused, isLedger}
 use Rattle.ledger.specs.Steps.{find, rowAt, withRows, changed, added, freed}
 use Rattle.ledger.specs.declared.Ledger.{Ledger}
-use Rattle.ledger.specs.declared.Found.{Found}
 use Rattle.ledger.specs.declared.Found.the-variants.{At, Missing}
 use Rattle.ledger.proofs.Facts.{IsLedger, whole}
-use Rattle.ledger.proofs.Turning.{Looked, none, one, look, Change, gone, now, put, turn, look-behind, turn-behind, look-here, turn-here}
+use Rattle.ledger.proofs.Turning.{none, one, look, Change, gone, now, put, turn, look-behind, turn-behind, look-here, turn-here}
 
 -- ---- where a row that is found stands
 

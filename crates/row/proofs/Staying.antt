@@ -1,31 +1,24 @@
 -- A row stays a row where an arrival is counted or a SUBSCRIBE_OK opens it, and a pending one is a row. Assumes nothing.
 use Prim.Native.Nat.{ℕ, _+_, _≤_, _<_}
-use mathlib.Core.Path.{_≡_, refl, sym, ap, _∙_}
-use mathlib.Core.Bool.{Bool, true, false, not}
+use mathlib.Core.Path.{_≡_, refl}
+use mathlib.Core.Bool.{true, false, not}
 use native.Mathlib.Omega.{arith}
-use borrow.Author.Tests.{leb-true, ltb-true, ltb-false, le-leb, ne-eqb}
+use borrow.Author.Tests.{ltb-true, ltb-false, le-leb, ne-eqb}
 use lib.Dec.{eqb, leb, ltb}
 use Rattle.integer.proofs.Cases.{pick-by}
-use Rattle.integer.specs.Answer.{pick}
-use Rattle.field.specs.Outcome.{both}
 use Rattle.field.specs.declared.Place.{Place}
 use Rattle.layout.proofs.Back.{both-true}
 use Rattle.subscription.specs.declared.Content.{Content}
 use Rattle.subscription.specs.declared.Content.the-variants.{Nothing, Largest}
 use Rattle.row.specs.Places.{before, small, smallPlace}
-use Rattle.row.specs.Ranges.{inRange, isKnown, smallRange, latest, moved, settledOf}
-use Rattle.row.specs.Rows.{top, agree, suits, isRow, pendingRow, greater, risen, countedRow, arriveIn, arriveOf, activeRow, openIn, openOf}
-use Rattle.row.specs.declared.State.{State}
-use Rattle.row.specs.declared.State.the-variants.{Pending, Active}
+use Rattle.row.specs.Ranges.{isKnown, smallRange, latest, moved, settledOf}
+use Rattle.row.specs.Rows.{top, agree, suits, isRow, pendingRow, greater, risen, countedRow, activeRow}
+use Rattle.row.specs.declared.State.the-variants.{Active}
 use Rattle.row.specs.declared.Range.{Range}
 use Rattle.row.specs.declared.Range.the-variants.{Unknown, Open, Closed}
 use Rattle.row.specs.declared.Greatest.{Greatest}
 use Rattle.row.specs.declared.Greatest.the-variants.{Nowhere, At}
 use Rattle.row.specs.declared.Row.{Row}
-use Rattle.row.specs.declared.Arriving.{Arriving}
-use Rattle.row.specs.declared.Arriving.the-variants.{Waiting, Outside, Counted}
-use Rattle.row.specs.declared.Opening.{Opening}
-use Rattle.row.specs.declared.Opening.the-variants.{Refused, Opened}
 
 -- ---- a row, by its parts
 
@@ -52,19 +45,6 @@ unfolding isRow
 whole r p = rw (p .id, p .alias, p .count, p .range, p .agrees, p .suits)
 
 -- ---- an arrival
-
-counted-in : (s : State) (r : Row) (p : Place) {next : Row} → arriveIn s r p ≡ Counted next → (s ≡ Active) × (next ≡ countedRow r p)
-counted-in Pending r p e = absurd (let z : _≡_ {A = ℕ} 0 1 = cc in omega arith)
-counted-in Active r p {next} e = go (inRange (r .range) p) e
-  where
-    go : (b : Bool) → pick b (Counted (countedRow r p)) Outside ≡ Counted next → (Active ≡ Active) × (next ≡ countedRow r p)
-    go true h = (refl, cc)
-    go false h = absurd (let z : _≡_ {A = ℕ} 0 1 = cc in omega arith)
-
--- what is counted is counted so, in an active row
-pub counted-is : (r : Row) (p : Place) {next : Row} → arriveOf r p ≡ Counted next → (r .state ≡ Active) × (next ≡ countedRow r p)
-unfolding arriveOf
-counted-is r p e = counted-in (r .state) r p e
 
 risen-some : (n : ℕ) → eqb (risen n) 0 ≡ false
 unfolding risen
@@ -98,14 +78,6 @@ counted-row r p e active s =
     })
 
 -- ---- SUBSCRIBE_OK
-
-opened-in : (s : State) (r : Row) (content : Content) {next : Row} → openIn s r content ≡ Opened next → next ≡ activeRow r (settledOf (r .range) content)
-opened-in Pending r content e = cc
-opened-in Active r content e = absurd (let z : _≡_ {A = ℕ} 0 1 = cc in omega arith)
-
-pub opened-is : (r : Row) (content : Content) {next : Row} → openOf r content ≡ Opened next → next ≡ activeRow r (settledOf (r .range) content)
-unfolding openOf
-opened-is r content e = opened-in (r .state) r content e
 
 moved-small : (start : Place) (content : Content) → smallPlace start ≡ true → smallPlace (latest content) ≡ true → smallPlace (moved start content) ≡ true
 moved-small start Nothing s c = s
