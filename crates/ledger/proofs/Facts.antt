@@ -13,14 +13,17 @@ use Rattle.ledger.specs.Ledgers.{held, rising, distinct, allUnused, boun
 use Rattle.ledger.specs.declared.Ledger.{Ledger}
 
 -- the numbers beside the rows
-pub record Bounds (l : Ledger) : Type 0 where
-  pub some : 1 ≤ l .capacity
-  pub few : l .capacity ≤ 64
-  pub room : l .used ≤ l .capacity
-  pub least : small (l .maximum) ≡ true
-  pub most : l .next ≤ greatest + 1
+pub record Bounds (capacity used maximum next : ℕ) : Type 0 where
+  pub some : 1 ≤ capacity
+  pub few : capacity ≤ 64
+  pub room : used ≤ capacity
+  pub least : small maximum ≡ true
+  pub most : next ≤ greatest + 1
 
-pub bounds : (l : Ledger) → bounded l ≡ true → Bounds l
+abbrev pub Within : Ledger → Type 0
+Within l = Bounds (l .capacity) (l .used) (l .maximum) (l .next)
+
+pub bounds : (l : Ledger) → bounded l ≡ true → Within l
 unfolding bounded
 bounds l e =
     let t₁ = leb 1 (l .capacity) in
@@ -38,7 +41,7 @@ bounds l e =
       most = leb-true (l .next) (greatest + 1) (both-second t₄ _ e₃);
     }
 
-pub bounded-by : (l : Ledger) → Bounds l → bounded l ≡ true
+pub bounded-by : (l : Ledger) → Within l → bounded l ≡ true
 unfolding bounded
 bounded-by l b =
     rw
@@ -47,7 +50,7 @@ bounded-by l b =
 -- a ledger, by its parts
 pub record IsLedger (l : Ledger) : Type 0 where
   pub long : length (l .rows) ≡ 64
-  pub within : Bounds l
+  pub within : Within l
   pub rises : rising 0 (l .next) (held l) ≡ true
   pub apart : distinct (held l) ≡ true
   pub rest : allUnused (drop (l .used) (l .rows)) ≡ true

@@ -103,8 +103,11 @@ breaks l own rule =
 -- ---- "Order: 14, 5, 10, then the rest"
 
 -- 0 where the rest is next
+unfoldable pub stops : Bool → Bool → Bool → ℕ
+stops isLedger sound opened = pick isLedger (pick sound (pick opened 0 10) 5) 14
+
 unfoldable pub gateOf : Ledger → Bool → ℕ
-gateOf l sound = pick (isLedger l) (pick sound (pick (isOpen (l .session)) 0 10) 5) 14
+gateOf l sound = stops (isLedger l) sound (isOpen (l .session))
 
 abbrev pub toldGate : Gate → Said
 toldGate Pass = only 0

@@ -35,6 +35,8 @@ use Rattle.ledger.specs.declared.Part.the-variants.{Subscriber, Publishe
 use Rattle.ledger.specs.declared.Rule.{Rule}
 use Rattle.ledger.specs.declared.Rule.the-variants.{R1, R2, R3, R4, R5, R6, R7}
 use Rattle.ledger.specs.declared.Ledger.{Ledger}
+use Rattle.ledger.specs.declared.Key.{Key}
+use Rattle.ledger.specs.declared.Key.the-variants.{Id, Alias}
 use Rattle.ledger.specs.declared.Found.{Found}
 use Rattle.ledger.specs.declared.Found.the-variants.{At, Missing}
 
@@ -52,8 +54,8 @@ startOf part capacity maximum =
 
 -- ---- rows in their places
 
--- where the first row stands, counted from `from`, that has this number
-unfoldable pub find : (Row → ℕ) → ℕ → ℕ → List Row → Found
+-- where the first stands, counted from `from`, that has this number
+unfoldable pub find : {A : Type 0} → (A → ℕ) → ℕ → ℕ → List A → Found
 find of n from [] = Missing
 find of n from (r ∷ rs) = pick (eqb (of r) n) (At from) (find of n (from + 1) rs)
 
@@ -62,6 +64,10 @@ idOf r = r .id
 
 abbrev pub aliasOf : Row → ℕ
 aliasOf r = r .alias
+
+abbrev pub keyOf : Key → Row → ℕ
+keyOf Id = idOf
+keyOf Alias = aliasOf
 
 abbrev pub rowAt : Ledger → ℕ → Row
 rowAt l i = getD (l .rows) i unusedRow

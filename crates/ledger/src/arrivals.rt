@@ -5,9 +5,10 @@ ghost use Rattle.ledger.specs.Answers.{told};
 ghost use Rattle.ledger.specs.Steps.{arrivalStep, smallArrival};
 use crate::Answer;
 use crate::Found;
+use crate::Key;
 use crate::Ledger;
 use crate::Taken;
-use crate::finding::find_alias;
+use crate::finding::find_row;
 use crate::subscribing::with_row;
 use field::Arrival;
 use row::Arriving;
@@ -28,7 +29,7 @@ pub fn count(l: Ledger, a: Arrival) -> Taken
     ensures { λ r. ⌜ told r ≡ arrivalStep l a ⌝ }
 {
     let place = a.place;
-    let Found::At(i) = find_alias(l, a.alias) else {
+    let Found::At(i) = find_row(l, Key::Alias, a.alias) else {
         return Taken {
             answer: Answer::NoRow,
             ledger: l,

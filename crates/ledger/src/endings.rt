@@ -5,11 +5,12 @@ ghost use Rattle.ledger.specs.Answers.{told};
 ghost use Rattle.ledger.specs.Steps.{freed, senderOf, endStep};
 use crate::Answer;
 use crate::Found;
+use crate::Key;
 use crate::Ledger;
 use crate::Part;
 use crate::Rule;
 use crate::Taken;
-use crate::finding::find_id;
+use crate::finding::find_row;
 use crate::rules::break_rule;
 use crate::rules::is_own;
 use crate::subscribing::no_row;
@@ -30,7 +31,7 @@ pub fn end(l: Ledger, ending: Ending, id: u64) -> Taken
     ensures { λ r. ⌜ told r ≡ endStep l ending id ⌝ }
 {
     let by = sender(ending);
-    let Found::At(i) = find_id(l, id) else {
+    let Found::At(i) = find_row(l, Key::Id, id) else {
         return no_row(l, by, id);
     };
     let row = l.rows[i];
@@ -53,7 +54,7 @@ fn without(l: Ledger, at: usize) -> Ledger
     let mut next = l;
     let mut i = at;
     while i < 63 {
-        let row = next.rows[i + 1];
+        let row = l.rows[i + 1];
         next.rows[i] = row;
         i += 1;
     }

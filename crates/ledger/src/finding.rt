@@ -2,35 +2,30 @@
 ghost use mathlib.Core.Path.{_≡_};
 ghost use Prim.Native.Nat.{_≤_};
 ghost use Rattle.ledger.specs.Ledgers.{held};
-ghost use Rattle.ledger.specs.Steps.{find, idOf, aliasOf};
+ghost use Rattle.ledger.specs.Steps.{find, keyOf};
 use crate::Found;
+use crate::Key;
 use crate::Ledger;
+use row::Row;
 
-pub fn find_id(l: Ledger, id: u64) -> Found
-    requires { ⌜ l .used ≤ 64 ⌝ }
-    ensures { λ r. ⌜ r ≡ find idOf id 0 (held l) ⌝ }
+fn number(row: Row, key: Key) -> u64
+    ensures { λ r. ⌜ r ≡ keyOf key row ⌝ }
 {
-    let used = l.used;
-    let mut i: usize = 0;
-    while i < used {
-        let row = l.rows[i];
-        if row.id == id {
-            return Found::At(i);
-        }
-        i += 1;
+    match key {
+        Key::Id => row.id,
+        Key::Alias => row.alias,
     }
-    Found::Missing
 }
 
-pub fn find_alias(l: Ledger, alias: u64) -> Found
+pub fn find_row(l: Ledger, key: Key, n: u64) -> Found
     requires { ⌜ l .used ≤ 64 ⌝ }
-    ensures { λ r. ⌜ r ≡ find aliasOf alias 0 (held l) ⌝ }
+    ensures { λ r. ⌜ r ≡ find (keyOf key) n 0 (held l) ⌝ }
 {
     let used = l.used;
     let mut i: usize = 0;
     while i < used {
         let row = l.rows[i];
-        if row.alias == alias {
+        if number(row, key) == n {
             return Found::At(i);
         }
         i += 1;

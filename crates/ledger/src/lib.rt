@@ -7,6 +7,7 @@ mod finding;
 mod gating;
 mod messages;
 mod rules;
+mod run;
 mod starting;
 mod subscribing;
 
@@ -88,7 +89,12 @@ enum Gate {
     Stop(Answer),
 }
 
-// Where a row stands.
+// What a row is found by, and where it stands.
+enum Key {
+    Id,
+    Alias,
+}
+
 enum Found {
     At(usize),
     Missing,

@@ -5,12 +5,12 @@ ghost use Rattle.ledger.specs.Answers.{told};
 ghost use Rattle.ledger.specs.Steps.{added, changed, noRow, subscribeStep, okStep};
 use crate::Answer;
 use crate::Found;
+use crate::Key;
 use crate::Ledger;
 use crate::Part;
 use crate::Rule;
 use crate::Taken;
-use crate::finding::find_alias;
-use crate::finding::find_id;
+use crate::finding::find_row;
 use crate::rules::break_rule;
 use crate::rules::is_own;
 use row::Opening;
@@ -19,7 +19,7 @@ use subscription::Subscribe;
 use subscription::SubscribeOk;
 
 pub fn add(l: Ledger, m: Subscribe) -> Taken
-    requires { ⌜ l .used ≤ 64 ⌝ }
+    requires { ⌜ (l .used ≤ 64) × (l .capacity ≤ 64) ⌝ }
     ensures { λ r. ⌜ told r ≡ subscribeStep l m ⌝ }
 {
     let part = l.part;
@@ -30,7 +30,7 @@ pub fn add(l: Ledger, m: Subscribe) -> Taken
     if m.id >= l.maximum {
         return break_rule(l, own, Rule::R3);
     }
-    if let Found::At(_) = find_alias(l, m.alias) {
+    if let Found::At(_) = find_row(l, Key::Alias, m.alias) {
         return break_rule(l, own, Rule::R4);
     }
     if l.used >= l.capacity {
@@ -87,7 +87,7 @@ pub fn accept(l: Ledger, m: SubscribeOk) -> Taken
     requires { ⌜ l .used ≤ 64 ⌝ }
     ensures { λ r. ⌜ told r ≡ okStep l m ⌝ }
 {
-    let Found::At(i) = find_id(l, m.id) else {
+    let Found::At(i) = find_row(l, Key::Id, m.id) else {
         return no_row(l, Part::Publisher, m.id);
     };
     let content = m.content;

@@ -1,5 +1,7 @@
 pub mod Checks
 pub mod Counts
 pub mod Endings
+pub mod Facts
+pub mod Keeping
 pub mod Staying
 pub mod Ordering

@@ -97,6 +97,12 @@ arriveIn Active r place = pick (inRange (r .range) place) (Counted (countedRow r
 unfoldable pub arriveOf : Row → Place → Arriving
 arriveOf r place = arriveIn (r .state) r place
 
+-- the row behind an arrival
+abbrev pub leftBy : Arriving → Row → Row
+leftBy Waiting r = r
+leftBy Outside r = r
+leftBy (Counted next) r = next
+
 -- "OK on pending makes it active", with the range that it settles
 abbrev pub activeRow : Row → Range → Row
 activeRow r range = record {

@@ -11,12 +11,6 @@ unfolding isRow small
 is-row-spec =
     tie.close
     (tie.spec
-    (λ c. search checks depth 12)
-    (λ c. search checks depth 12)
-    (λ c. search checks depth 12)
-    (λ c κs. search needs)
-    (λ c. search checks depth 12)
-    (λ c κs. search needs)
-    (λ c. search checks depth 12)
-    (λ c κs. search needs)
-    (λ c. search checks depth 12))
+    (λ c. search checks depth 12) (λ c. search checks depth 12) (λ c. search checks depth 12)
+    (λ c κs. search needs) (λ c. search checks depth 12) (λ c κs. search needs)
+    (λ c. search checks depth 12) (λ c κs. search needs) (λ c. search checks depth 12))

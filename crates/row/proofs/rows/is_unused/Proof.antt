@@ -10,12 +10,6 @@ unfolding isUnused
 is-unused-spec =
     tie.close
     (tie.spec
-    (λ c. search checks depth 12)
-    (λ c. search checks depth 12)
-    (λ c. search checks depth 12)
-    (λ c κs. search needs)
-    (λ c. search checks depth 12)
-    (λ c κs. search needs)
-    (λ c. search checks depth 12)
-    (λ c κs. search needs)
-    (λ c. search checks depth 12))
+    (λ c. search checks depth 12) (λ c. search checks depth 12) (λ c. search checks depth 12)
+    (λ c κs. search needs) (λ c. search checks depth 12) (λ c κs. search needs)
+    (λ c. search checks depth 12) (λ c κs. search needs) (λ c. search checks depth 12))

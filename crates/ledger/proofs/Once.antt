@@ -1,0 +1,67 @@
+-- What is told of an answer loses nothing: one number and rule, one answer; so each contract leaves one possible answer and
+-- ledger. Assumes nothing.
+use Prim.Native.Nat.{ℕ}
+use mathlib.Core.Path.{_≡_, refl, sym, ap, _∙_}
+use lib.Dec.{eqb}
+use Rattle.integer.specs.Answer.{pick}
+use Rattle.ledger.specs.Answers.{ruleNumber, Said, only, said, Came, told}
+use Rattle.ledger.specs.declared.Rule.{Rule}
+use Rattle.ledger.specs.declared.Rule.the-variants.{R1, R2, R3, R4, R5, R6, R7}
+use Rattle.ledger.specs.declared.Answer.{Answer}
+use Rattle.ledger.specs.declared.Answer.the-variants.{Forbidden, Done, NotKept, AlreadyClosed, Full, Stale, Breaks, NotALedger, StartRefused, Counted, Outside, NoRow, StillPending}
+use Rattle.ledger.specs.declared.Taken.{Taken}
+
+-- the rule of a number, and the answer of a number and a rule
+ruleOf : ℕ → Rule
+ruleOf n =
+    pick (eqb n 1) R1 (pick (eqb n 2) R2 (pick (eqb n 3) R3 (pick (eqb n 4) R4 (pick (eqb n 5) R5 (pick (eqb n 6) R6 R7)))))
+
+answerOf : Said → Answer
+answerOf s =
+    let n = s .number in
+    pick (eqb n 5) Forbidden
+    (pick (eqb n 8) Done
+    (pick (eqb n 9) NotKept
+    (pick (eqb n 10) AlreadyClosed
+    (pick (eqb n 11) Full
+    (pick (eqb n 12) Stale
+    (pick (eqb n 13) (Breaks (ruleOf (s .rule)))
+    (pick (eqb n 14) NotALedger
+    (pick (eqb n 15) StartRefused
+    (pick (eqb n 16) Counted (pick (eqb n 17) Outside (pick (eqb n 18) NoRow StillPending)))))))))))
+
+rule-back : (r : Rule) → ruleOf (ruleNumber r) ≡ r
+unfolding ruleOf
+rule-back R1 = refl
+rule-back R2 = refl
+rule-back R3 = refl
+rule-back R4 = refl
+rule-back R5 = refl
+rule-back R6 = refl
+rule-back R7 = refl
+
+answer-back : (a : Answer) → answerOf (said a) ≡ a
+unfolding answerOf
+answer-back Forbidden = refl
+answer-back Done = refl
+answer-back NotKept = refl
+answer-back AlreadyClosed = refl
+answer-back Full = refl
+answer-back Stale = refl
+answer-back (Breaks rule) = ap Breaks (rule-back rule)
+answer-back NotALedger = refl
+answer-back StartRefused = refl
+answer-back Counted = refl
+answer-back Outside = refl
+answer-back NoRow = refl
+answer-back StillPending = refl
+
+-- two answers of which the same is said are the same
+pub said-once : (a b : Answer) → said a ≡ said b → a ≡ b
+said-once a b e = sym (answer-back a) ∙ ap answerOf e ∙ answer-back b
+
+-- and so are two answers with the next ledger of which the same is told
+pub told-once : (a b : Taken) → told a ≡ told b → a ≡ b
+told-once a b e =
+    let answers = said-once (a .answer) (b .answer) (ap (λ (c : Came). c .says) e) in
+    λ i. record { answer = answers i; ledger = e i .next }

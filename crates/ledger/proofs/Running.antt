@@ -1,0 +1,259 @@
+-- A run of arrivals, one turn after the other. Assumes nothing.
+use Prim.Native.Nat.{ℕ, zero, suc, _+_, _-_, _*_, _/_, _≤_, _<_}
+use mathlib.Core.Path.{_≡_, refl, sym, ap, _∙_}
+use mathlib.Core.Bool.{Bool, true, false}
+use mathlib.Core.List.{List, [], _∷_, _++_, map, append-assoc, append-nil}
+use native.Mathlib.Numerals.{add-one}
+use native.Mathlib.Nat.{add-div-right, lt-div-mul-add, div-mul-le-self}
+use native.Mathlib.Omega.{arith}
+use borrow.Author.Tests.{eq-eqb, ne-eqb, eqb-true, le-leb, lt-leb}
+use lib.Dec.{leb, eqb}
+use lib.ListN.{length, take, drop, getD, set, length-drop, length-append, length-set, length-map}
+use lib.Seq.{drop-cons, set-at, append-snoc, map-set-same}
+use Rattle.integer.specs.Answer.{pick, wrote}
+use Rattle.integer.specs.Integer.{over}
+use Rattle.integer.proofs.Cases.{pick-by}
+use Rattle.field.specs.declared.Arrival.{Arrival}
+use Rattle.field.specs.declared.Place.{Place}
+use Rattle.row.specs.Rows.{unusedRow, arriveOf, leftBy}
+use Rattle.row.specs.declared.Row.{Row}
+use Rattle.row.specs.declared.Arriving.{Arriving}
+use Rattle.row.specs.declared.Arriving.the-variants.{Waiting, Outside, Counted}
+use Rattle.row.proofs.Keeping.{after, after-alias}
+use Rattle.ledger.specs.Ledgers.{held, isLedger, isOpen}
+use Rattle.ledger.specs.Answers.{Came, same, stops, gateOf, gated}
+use Rattle.ledger.specs.Steps.{find, aliasOf, rowAt, changed, arriveAt, arrivedAt, arrivalStep, arrivalOf, smallArrival}
+use Rattle.ledger.specs.Runs.{arrivalsIn, arrivedNumber, itself, behind, numbersOf, Run, runOf, saying, Runs}
+use Rattle.ledger.specs.declared.Ledger.{Ledger}
+use Rattle.ledger.specs.declared.Filled.the-variants.{Done, TooShort}
+use Rattle.ledger.specs.declared.Ran.{Ran}
+use Rattle.ledger.specs.declared.Found.{Found}
+use Rattle.ledger.specs.declared.Found.the-variants.{At, Missing}
+use Rattle.ledger.proofs.Facts.{parts, ledger-used}
+use Rattle.ledger.proofs.Gates.{gate-passed}
+use Rattle.ledger.proofs.Finds.{found-used}
+use Rattle.ledger.proofs.Naming.{take-map, find-map}
+use Rattle.ledger.proofs.Behind.{arrived-is, same-row}
+use Rattle.ledger.proofs.Keeps.{keeps-arrival}
+
+-- ---- arrivals in a list of numbers
+
+abbrev pub arrivalAt : List ℕ → ℕ → Arrival
+arrivalAt ns at =
+    record { alias = getD ns at 0; place = record { group = getD ns (at + 1) 0; object = getD ns (at + 2) 0 } }
+
+three : (ns : List ℕ) (k : ℕ) → 3 * k + 2 < length ns → arrivalsIn (drop (3 * k) ns) ≡ arrivalAt ns (3 * k) ∷ arrivalsIn (drop (3 * (k + 1)) ns)
+unfolding arrivalsIn
+three ns k h =
+    let at = 3 * k in
+    let one : suc at ≡ at + 1 = omega arith in
+    let two : suc (at + 1) ≡ at + 2 = omega arith in
+    let all : suc (at + 2) ≡ 3 * (k + 1) = omega arith in
+    rw (drop-cons ns at 0 (omega arith), one, drop-cons ns (at + 1) 0 (omega arith), two, drop-cons ns (at + 2) 0 h, all)
+
+none : (ns : List ℕ) → length ns < 3 → arrivalsIn ns ≡ []
+unfolding arrivalsIn
+none [] h = refl
+none (a ∷ []) h = refl
+none (a ∷ g ∷ []) h = refl
+none (a ∷ g ∷ o ∷ ns) h = absurd (omega arith)
+
+-- there are a third as many
+pub thirds : (ns : List ℕ) → length (arrivalsIn ns) ≡ length ns / 3
+unfolding arrivalsIn
+thirds [] = refl
+thirds (a ∷ []) = refl
+thirds (a ∷ g ∷ []) = refl
+thirds (a ∷ g ∷ o ∷ ns) =
+    let more : length (a ∷ g ∷ o ∷ ns) ≡ length ns + 3 = omega arith in
+    ap suc (thirds ns) ∙ sym (add-one (length ns / 3)) ∙ sym (ap (λ (n : ℕ). n / 3) more ∙ add-div-right (length ns) {k = 3} (omega arith))
+
+numbers-long : (l : Ledger) (came : List Arrival) → length (numbersOf l came) ≡ length came
+unfolding numbersOf
+numbers-long l [] = refl
+numbers-long l (a ∷ came) = ap suc (numbers-long (arrivalOf l a .next) came)
+
+-- ---- what an arrival leaves as it was
+
+module _ (l : Ledger) (a : Arrival) where
+  -- it changes nothing, or the row that it is found at
+  arrival-by : (P : Ledger → Type 0) → P l → ((i : ℕ) → P (changed l i (after (a .place) (rowAt l i)))) → P (arrivalOf l a .next)
+  unfolding arrivalOf gated arrivalStep
+  arrival-by P as-was row =
+      pick-by (λ (c : Came). P (c .next)) (eqb (gateOf l (smallArrival a)) 0) (λ _. go (find aliasOf (a .alias) 0 (held l))) (λ _. as-was)
+    where
+      go : (f : Found) → P (arriveAt l f (a .place) .next)
+      go Missing = as-was
+      go (At i) = rw (arrived-is l i (a .place)) (row i)
+
+  arrival-session : arrivalOf l a .next .session ≡ l .session
+  unfolding changed
+  arrival-session = arrival-by (λ (x : Ledger). x .session ≡ l .session) refl (λ _. refl)
+
+  arrival-used : arrivalOf l a .next .used ≡ l .used
+  unfolding changed
+  arrival-used = arrival-by (λ (x : Ledger). x .used ≡ l .used) refl (λ _. refl)
+
+  arrival-names : map aliasOf (arrivalOf l a .next .rows) ≡ map aliasOf (l .rows)
+  unfolding changed
+  arrival-names =
+      arrival-by (λ (x : Ledger). map aliasOf (x .rows) ≡ map aliasOf (l .rows)) refl
+      (λ i. map-set-same aliasOf (l .rows) i (after (a .place) (rowAt l i)) unusedRow (after-alias (a .place) (rowAt l i)))
+
+  -- where the gate stops it, that is its number
+  arrival-stopped : (n : ℕ) → gateOf l (smallArrival a) ≡ n → (n ≡ 0 → ⊥) → arrivalOf l a ≡ same l n
+  unfolding arrivalOf gated
+  arrival-stopped n e h = rw (e, ne-eqb n 0 h)
+
+  -- and else it is looked at
+  arrival-went : gateOf l (smallArrival a) ≡ 0 → arrivalOf l a ≡ arrivalStep l a
+  unfolding arrivalOf gated
+  arrival-went e = rw e
+
+  no-ledger : isLedger l ≡ false → gateOf l (smallArrival a) ≡ 14
+  unfolding gateOf stops
+  no-ledger e = rw e
+
+  -- a ledger stays one, and what is none stays what it is
+  arrival-ledger : isLedger (arrivalOf l a .next) ≡ isLedger l
+  arrival-ledger = go (isLedger l) refl
+    where
+      go : (b : Bool) → isLedger l ≡ b → isLedger (arrivalOf l a .next) ≡ b
+      go true e = keeps-arrival l e a
+      go false e = ap (λ (c : Came). isLedger (c .next)) (arrival-stopped 14 (no-ledger e) (λ z. omega arith)) ∙ e
+
+-- ---- along a run
+
+pub record Along (start : Ledger) (run before names : List ℕ) (valid opened : Bool) (used : ℕ) (answers : List ℕ) (l : Ledger) (k : ℕ) : Type 0 where
+  pub is : valid ≡ isLedger l
+  pub goes : opened ≡ isOpen (l .session)
+  pub uses : used ≡ l .used
+  pub named : names ≡ map aliasOf (l .rows)
+  pub rest : behind l (arrivalsIn (drop (3 * k) run)) ≡ behind start (arrivalsIn run)
+  pub told : List ℕ
+  pub so-far : length told ≡ k
+  pub holds : answers ≡ told ++ drop k before
+  pub more : told ++ numbersOf l (arrivalsIn (drop (3 * k) run)) ≡ numbersOf start (arrivalsIn run)
+
+-- before the first
+pub begins : (l : Ledger) (run before names : List ℕ) {valid opened : Bool} → valid ≡ isLedger l → opened ≡ isOpen (l .session) → names ≡ map aliasOf (l .rows) → Along l run before names valid opened (l .used) before l 0
+begins l run before names v o n =
+    record { is = v; goes = o; uses = refl; named = n; rest = refl; told = []; so-far = refl; holds = refl; more = refl }
+
+module _ {start : Ledger} {run before names : List ℕ} {valid opened : Bool} {used : ℕ} {answers : List ℕ} {l : Ledger} {k : ℕ} (g : Along start run before names valid opened used answers l k) where
+  module _ (h : 3 * k + 2 < length run) (room : k < length before) where
+    -- one turn: the next ledger and the number are those of the arrival
+    turn : {n : ℕ} {next : Ledger} → next ≡ arrivalOf l (arrivalAt run (3 * k)) .next → n ≡ arrivalOf l (arrivalAt run (3 * k)) .says .number → Along start run before names valid opened used (set answers k n) next (k + 1)
+    unfolding behind numbersOf
+    turn {n} {next} to says =
+        let a = arrivalAt run (3 * k) in
+        record {
+          is = rw to (g .is ∙ sym (arrival-ledger l a));
+          goes = rw to (g .goes ∙ ap isOpen (sym (arrival-session l a)));
+          uses = rw to (g .uses ∙ sym (arrival-used l a));
+          named = rw to (g .named ∙ sym (arrival-names l a));
+          rest = rw to (rw (three run k h) at (g .rest));
+          told = g .told ++ (n ∷ []);
+          so-far = length-append (g .told) (n ∷ []) ∙ ap (λ (m : ℕ). m + 1) (g .so-far);
+          holds =
+              rw (g .holds, drop-cons before k 0 room, set-at (g .told) (getD before k 0) (drop (suc k) before) n k (g .so-far), add-one k)
+              (sym (append-snoc (g .told) n (drop (suc k) before)));
+          more = rw (to, says) (append-snoc (g .told) _ _ ∙ (rw (three run k h) at (g .more)));
+        }
+
+    module _ {n : ℕ} (first : n ≡ stops valid (smallArrival (arrivalAt run (3 * k))) opened) where
+      gate : n ≡ gateOf l (smallArrival (arrivalAt run (3 * k)))
+      unfolding gateOf
+      gate = first ∙ rw (g .is, g .goes)
+
+      pub stopped-turn : (n ≡ 0 → ⊥) → Along start run before names valid opened used (set answers k n) l (k + 1)
+      stopped-turn z =
+          let e = arrival-stopped l (arrivalAt run (3 * k)) n (sym gate) z in
+          turn (sym (ap (λ (c : Came). c .next) e)) (sym (ap (λ (c : Came). c .says .number) e))
+
+      module _ (z : n ≡ 0) where
+        is-ledger : isLedger l ≡ true
+        is-ledger = gate-passed l (smallArrival (arrivalAt run (3 * k))) (sym gate ∙ z) .0
+
+        -- the names in use fit
+        pub fits : (used ≤ 64) × (used ≤ length names)
+        fits =
+            let few = ledger-used l is-ledger in
+            let long : length names ≡ 64 = ap length (g .named) ∙ length-map (l .rows) aliasOf ∙ parts l is-ledger .long in
+            (omega (arith, g .uses), omega (arith, g .uses))
+
+        module _ {f : Found} (found : f ≡ find itself (getD run (3 * k) 0) 0 (take used names)) where
+          by-alias : f ≡ find aliasOf (getD run (3 * k) 0) 0 (held l)
+          unfolding held
+          by-alias = found ∙ rw (g .named, g .uses, take-map aliasOf (l .used) (l .rows), find-map)
+
+          step : arrivalOf l (arrivalAt run (3 * k)) ≡ arriveAt l f (arrivalAt run (3 * k) .place)
+          unfolding arrivalStep
+          step = arrival-went l (arrivalAt run (3 * k)) (sym gate ∙ z) ∙ rw by-alias
+
+          pub missed-turn : f ≡ Missing → Along start run before names valid opened used (set answers k 18) l (k + 1)
+          missed-turn e =
+              let s = step ∙ ap (λ (x : Found). arriveAt l x (arrivalAt run (3 * k) .place)) e in
+              turn (sym (ap (λ (c : Came). c .next) s)) (sym (ap (λ (c : Came). c .says .number) s))
+
+          module _ {i : ℕ} (at : f ≡ At i) where
+            pub inside : i < 64
+            inside = omega (arith, found-used aliasOf (getD run (3 * k) 0) l by-alias at, ledger-used l is-ledger)
+
+            pub counted-turn : {w : Arriving} {r : Row} {m : ℕ} → w ≡ arriveOf (rowAt l i) (arrivalAt run (3 * k) .place) → r ≡ leftBy w (rowAt l i) → m ≡ arrivedNumber w → Along start run before names valid opened used (set answers k m) (changed l i r) (k + 1)
+            counted-turn {w} {r} {m} came left number =
+                let s = step ∙ ap (λ (x : Found). arriveAt l x (arrivalAt run (3 * k) .place)) at ∙ ap (arrivedAt l i) (sym came) in
+                turn (rw left (sym (ap (λ (c : Came). c .next) s ∙ next-is w))) (number ∙ sym (ap (λ (c : Came). c .says .number) s ∙ number-is w))
+              where
+                next-is : (w : Arriving) → arrivedAt l i w .next ≡ changed l i (leftBy w (rowAt l i))
+                next-is Waiting = same-row l i
+                next-is Outside = same-row l i
+                next-is (Counted x) = refl
+
+                number-is : (w : Arriving) → arrivedAt l i w .says .number ≡ arrivedNumber w
+                number-is Waiting = refl
+                number-is Outside = refl
+                number-is (Counted x) = refl
+
+  -- behind the last
+  module _ {count : ℕ} (e : count ≡ length run / 3) (all : count ≤ k) (to : k ≤ count) where
+    over-all : arrivalsIn (drop (3 * k) run) ≡ []
+    over-all =
+        let last : length run < length run / 3 * 3 + 3 = lt-div-mul-add {a = length run} {b = 3} (omega arith) in
+        none (drop (3 * k) run) (rw length-drop (omega arith))
+
+    all-told : g .told ≡ numbersOf start (arrivalsIn run)
+    unfolding numbersOf
+    all-told = sym (append-nil (g .told)) ∙ (rw over-all at (g .more))
+
+    all-behind : l ≡ behind start (arrivalsIn run)
+    unfolding behind
+    all-behind = rw over-all at (g .rest)
+
+    pub ends : count ≤ length before → Runs (runOf start run before) (record { answer = Done count; ledger = l }) answers
+    unfolding runOf
+    ends room =
+        let counts : count ≡ length (arrivalsIn run) = e ∙ sym (thirds run) in
+        let fits = le-leb (length (arrivalsIn run)) (length before) (omega arith) in
+        let told : k ≡ length (numbersOf start (arrivalsIn run)) = sym (g .so-far) ∙ ap length all-told in
+        record {
+          says = rw fits (ap wrote counts);
+          next = rw fits all-behind;
+          holds = rw fits (g .holds ∙ (λ i. all-told i ++ drop (told i) before));
+        }
+
+-- the buffer stays as long as it was
+pub same-long : {start : Ledger} {run before names : List ℕ} {valid opened : Bool} {used : ℕ} {answers : List ℕ} {l : Ledger} {k : ℕ} → Along start run before names valid opened used answers l k → k ≤ length before → length answers ≡ length before
+same-long {before = before} {k = k} g h =
+    ap length (g .holds) ∙ length-append (g .told) (drop k before) ∙ rw (g .so-far, length-drop k before) (omega arith)
+
+-- an arrival's three numbers are there
+pub within : (n k : ℕ) → k < n / 3 → 3 * k + 2 < n
+within n k h = omega (arith, div-mul-le-self n 3)
+
+-- no room for the numbers
+pub no-room : (l : Ledger) (run before : List ℕ) {count : ℕ} → count ≡ length run / 3 → length before < count → Runs (runOf l run before) (record { answer = TooShort; ledger = l }) before
+unfolding runOf
+no-room l run before e h =
+    let short = lt-leb (length (arrivalsIn run)) (length before) (omega (arith, thirds run)) in
+    record { says = rw short; next = rw short; holds = rw short }

@@ -1,0 +1,156 @@
+-- What becomes of a row is a row, with the same ID and alias. Assumes nothing.
+use Prim.Native.Nat.{ℕ, _+_, _≤_, _<_}
+use mathlib.Core.Path.{_≡_, refl, sym, ap, _∙_}
+use mathlib.Core.Bool.{Bool, true, false, not}
+use native.Mathlib.Omega.{arith}
+use borrow.Author.Tests.{ltb-true, ltb-false, ne-eqb, eqb-false, not-true}
+use lib.Dec.{ltb, eqb}
+use Rattle.integer.specs.Answer.{pick}
+use Rattle.integer.proofs.Cases.{pick-by}
+use Rattle.field.specs.Outcome.{both}
+use Rattle.field.specs.declared.Place.{Place}
+use Rattle.subscription.specs.declared.Content.{Content}
+use Rattle.subscription.specs.declared.Content.the-variants.{Nothing, Largest}
+use Rattle.shortest.proofs.Tests.{both-first, both-second}
+use Rattle.row.specs.Places.{before, small, smallPlace}
+use Rattle.row.specs.Ranges.{inRange, isKnown, smallRange, latest, moved, settledOf}
+use Rattle.row.specs.Rows.{top, agree, suits, isRow, pendingRow, greater, risen, countedRow, arriveIn, arriveOf, leftBy, activeRow, openIn, openOf}
+use Rattle.row.specs.declared.State.{State}
+use Rattle.row.specs.declared.State.the-variants.{Pending, Active}
+use Rattle.row.specs.declared.Range.{Range}
+use Rattle.row.specs.declared.Range.the-variants.{Unknown, Open, Closed}
+use Rattle.row.specs.declared.Greatest.{Greatest}
+use Rattle.row.specs.declared.Greatest.the-variants.{Nowhere, At}
+use Rattle.row.specs.declared.Row.{Row}
+use Rattle.row.specs.declared.Arriving.{Arriving}
+use Rattle.row.specs.declared.Opening.{Opening}
+use Rattle.row.specs.declared.Opening.the-variants.{Refused, Opened}
+use Rattle.row.proofs.Facts.{IsRow, row-parts, row-whole}
+
+-- ---- a pending row
+
+pub pending-is : (id alias : ℕ) (range : Range) → small id ≡ true → small alias ≡ true → smallRange range ≡ true → isRow (pendingRow id alias range) ≡ true
+unfolding isRow agree suits
+pending-is id alias range i a s = rw (i, a, s)
+
+-- ---- the row behind an arrival
+
+unfoldable pub after : Place → Row → Row
+after place r = leftBy (arriveOf r place) r
+
+-- either it is counted, at an active row, or nothing changes
+after-by : (P : Row → Type 0) (place : Place) (r : Row) → P r → (r .state ≡ Active → P (countedRow r place)) → P (after place r)
+unfolding after arriveOf
+after-by P place r same counted = go (r .state) refl
+  where
+    go : (s : State) → r .state ≡ s → P (leftBy (arriveIn s r place) r)
+    go Pending e = same
+    go Active e = pick-by (λ (w : Arriving). P (leftBy w r)) (inRange (r .range) place) (λ _. counted e) (λ _. same)
+
+pub after-id : (place : Place) (r : Row) → after place r .id ≡ r .id
+unfolding countedRow
+after-id place r = after-by (λ (x : Row). x .id ≡ r .id) place r refl (λ _. refl)
+
+pub after-alias : (place : Place) (r : Row) → after place r .alias ≡ r .alias
+unfolding countedRow
+after-alias place r = after-by (λ (x : Row). x .alias ≡ r .alias) place r refl (λ _. refl)
+
+risen-most : (n : ℕ) → n ≤ top → risen n ≤ top
+unfolding risen
+risen-most n h = pick-by (λ (k : ℕ). k ≤ top) (ltb n top) (λ e. omega (arith, ltb-true n top e)) (λ _. h)
+
+risen-some : (n : ℕ) → risen n ≡ 0 → ⊥
+unfolding risen
+risen-some n = pick-by (λ (k : ℕ). k ≡ 0 → ⊥) (ltb n top) (λ _ z. omega arith) (λ e z. omega (arith, ltb-false n top e))
+
+greater-small : (g : Greatest) (n : ℕ) (place : Place) → agree g n ≡ true → smallPlace place ≡ true → smallPlace (greater g place) ≡ true
+unfolding greater agree
+greater-small Nowhere n place a s = s
+greater-small (At held) n place a s =
+    pick-by (λ (p : Place). smallPlace p ≡ true) (before held place) (λ _. s) (λ _. both-second (not (eqb n 0)) (smallPlace held) a)
+
+counted-is : (place : Place) (r : Row) → smallPlace place ≡ true → IsRow r → r .state ≡ Active → IsRow (countedRow r place)
+unfolding countedRow agree suits
+counted-is place r s w e =
+    record {
+      id = w .id;
+      alias = w .alias;
+      count = risen-most (r .count) (w .count);
+      range = w .range;
+      agrees = rw (ne-eqb (risen (r .count)) 0 (risen-some (r .count))) (greater-small (r .greatest) (r .count) place (w .agrees) s);
+      suited = rw e (rw e at (w .suited));
+    }
+
+pub after-is : (place : Place) (r : Row) → smallPlace place ≡ true → isRow r ≡ true → isRow (after place r) ≡ true
+after-is place r s w =
+    after-by (λ (x : Row). isRow x ≡ true) place r w
+    (λ e. row-whole (countedRow r place) (counted-is place r s (row-parts r w) e))
+
+-- ---- the row behind a SUBSCRIBE_OK
+
+abbrev pub opening : Opening → Row → Row
+opening Refused r = r
+opening (Opened next) r = next
+
+unfoldable pub opened : Content → Row → Row
+opened content r = opening (openOf r content) r
+
+-- either a pending row is active now, or nothing changes
+opened-by : (P : Row → Type 0) (content : Content) (r : Row) → P r → (r .state ≡ Pending → P (activeRow r (settledOf (r .range) content))) → P (opened content r)
+unfolding opened openOf
+opened-by P content r same active = go (r .state) refl
+  where
+    go : (s : State) → r .state ≡ s → P (opening (openIn s r content) r)
+    go Pending e = active e
+    go Active e = same
+
+pub opened-id : (content : Content) (r : Row) → opened content r .id ≡ r .id
+opened-id content r = opened-by (λ (x : Row). x .id ≡ r .id) content r refl (λ _. refl)
+
+pub opened-alias : (content : Content) (r : Row) → opened content r .alias ≡ r .alias
+opened-alias content r = opened-by (λ (x : Row). x .alias ≡ r .alias) content r refl (λ _. refl)
+
+-- no number of a content is above the greatest integer
+abbrev pub smallContent : Content → Bool
+smallContent Nothing = true
+smallContent (Largest place) = smallPlace place
+
+latest-small : (content : Content) → smallContent content ≡ true → smallPlace (latest content) ≡ true
+unfolding smallPlace small
+latest-small Nothing s = refl
+latest-small (Largest place) s = s
+
+moved-small : (start : Place) (content : Content) → smallPlace start ≡ true → smallContent content ≡ true → smallPlace (moved start content) ≡ true
+moved-small start Nothing a s = a
+moved-small start (Largest place) a s =
+    pick-by (λ (p : Place). smallPlace p ≡ true) (ltb (start .group) (place .group)) (λ _. s) (λ _. a)
+
+settled-small : (range : Range) (content : Content) → smallRange range ≡ true → smallContent content ≡ true → smallRange (settledOf range content) ≡ true
+unfolding smallRange settledOf
+settled-small Unknown content a s = latest-small content s
+settled-small (Open start) content a s = moved-small start content a s
+settled-small (Closed start last) content a s =
+    rw (moved-small start content (both-first (smallPlace start) (small last) a) s) (both-second (smallPlace start) (small last) a)
+
+settled-known : (range : Range) (content : Content) → isKnown (settledOf range content) ≡ true
+unfolding settledOf isKnown
+settled-known Unknown content = refl
+settled-known (Open start) content = refl
+settled-known (Closed start last) content = refl
+
+active-is : (content : Content) (r : Row) → smallContent content ≡ true → IsRow r → IsRow (activeRow r (settledOf (r .range) content))
+unfolding suits
+active-is content r s w =
+    record {
+      id = w .id;
+      alias = w .alias;
+      count = w .count;
+      range = settled-small (r .range) content (w .range) s;
+      agrees = w .agrees;
+      suited = settled-known (r .range) content;
+    }
+
+pub opened-is : (content : Content) (r : Row) → smallContent content ≡ true → isRow r ≡ true → isRow (opened content r) ≡ true
+opened-is content r s w =
+    opened-by (λ (x : Row). isRow x ≡ true) content r w
+    (λ _. row-whole (activeRow r (settledOf (r .range) content)) (active-is content r s (row-parts r w)))
