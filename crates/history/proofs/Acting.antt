@@ -6,12 +6,10 @@ use native.Mathlib.Omega.{arith}
 use Rattle.integer.proofs.Cases.{pick-by}
 use Rattle.integer.specs.Answer.{pick}
 use Rattle.field.specs.declared.Arrival.{Arrival}
-use Rattle.layout.proofs.Back.{both-true}
 use Rattle.subscription.specs.declared.Content.{Content}
 use Rattle.subscription.specs.declared.SubscriptionMessage.the-variants.{SubscribeUpdate as ASubscribeUpdate, SubscribeOk as ASubscribeOk, SubscribeError as ASubscribeError, Unsubscribe as AUnsubscribe, SubscribeDone as ASubscribeDone}
 use Rattle.message.specs.declared.Message.{Message}
 use Rattle.message.specs.declared.Message.the-variants.{Subscription}
-use Rattle.row.specs.Places.{small, smallPlace}
 use Rattle.row.specs.Rows.{mayEnd}
 use Rattle.row.specs.declared.Row.{Row}
 use Rattle.row.specs.declared.State.{State}
@@ -27,9 +25,7 @@ use Rattle.ledger.specs.declared.Part.the-variants.{Publisher}
 use Rattle.ledger.specs.declared.Rule.{Rule}
 use Rattle.ledger.proofs.Facts.{parts}
 use Rattle.ledger.proofs.Turning.{Looked, one, look, Change, now, turn, turn-found, turn-same, Known}
-use Rattle.ledger.proofs.Standing.{Becomes}
-use Rattle.ledger.proofs.Replies.{forbidden, not-kept, Reply, stays, broke, turns, arrivalReply, opening, okReply, endReply, Still, Does, stayed, broken, turned, arrival-does, ok-does, end-does}
-use Rattle.ledger.proofs.Sounded.{sound-ok}
+use Rattle.ledger.proofs.Replies.{Becomes, forbidden, not-kept, Reply, stays, broke, turns, arrivalReply, opening, okReply, endReply, Still, Does, stayed, broken, turned, arrival-does, ok-does, end-does}
 use Rattle.history.specs.Events.{Event, message, arrival, comes}
 use Rattle.history.specs.Orders.{Names, ok, error, finished, left, updated}
 use Rattle.history.proofs.Gate.{isSound, stepOf, refused, passed}
@@ -75,7 +71,6 @@ module _ (l : Ledger) (w : isLedger l ≡ true) (key : Row → ℕ) (n : ℕ) wh
         maximum = refl;
         next = refl;
         rows = sym (turn-same key n f (held l) e);
-        keeps = λ _ _. w;
       }
 
   module _ (reply : Looked → Reply) {r : Reply} (e : reply (look key n (held l)) ≡ r) where
@@ -95,7 +90,7 @@ module _ (l : Ledger) (w : isLedger l ≡ true) (key : Row → ℕ) (n : ℕ) wh
   acted {own} {said} reply e stayed =
       acted-by reply e own said refl (λ h. absurd (no (sym h))) (λ _. becomes-same (doing reply) (doing-is reply e))
   acted {own} {said} reply e (broken {rule}) = broke-acts own said reply rule e
-  acted {own} {said} reply e (turned {f} fits more b) =
+  acted {own} {said} reply e (turned {f} more b) =
       acted-by reply e own said refl (λ h. absurd (no (sym h)))
       (λ _. rw (turn-found key n (doing reply) f (held l) (doing-is reply e)) b)
 
@@ -111,7 +106,7 @@ pub record Acts (e : Event) (key : Row → ℕ) (n : ℕ) : Type 0 where
 abbrev pub judged : Bool → (ℕ → Looked → Reply) → ℕ → Looked → Reply
 judged sound reply next looked = pick sound (reply next looked) (stays forbidden)
 
-module _ {also : Row → Change → Type 0} (e : Event) (key : Row → ℕ) (n : ℕ) (own : Part → Bool) (said : ℕ) (reply : ℕ → Looked → Reply) (does : (l : Ledger) → isLedger l ≡ true → isSound e ≡ true → Does l (own (l .part)) said also key n (reply (l .next) (look key n (held l))) (stepOf l e)) where
+module _ {also : Row → Change → Type 0} (e : Event) (key : Row → ℕ) (n : ℕ) (own : Part → Bool) (said : ℕ) (reply : ℕ → Looked → Reply) (does : (l : Ledger) → isLedger l ≡ true → Does l (own (l .part)) said also key n (reply (l .next) (look key n (held l))) (stepOf l e)) where
   acts-judged : Acts e key n
   acts-judged =
       record {
@@ -122,16 +117,15 @@ module _ {also : Row → Change → Type 0} (e : Event) (key : Row → ℕ) (n :
       }
     where
       go : (l : Ledger) → isLedger l ≡ true → isOpen (l .session) ≡ true → (b : Bool) → isSound e ≡ b → Acted l (own (l .part)) said key n (judged b reply (l .next)) (comes l e)
-      go l w o true s = rw (passed l e w s o) (acted l w key n (reply (l .next)) refl (does l w s))
+      go l w o true s = rw (passed l e w s o) (acted l w key n (reply (l .next)) refl (does l w))
       go l w o false s = rw (refused l e w s) (acted l w key n {also = also} (judged false reply (l .next)) refl stayed)
 
 -- ---- arrivals
 
 pub arrival-acts : (a : Arrival) → Acts (arrival a) aliasOf (a .alias)
-unfolding smallArrival
 arrival-acts a =
     acts-judged (arrival a) aliasOf (a .alias) (λ _. true) 16 (λ _. arrivalReply (a .place))
-    (λ l w s. arrival-does l (parts l w) a (both-true (small (a .alias)) (smallPlace (a .place)) s .1))
+    (λ l _. arrival-does l a)
 
 pub arrival-reply : (a : Arrival) (next : ℕ) (looked : Looked) → arrival-acts a .reply next looked ≡ judged (smallArrival a) (λ _. arrivalReply (a .place)) next looked
 unfolding arrival-acts acts-judged
@@ -154,7 +148,7 @@ opened-knows : (s : State) (content : Content) (r : Row) → Known idOf r (chang
 opened-knows Pending content r = refl
 opened-knows Active content r = refl
 
-module _ (m : Message) (id : ℕ) (own : Part → Bool) (reply : ℕ → Looked → Reply) (does : (l : Ledger) → isLedger l ≡ true → isSound (message m) ≡ true → Does l (own (l .part)) 8 Still idOf id (reply (l .next) (look idOf id (held l))) (stepOf l (message m))) (knows : (next : ℕ) (r : Row) → Known idOf r (doing (reply next) r)) where
+module _ (m : Message) (id : ℕ) (own : Part → Bool) (reply : ℕ → Looked → Reply) (does : (l : Ledger) → isLedger l ≡ true → Does l (own (l .part)) 8 Still idOf id (reply (l .next) (look idOf id (held l))) (stepOf l (message m))) (knows : (next : ℕ) (r : Row) → Known idOf r (doing (reply next) r)) where
   named-judged : Named m id
   unfolding acts-judged
   named-judged =
@@ -170,15 +164,15 @@ module _ (m : Message) (id : ℕ) (own : Part → Bool) (reply : ℕ → Looked 
 ends : (m : Message) (ending : Ending) (id : ℕ) → ((l : Ledger) → stepOf l (message m) ≡ endStep l ending id) → Named m id
 ends m ending id is =
     named-judged m id (λ part. isOwn part (senderOf ending)) (endReply ending id)
-    (λ l w _. rw (is l) (end-does l (parts l w) ending id))
+    (λ l w. rw (is l) (end-does l (parts l w) ending id))
     (λ next r. pick-by (λ (x : Reply). Known idOf r (changeBy x r)) (mayEnd ending (r .state)) (λ _. tt) (λ _. refl))
 
 pub named : {m : Message} {id : ℕ} → Names m id → Named m id
 named (ok {m}) =
     named-judged (Subscription (ASubscribeOk m)) (m .id) (λ part. isOwn part Publisher) (okReply m)
-    (λ l w s. ok-does l (parts l w) m (sound-ok m s)) (λ next r. opened-knows (r .state) (m .content) r)
+    (λ l _. ok-does l m) (λ next r. opened-knows (r .state) (m .content) r)
 named (error {m}) = ends (Subscription (ASubscribeError m)) Erring (m .id) (λ _. refl)
 named (finished {m}) = ends (Subscription (ASubscribeDone m)) Ended (m .id) (λ _. refl)
 named (left {id}) = ends (Subscription (AUnsubscribe id)) Leaving id (λ _. refl)
 named (updated {m}) =
-    named-judged (Subscription (ASubscribeUpdate m)) (m .id) (λ _. true) (λ _ _. stays not-kept) (λ _ _ _. stayed) (λ _ _. refl)
+    named-judged (Subscription (ASubscribeUpdate m)) (m .id) (λ _. true) (λ _ _. stays not-kept) (λ _ _. stayed) (λ _ _. refl)

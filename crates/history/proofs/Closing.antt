@@ -58,8 +58,8 @@ module _ (l : Ledger) where
   leaves : {e : Event} {c : Came} → Moves l e c → Leaves l (isPeers (l .part) e) c
   leaves (stayed q) = stays (rw (quiet q .1)) refl refl
   leaves (broken own rule p) = rw p (breaking own rule)
-  leaves (counted w fits b) = stays refl (b .session) (b .part)
-  leaves (turned id f not-asking fits still b) = stays refl (b .session) (b .part)
+  leaves (counted w b) = stays refl (b .session) (b .part)
+  leaves (turned id f not-asking still b) = stays refl (b .session) (b .part)
   leaves (taken fresh b) = stays refl (b .session) (b .part)
   leaves (raised more) = stays refl refl refl
 

@@ -14,9 +14,7 @@ use Rattle.ledger.specs.Answers.{Came}
 use Rattle.ledger.specs.Steps.{idOf, aliasOf}
 use Rattle.ledger.specs.declared.Ledger.{Ledger}
 use Rattle.ledger.proofs.Turning.{Looked, none, one, look, Change, now, turn, turn-found, look-other, turn-other, seen, look-turned, turn-twice}
-use Rattle.ledger.proofs.Standing.{Becomes}
-use Rattle.ledger.proofs.Known.{becomes-one, becomes-then}
-use Rattle.ledger.proofs.Replies.{Reply}
+use Rattle.ledger.proofs.Replies.{Becomes, becomes-one, becomes-then, Reply}
 use Rattle.history.specs.Events.{Event, message, arrival, comes}
 use Rattle.history.specs.Orders.{Names, EitherOrder}
 use Rattle.history.proofs.Gate.{no-ledger}

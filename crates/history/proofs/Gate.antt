@@ -6,7 +6,7 @@ use mathlib.Core.Bool.{Bool, true, false}
 use lib.Dec.{eqb}
 use Rattle.integer.specs.Answer.{pick}
 use Rattle.message.specs.Sound.{soundOf}
-use Rattle.ledger.specs.Answers.{Came, same, gateOf, gated, breaks}
+use Rattle.ledger.specs.Answers.{Came, same, stops, gateOf, gated, breaks}
 use Rattle.ledger.specs.Ledgers.{isLedger, isOpen}
 use Rattle.ledger.specs.Steps.{takeOf, malformedOf, arrivalOf, messageStep, arrivalStep, smallArrival}
 use Rattle.ledger.specs.declared.Ledger.{Ledger}
@@ -52,7 +52,7 @@ pub record Passes (l : Ledger) (judged : Bool) : Type 0 where
 
 module _ (l : Ledger) (sound : Bool) (P : Came → Type 0) (rest : Came) (step : Passes l sound → P rest) (stays : (n : ℕ) → Refusal n → P (same l n)) where
   pub gated-by : P (gated l sound rest)
-  unfolding gated gateOf
+  unfolding gated gateOf stops
   gated-by = go (isLedger l) refl sound refl (isOpen (l .session)) refl
     where
       go : (w : Bool) → isLedger l ≡ w → (s : Bool) → sound ≡ s → (o : Bool) → isOpen (l .session) ≡ o →
@@ -70,14 +70,14 @@ module _ (l : Ledger) (e : Event) (P : Came → Type 0) where
 
 module _ (l : Ledger) (e : Event) where
   pub no-ledger : isLedger l ≡ false → comes l e ≡ same l 14
-  unfolding gated gateOf
+  unfolding gated gateOf stops
   no-ledger w = rw (comes-gated l e, w)
 
   module _ (w : isLedger l ≡ true) where
     pub refused : isSound e ≡ false → comes l e ≡ same l 5
-    unfolding gated gateOf
+    unfolding gated gateOf stops
     refused s = rw (comes-gated l e, w, s)
 
     pub passed : isSound e ≡ true → isOpen (l .session) ≡ true → comes l e ≡ stepOf l e
-    unfolding gated gateOf
+    unfolding gated gateOf stops
     passed s o = rw (comes-gated l e, w, s, o)

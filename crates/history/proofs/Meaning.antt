@@ -1,10 +1,10 @@
 -- What rows show of the places counted for them. Assumes nothing.
 use Prim.Native.Nat.{ℕ, suc, _≤_, _<_, min}
 use mathlib.Core.Path.{_≡_, refl, sym, ap, subst, _∙_}
-use mathlib.Core.Bool.{Bool, true, false}
+use mathlib.Core.Bool.{Bool, true, false, not}
 use mathlib.Core.List.{List, [], _∷_, _++_}
 use native.Mathlib.Omega.{arith}
-use borrow.Author.Tests.{eqb-true, ltb-true, ltb-false, eq-eqb, ne-eqb, eqb-false}
+use borrow.Author.Tests.{eqb-true, not-true, ltb-true, ltb-false, eq-eqb, ne-eqb, eqb-false}
 use lib.Dec.{eqb, leb, ltb}
 use lib.ListN.{length, take}
 use Rattle.integer.proofs.Cases.{pick-by}
@@ -12,6 +12,7 @@ use Rattle.integer.specs.Answer.{pick}
 use Rattle.field.specs.Outcome.{both}
 use Rattle.field.specs.declared.Arrival.{Arrival}
 use Rattle.field.specs.declared.Place.{Place}
+use Rattle.layout.proofs.Back.{both-true}
 use Rattle.subscription.specs.declared.Subscribe.{Subscribe}
 use Rattle.subscription.specs.declared.SubscriptionMessage.the-variants.{Subscribe as ASubscribe}
 use Rattle.message.specs.declared.Message.{Message}
@@ -26,12 +27,13 @@ use Rattle.ledger.specs.declared.Ledger.{Ledger}
 use Rattle.ledger.specs.declared.Part.{Part}
 use Rattle.ledger.specs.declared.Rule.{Rule}
 use Rattle.ledger.proofs.Facts.{parts}
-use Rattle.ledger.proofs.Turning.{one, look, Change, gone, now, put, turn}
-use Rattle.ledger.proofs.Ranks.{Fits, apart-parts, has-not}
+use Rattle.ledger.proofs.Keyed.{editBy}
+use Rattle.ledger.proofs.Turning.{one, look, Change, gone, now, put, turn, has-not}
+use Rattle.ledger.proofs.Asking.{newRow}
 use Rattle.ledger.proofs.Replies.{Quiet, Still, counting}
 use Rattle.history.specs.Events.{Event, message, malformed, arrival, comes, run, told}
 use Rattle.history.specs.Counts.{asksFor, noted, counted, greatestOf, Shows, Each}
-use Rattle.history.proofs.Moves.{newRow, Moves, stayed, broken, turned, taken, raised, moves, quiet}
+use Rattle.history.proofs.Moves.{Moves, stayed, broken, turned, taken, raised, moves, quiet}
 
 -- ---- one row
 
@@ -48,6 +50,13 @@ unfolding countedRow greatestOf
 shows-more r p ps s = record { count = ap risen (s .count) ∙ risen-min (length ps); greatest = rw (s .greatest) }
 
 -- ---- rows
+
+-- no alias is held twice, by its parts
+apart-parts : (r : Row) (rs : List Row) → distinct (r ∷ rs) ≡ true → (hasAlias (r .alias) rs ≡ false) × (distinct rs ≡ true)
+unfolding distinct
+apart-parts r rs e =
+    let (fresh, more) = both-true (not (hasAlias (r .alias) rs)) (distinct rs) e in
+    (not-true (hasAlias (r .alias) rs) fresh, more)
 
 abbrev Put : (Row → Type 0) → Change → Type 0
 Put Q gone = Unit {0}
@@ -71,7 +80,7 @@ module _ (P Q : Row → Type 0) where
 
   -- one row is turned, and the others are shown anew
   each-turn : (key : Row → ℕ) (n : ℕ) (f : Row → Change) (rs : List Row) → ((r : Row) → look key n rs ≡ one r → P r → Put Q (f r)) → ((r : Row) → P r → Q r) → Each P rs → Each Q (turn key n f rs)
-  unfolding look turn
+  unfolding look editBy
   each-turn key n f [] turns others h = tt
   each-turn key n f (r ∷ rs) turns others h = go (eqb (key r) n) refl (λ more. each-turn key n f rs more others (h .1))
     where
@@ -81,7 +90,7 @@ module _ (P Q : Row → Type 0) where
 
   -- the row of an alias is turned, and those of others are shown anew
   each-alias : (alias : ℕ) (f : Row → Change) (rs : List Row) → distinct rs ≡ true → ((r : Row) → eqb (r .alias) alias ≡ true → P r → Put Q (f r)) → ((r : Row) → eqb (r .alias) alias ≡ false → P r → Q r) → Each P rs → Each Q (turn aliasOf alias f rs)
-  unfolding turn
+  unfolding editBy
   each-alias alias f [] apart turns others h = tt
   each-alias alias f (r ∷ rs) apart turns others h =
       go (eqb (r .alias) alias) refl (each-alias alias f rs (lone .1) turns others (h .1))
@@ -142,10 +151,10 @@ module _ (ps : ℕ → List Place) (l : Ledger) (k : Each (Now ps) (held l)) whe
   unfolding countedRow
   grown a r e s = rw (same-alias (r .alias) (a .alias) e) (shows-more r (a .place) (ps (r .alias)) s)
 
-  kept : (m : Message) → ((alias : ℕ) → asksFor alias m ≡ false) → (r : Row) (c : Change) → Fits r c → Still r c → Now ps r → Put (Then ps (message m) 8) c
-  kept m not-asking r gone fits still s = tt
-  kept m not-asking r (now x) fits still s =
-      rw (fits .alias, not-asking (r .alias)) (record { count = still .1 ∙ s .count; greatest = still .0 ∙ s .greatest })
+  kept : (m : Message) → ((alias : ℕ) → asksFor alias m ≡ false) → (r : Row) (c : Change) → Still r c → Now ps r → Put (Then ps (message m) 8) c
+  kept m not-asking r gone still s = tt
+  kept m not-asking r (now x) still s =
+      rw (still .alias, not-asking (r .alias)) (record { count = still .count ∙ s .count; greatest = still .greatest ∙ s .greatest })
 
   fresh-row : (m : Subscribe) → Then ps (message (Subscription (ASubscribe m))) 8 (newRow m)
   unfolding greatestOf
@@ -155,13 +164,13 @@ module _ (ps : ℕ → List Place) (l : Ledger) (k : Each (Now ps) (held l)) whe
   unfolding held breaks
   shown (stayed {e} {n} q) = unnoted e n (quiet-noted q e)
   shown (broken {e} own rule p) = rw (broken-held own rule) (unnoted e 13 (broken-noted e))
-  shown (Moves.counted {a} w fits b) =
+  shown (Moves.counted {a} w b) =
       rw (b .rows)
       (each-alias (Now ps) (Then ps (arrival a) 16) (a .alias) (counting (a .place)) (held l) (parts l w .apart) (grown a)
       (λ r e s. rw (other-alias (r .alias) (a .alias) e) s) k)
-  shown (turned {m} id f not-asking fits still b) =
+  shown (turned {m} id f not-asking still b) =
       rw (b .rows)
-      (each-turn (Now ps) (Then ps (message m) 8) idOf id f (held l) (λ r h s. kept m not-asking r (f r) (fits r h) (still r) s)
+      (each-turn (Now ps) (Then ps (message m) 8) idOf id f (held l) (λ r _ s. kept m not-asking r (f r) (still r) s)
       (λ r s. rw (not-asking (r .alias)) s) k)
   shown (taken {m} fresh b) =
       rw (b .rows)

@@ -1,6 +1,6 @@
 -- What holds a SUBSCRIBE back that found all rows in use is only that: no other event can bring a rule against it. Assumes nothing.
 use Prim.Native.Nat.{ℕ, _≤_, _<_}
-use mathlib.Core.Path.{_≡_, ap, _∙_}
+use mathlib.Core.Path.{_≡_, refl, ap, _∙_}
 use mathlib.Core.Bool.{Bool, true, false}
 use mathlib.Core.List.{List, [], _∷_}
 use native.Mathlib.Omega.{arith}
@@ -8,19 +8,19 @@ use borrow.Author.Tests.{ltb-false, leb-false, le-ltb, lt-leb}
 use lib.Dec.{eqb, leb, ltb}
 use Rattle.integer.proofs.Cases.{pick-by}
 use Rattle.field.specs.Outcome.{both}
+use Rattle.field.specs.declared.Place.{Place}
 use Rattle.subscription.specs.declared.Subscribe.{Subscribe}
 use Rattle.subscription.specs.declared.SubscriptionMessage.the-variants.{Subscribe as ASubscribe}
 use Rattle.message.specs.declared.Message.the-variants.{Subscription}
+use Rattle.row.specs.Rows.{countedRow}
 use Rattle.row.specs.declared.Row.{Row}
 use Rattle.ledger.specs.Ledgers.{held, hasAlias, isLedger, isOpen}
 use Rattle.ledger.specs.Answers.{Said, Came, only, breaks}
 use Rattle.ledger.specs.Steps.{idOf, aliasOf, withMaximum, subscribeStep, takeOf}
 use Rattle.ledger.specs.declared.Ledger.{Ledger}
 use Rattle.ledger.specs.declared.Rule.{Rule}
-use Rattle.ledger.proofs.Turning.{Change, turn}
-use Rattle.ledger.proofs.Standing.{Becomes}
-use Rattle.ledger.proofs.Ranks.{Fitting, has-turn}
-use Rattle.ledger.proofs.Replies.{counting}
+use Rattle.ledger.proofs.Turning.{Change, gone, now, turn, Known, has-turn}
+use Rattle.ledger.proofs.Replies.{Becomes, Still, counting}
 use Rattle.history.specs.Events.{Event, message, comes, run, told}
 use Rattle.history.specs.Takings.{isSubscribe, NoneTaken}
 use Rattle.history.proofs.Gate.{Refusal, not-a-ledger, forbidden, closed, isSound, comes-by, passed}
@@ -81,14 +81,22 @@ module _ (l : Ledger) (m : Subscribe) where
   broken-waits true rule k w = w
   broken-waits false rule k w = record { ledger = k; new = w .new; below = w .below; fresh = w .fresh }
 
-  turned-waits : (key : Row → ℕ) (n : ℕ) (f : Row → Change) {after : Ledger} → Fitting key n f (held l) → Becomes l (l .next) (turn key n f (held l)) after → isLedger after ≡ true → Waits m l → Waits m after
-  turned-waits key n f fits b k w =
+  turned-waits : (key : Row → ℕ) (n : ℕ) (f : Row → Change) {after : Ledger} → ((r : Row) → Known aliasOf r (f r)) → Becomes l (l .next) (turn key n f (held l)) after → isLedger after ≡ true → Waits m l → Waits m after
+  turned-waits key n f keeps b k w =
       record {
         ledger = k;
         new = rw (b .next) (w .new);
         below = rw (b .maximum) (w .below);
-        fresh = rw (b .rows) (has-turn key n f (m .alias) (held l) fits (w .fresh));
+        fresh = rw (b .rows) (has-turn key n f keeps (m .alias) (held l) (w .fresh));
       }
+
+  counted-alias : (place : Place) (r : Row) → Known aliasOf r (counting place r)
+  unfolding countedRow
+  counted-alias place r = refl
+
+  still-alias : (r : Row) (c : Change) → Still r c → Known aliasOf r c
+  still-alias r gone s = tt
+  still-alias r (now x) s = s .alias
 
   raised-waits : (id : ℕ) → l .maximum < id → isLedger (withMaximum l id) ≡ true → Waits m l → Waits m (withMaximum l id)
   unfolding held
@@ -97,8 +105,8 @@ module _ (l : Ledger) (m : Subscribe) where
   waits-on : {e : Event} {c : Came} → Moves l e c → isLedger (c .next) ≡ true → both (eqb (c .says .number) 8) (isSubscribe e) ≡ false → Waits m l → Waits m (c .next)
   waits-on (stayed q) k none w = w
   waits-on (broken own rule p) k none w = broken-waits own rule k w
-  waits-on (counted {a} v fits b) k none w = turned-waits aliasOf (a .alias) (counting (a .place)) fits b k w
-  waits-on (turned id f not-asking fits still b) k none w = turned-waits idOf id f fits b k w
+  waits-on (counted {a} v b) k none w = turned-waits aliasOf (a .alias) (counting (a .place)) (counted-alias (a .place)) b k w
+  waits-on (turned id f not-asking still b) k none w = turned-waits idOf id f (λ r. still-alias r (f r) (still r)) b k w
   waits-on (taken fresh b) k none w = absurd (let z : _≡_ {A = ℕ} 0 1 = cc in omega arith)
   waits-on (raised {id} more) k none w = raised-waits id more k w
 

@@ -18,7 +18,7 @@ use Rattle.ledger.specs.Steps.{startOf, takeOf, arrivalOf}
 use Rattle.ledger.specs.declared.Ledger.{Ledger}
 use Rattle.ledger.specs.declared.Part.{Part}
 use Rattle.ledger.proofs.Facts.{parts}
-use Rattle.ledger.proofs.Keeping.{start-ledger}
+use Rattle.ledger.proofs.Keeps.{starts}
 use Rattle.history.specs.Events.{Event, message, arrival, run, told}
 use Rattle.history.specs.Orders.{Reordered, Names, EitherOrder, Exchanged}
 use Rattle.history.specs.Counts.{counted, greatestOf, Shows, Each, Among}
@@ -95,7 +95,7 @@ eleven-is-a-promise = promised
 -- 6. After any history from an accepted start, rows rise strictly by ID, none above the highest accepted, and aliases are distinct.
 pub rows-rise-and-aliases-differ : (part : Part) (capacity maximum : ℕ) (es : List Event) → startOf part capacity maximum .says ≡ only 8 → let after = run (startOf part capacity maximum .next) es in (rising 0 (after .next) (held after) ≡ true) × (distinct (held after) ≡ true)
 rows-rise-and-aliases-differ part capacity maximum es e =
-    let w = parts _ (run-keeps (startOf part capacity maximum .next) es (start-ledger part capacity maximum e)) in
+    let w = parts _ (run-keeps (startOf part capacity maximum .next) es (starts part capacity maximum e)) in
     (w .rises, w .apart)
 
 -- What is a ledger stays one through any history.

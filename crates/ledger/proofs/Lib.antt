@@ -18,9 +18,5 @@ pub mod Same
 pub mod Naming
 pub mod Running
 pub mod Turning
-pub mod Standing
 pub mod Replies
-pub mod Ranks
-pub mod Sounded
-pub mod Keeping
-pub mod Known
+pub mod Asking

@@ -3,5 +3,4 @@ pub mod Counts
 pub mod Endings
 pub mod Facts
 pub mod Keeping
-pub mod Staying
 pub mod Ordering
