@@ -11,7 +11,7 @@ mod writer;
 use field::Place;
 use field::Span;
 
-// What was sent is read, and leads to arrivals;
+// What was sent is read,
 pub use datagrams::read_datagram;
 pub use objects::read_fetch_object;
 pub use objects::read_subgroup_object;

@@ -17,3 +17,6 @@ pub mod Once
 pub mod Same
 pub mod Naming
 pub mod Running
+pub mod Turning
+pub mod Replies
+pub mod Asking

@@ -43,7 +43,7 @@ module _ (l : Ledger) where
   unfolding held changed
   held-changed i r h = take-set-lt (l .used) (l .rows) i r h
 
-  held-at : (i : ℕ) (d : Row) → i < l .used → getD (held l) i d ≡ getD (l .rows) i d
+  pub held-at : (i : ℕ) (d : Row) → i < l .used → getD (held l) i d ≡ getD (l .rows) i d
   unfolding held
   held-at i d h = getD-take (l .used) (l .rows) i d h
 

@@ -3,3 +3,4 @@ pub mod Counts
 pub mod Endings
 pub mod Facts
 pub mod Keeping
+pub mod Ordering

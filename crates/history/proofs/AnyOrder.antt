@@ -1,0 +1,75 @@
+-- Histories that differ by exchanges of neighbours lead to one ledger, and each event keeps its answer. Assumes nothing.
+use mathlib.Core.Path.{_≡_, refl, sym, ap, subst, _∙_}
+use mathlib.Core.List.{List, [], _∷_, _++_, map}
+use Rattle.field.specs.declared.Arrival.{Arrival}
+use Rattle.ledger.specs.Answers.{Said}
+use Rattle.ledger.specs.Steps.{arrivalOf}
+use Rattle.ledger.specs.declared.Ledger.{Ledger}
+use Rattle.history.specs.Events.{Event, arrival, comes, run, Told, told}
+use Rattle.history.specs.Orders.{Reordered, EitherOrder, Exchanged}
+use Rattle.history.proofs.Exchanging.{arrivals-either, messages-either}
+
+-- ---- an exchange of two neighbours
+
+abbrev answered : Event → Said → Told
+answered e says = record { event = e; says = says }
+
+module _ {l : Ledger} {e f : Event} (x : EitherOrder l e f) (es : List Event) where
+  run-either : run l (e ∷ f ∷ es) ≡ run l (f ∷ e ∷ es)
+  unfolding run
+  run-either = ap (λ (k : Ledger). run k es) (x .next)
+
+  told-either : Reordered (told l (e ∷ f ∷ es)) (told l (f ∷ e ∷ es))
+  unfolding told
+  told-either =
+      subst (Reordered (told l (e ∷ f ∷ es)))
+      (λ i. answered f (x .second i) ∷ answered e (sym (x .first) i) ∷ told (x .next i) es) Reordered.swap
+
+-- ---- histories
+
+pub run-exchanged : {l : Ledger} {es fs : List Event} → Exchanged l es fs → run l es ≡ run l fs
+unfolding run
+run-exchanged Exchanged.same = refl
+run-exchanged (Exchanged.arrivals {l} {a} {b} {es}) = run-either (arrivals-either l a b) es
+run-exchanged (Exchanged.messages {l} {es = es} m n other opened) = run-either (messages-either l m n other opened) es
+run-exchanged (Exchanged.after x) = run-exchanged x
+run-exchanged (Exchanged.then x y) = run-exchanged x ∙ run-exchanged y
+
+pub told-exchanged : {l : Ledger} {es fs : List Event} → Exchanged l es fs → Reordered (told l es) (told l fs)
+unfolding run told
+told-exchanged Exchanged.same = Reordered.same
+told-exchanged (Exchanged.arrivals {l} {a} {b} {es}) = told-either (arrivals-either l a b) es
+told-exchanged (Exchanged.messages {l} {es = es} m n other opened) = told-either (messages-either l m n other opened) es
+told-exchanged (Exchanged.after x) = Reordered.after (told-exchanged x)
+told-exchanged (Exchanged.then x y) = Reordered.then (told-exchanged x) (told-exchanged y)
+
+-- ---- arrivals between two parts of a history
+
+among : (l : Ledger) {xs ys : List Arrival} (later : List Event) → Reordered xs ys → Exchanged l (map arrival xs ++ later) (map arrival ys ++ later)
+among l later Reordered.same = Exchanged.same
+among l later Reordered.swap = Exchanged.arrivals
+among l later (Reordered.after {x} r) = Exchanged.after (among (comes l (arrival x) .next) later r)
+among l later (Reordered.then r s) = Exchanged.then (among l later r) (among l later s)
+
+behind : (l : Ledger) (es : List Event) {fs gs : List Event} → Exchanged (run l es) fs gs → Exchanged l (es ++ fs) (es ++ gs)
+unfolding run
+behind l [] x = x
+behind l (e ∷ es) x = Exchanged.after (behind (comes l e .next) es x)
+
+pub between : (l : Ledger) (es : List Event) {xs ys : List Arrival} (later : List Event) → Reordered xs ys → Exchanged l (es ++ (map arrival xs ++ later)) (es ++ (map arrival ys ++ later))
+between l es later r = behind l es (among (run l es) later r)
+
+-- each is answered as if it came first
+abbrev alone : Ledger → Arrival → Told
+alone l a = answered (arrival a) (arrivalOf l a .says)
+
+alone-behind : (l : Ledger) (a : Arrival) (xs : List Arrival) → map (alone (arrivalOf l a .next)) xs ≡ map (alone l) xs
+alone-behind l a [] = refl
+alone-behind l a (b ∷ xs) =
+    λ i. answered (arrival b) (arrivals-either l a b .second i) ∷ alone-behind l a xs i
+
+pub told-alone : (l : Ledger) (xs : List Arrival) → told l (map arrival xs) ≡ map (alone l) xs
+unfolding told
+told-alone l [] = refl
+told-alone l (a ∷ xs) =
+    ap (λ (t : List Told). alone l a ∷ t) (told-alone (arrivalOf l a .next) xs ∙ alone-behind l a xs)

@@ -1,0 +1,12 @@
+pub mod Gate
+pub mod Keeping
+pub mod Moves
+pub mod Closing
+pub mod Acting
+pub mod Touching
+pub mod Exchanging
+pub mod AnyOrder
+pub mod Meaning
+pub mod Foremost
+pub mod Promise
+pub mod Theorems

@@ -1,0 +1,103 @@
+-- What holds of every history of a ledger. Each theorem with its sentence, and nothing else. Assumes nothing.
+use Prim.Native.Nat.{ℕ, _<_}
+use mathlib.Core.Path.{_≡_}
+use mathlib.Core.Bool.{true, false, not}
+use mathlib.Core.List.{List, [], _∷_, _++_, map}
+use mathlib.Core.Logic.{_↔_}
+use Rattle.field.specs.declared.Arrival.{Arrival}
+use Rattle.field.specs.declared.Place.{Place}
+use Rattle.subscription.specs.declared.Subscribe.{Subscribe}
+use Rattle.subscription.specs.declared.SubscriptionMessage.the-variants.{Subscribe as ASubscribe}
+use Rattle.message.specs.declared.Message.{Message}
+use Rattle.message.specs.declared.Message.the-variants.{Subscription}
+use Rattle.row.specs.Places.{before}
+use Rattle.row.specs.declared.Greatest.the-variants.{Nowhere, At}
+use Rattle.ledger.specs.Answers.{only}
+use Rattle.ledger.specs.Ledgers.{held, rising, distinct, isLedger, isOpen}
+use Rattle.ledger.specs.Steps.{startOf, takeOf, arrivalOf}
+use Rattle.ledger.specs.declared.Ledger.{Ledger}
+use Rattle.ledger.specs.declared.Part.{Part}
+use Rattle.ledger.proofs.Facts.{parts}
+use Rattle.ledger.proofs.Keeps.{starts}
+use Rattle.history.specs.Events.{Event, message, arrival, run, told}
+use Rattle.history.specs.Orders.{Reordered, Names, EitherOrder, Exchanged}
+use Rattle.history.specs.Counts.{counted, greatestOf, Shows, Each, Among}
+use Rattle.history.specs.Closings.{anyBroken, firstBroken, kept}
+use Rattle.history.specs.Takings.{NoneTaken}
+use Rattle.history.proofs.Keeping.{run-keeps}
+use Rattle.history.proofs.Closing.{closed-later, open-after, kept-after}
+use Rattle.history.proofs.Exchanging.{messages-either, open-either}
+use Rattle.history.proofs.AnyOrder.{run-exchanged, told-exchanged, between, told-alone}
+use Rattle.history.proofs.Meaning.{shown-from-start}
+use Rattle.history.proofs.Foremost.{nowhere-only, none-nowhere, among, none-after}
+use Rattle.history.proofs.Promise.{promised}
+
+-- 1. Arrivals between two control messages may come in any order: the ledger ends the same.
+pub arrivals-in-any-order : (l : Ledger) (earlier : List Event) {xs ys : List Arrival} (later : List Event) → Reordered xs ys → run l (earlier ++ (map arrival xs ++ later)) ≡ run l (earlier ++ (map arrival ys ++ later))
+arrivals-in-any-order l earlier later r = run-exchanged (between l earlier later r)
+
+-- Whatever their order, each arrival keeps its own answer, and so does every other event.
+pub arrivals-keep-their-answers : (l : Ledger) (earlier : List Event) {xs ys : List Arrival} (later : List Event) → Reordered xs ys → Reordered (told l (earlier ++ (map arrival xs ++ later))) (told l (earlier ++ (map arrival ys ++ later)))
+arrivals-keep-their-answers l earlier later r = told-exchanged (between l earlier later r)
+
+-- Of arrivals that follow each other, each is answered as if it came first.
+pub arrivals-answered-as-if-first : (l : Ledger) (xs : List Arrival) → told l (map arrival xs) ≡ map (λ a. record { event = arrival a; says = arrivalOf l a .says }) xs
+arrivals-answered-as-if-first = told-alone
+
+-- 2. Two neighbouring messages that name different subscriptions, neither being SUBSCRIBE, may change places where the session is
+-- open after both: the ledger is the same, and each keeps its own answer.
+pub messages-in-either-order : (l : Ledger) {m n : Message} {i j : ℕ} → Names m i → Names n j → (i ≡ j → ⊥) → isOpen (run l (message m ∷ message n ∷ []) .session) ≡ true → EitherOrder l (message m) (message n)
+unfolding run
+messages-in-either-order = messages-either
+
+-- Then the session is open after both in the other order too.
+pub open-in-either-order : (l : Ledger) {m n : Message} {i j : ℕ} → Names m i → Names n j → (i ≡ j → ⊥) → isOpen (run l (message m ∷ message n ∷ []) .session) ≡ true → isOpen (run l (message n ∷ message m ∷ []) .session) ≡ true
+unfolding run
+open-in-either-order = open-either
+
+-- Histories that differ by any number of such exchanges, of arrivals or of messages, lead to the same ledger.
+pub exchanged-histories-agree : {l : Ledger} {es fs : List Event} → Exchanged l es fs → run l es ≡ run l fs
+exchanged-histories-agree = run-exchanged
+
+-- In histories that differ by such exchanges, each event keeps its own answer.
+pub exchanged-histories-keep-their-answers : {l : Ledger} {es fs : List Event} → Exchanged l es fs → Reordered (told l es) (told l fs)
+exchanged-histories-keep-their-answers = told-exchanged
+
+-- 3. After any history, a row's count is the number of 16s answered for its alias since its SUBSCRIBE was accepted, up to
+-- 4,294,967,295, and its place is the greatest of their places.
+pub rows-tell-their-history : (part : Part) (capacity maximum : ℕ) (es : List Event) → let l = startOf part capacity maximum .next in Each (λ r. Shows r (counted (r .alias) [] (told l es))) (held (run l es))
+rows-tell-their-history = shown-from-start
+
+-- Places have no greatest exactly when there are none.
+pub no-greatest-of-none : (ps : List Place) → (greatestOf ps ≡ Nowhere) ↔ (ps ≡ [])
+no-greatest-of-none ps = (nowhere-only ps, none-nowhere ps)
+
+-- The greatest of places is one of them, and none of them stands after it.
+pub greatest-is-last : (ps : List Place) (g : Place) → greatestOf ps ≡ At g → Among g ps × Each (λ p. before g p ≡ false) ps
+greatest-is-last ps g e = (among ps g e, none-after ps g e)
+
+-- 4. A session is closed after a history exactly when a message of the peer's, or malformed bytes, broke a rule in it.
+pub closed-by-the-peer-alone : (l : Ledger) (es : List Event) → isOpen (l .session) ≡ true → isOpen (run l es .session) ≡ not (anyBroken (l .part) (told l es))
+closed-by-the-peer-alone = open-after
+
+-- The rule that is kept is the one that the first of them broke.
+pub first-broken-rule-is-kept : (l : Ledger) (es : List Event) → isOpen (l .session) ≡ true → kept (run l es .session) ≡ firstBroken (l .part) (told l es)
+first-broken-rule-is-kept = kept-after
+
+-- Once the session is closed, nothing changes the ledger.
+pub closed-for-good : (l : Ledger) (es later : List Event) → isOpen (run l es .session) ≡ false → run l (es ++ later) ≡ run l es
+closed-for-good = closed-later
+
+-- 5. A SUBSCRIBE that was answered 11 is taken once a row is free, if no SUBSCRIBE was taken between and the session is open.
+pub eleven-is-a-promise : (l : Ledger) (m : Subscribe) (es : List Event) → takeOf l (Subscription (ASubscribe m)) .says ≡ only 11 → NoneTaken (told l es) → isOpen (run l es .session) ≡ true → run l es .used < run l es .capacity → takeOf (run l es) (Subscription (ASubscribe m)) .says ≡ only 8
+eleven-is-a-promise = promised
+
+-- 6. After any history from an accepted start, rows rise strictly by ID, none above the highest accepted, and aliases are distinct.
+pub rows-rise-and-aliases-differ : (part : Part) (capacity maximum : ℕ) (es : List Event) → startOf part capacity maximum .says ≡ only 8 → let after = run (startOf part capacity maximum .next) es in (rising 0 (after .next) (held after) ≡ true) × (distinct (held after) ≡ true)
+rows-rise-and-aliases-differ part capacity maximum es e =
+    let w = parts _ (run-keeps (startOf part capacity maximum .next) es (starts part capacity maximum e)) in
+    (w .rises, w .apart)
+
+-- What is a ledger stays one through any history.
+pub always-a-ledger : (l : Ledger) (es : List Event) → isLedger l ≡ true → isLedger (run l es) ≡ true
+always-a-ledger = run-keeps
