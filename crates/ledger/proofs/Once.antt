@@ -2,14 +2,19 @@
 -- ledger. Assumes nothing.
 use Prim.Native.Nat.{ℕ}
 use mathlib.Core.Path.{_≡_, refl, sym, ap, _∙_}
+use mathlib.Core.List.{List}
 use lib.Dec.{eqb}
-use Rattle.integer.specs.Answer.{pick}
+use Rattle.integer.specs.Answer.{pick, Answer as AnswerOf, whole, refused, Nothing}
 use Rattle.ledger.specs.Answers.{ruleNumber, Said, only, said, Came, told}
 use Rattle.ledger.specs.declared.Rule.{Rule}
 use Rattle.ledger.specs.declared.Rule.the-variants.{R1, R2, R3, R4, R5, R6, R7}
 use Rattle.ledger.specs.declared.Answer.{Answer}
 use Rattle.ledger.specs.declared.Answer.the-variants.{Forbidden, Done, NotKept, AlreadyClosed, Full, Stale, Breaks, NotALedger, StartRefused, Counted, Outside, NoRow, StillPending}
 use Rattle.ledger.specs.declared.Taken.{Taken}
+use Rattle.ledger.specs.declared.Filled.{Filled}
+use Rattle.ledger.specs.declared.Filled.the-variants.{Done as Enough, TooShort}
+use Rattle.ledger.specs.declared.Ran.{Ran}
+use Rattle.ledger.specs.Runs.{Run, saying, Runs}
 
 -- the rule of a number, and the answer of a number and a rule
 ruleOf : ℕ → Rule
@@ -65,3 +70,21 @@ pub told-once : (a b : Taken) → told a ≡ told b → a ≡ b
 told-once a b e =
     let answers = said-once (a .answer) (b .answer) (ap (λ (c : Came). c .says) e) in
     λ i. record { answer = answers i; ledger = e i .next }
+
+-- ---- a run
+
+filledOf : AnswerOf Nothing → Filled
+filledOf (whole n used) = Enough used
+filledOf (refused n) = TooShort
+
+filled-back : (f : Filled) → filledOf (saying f) ≡ f
+unfolding filledOf
+filled-back (Enough count) = refl
+filled-back TooShort = refl
+
+-- two runs that do the same are the same
+pub ran-once : (w : Run) (a b : Ran) (before after : List ℕ) → Runs w a before → Runs w b after → (a ≡ b) × (before ≡ after)
+ran-once w a b before after p q =
+    let says = sym (filled-back (a .answer)) ∙ ap filledOf (p .says ∙ sym (q .says)) ∙ filled-back (b .answer) in
+    let next = p .next ∙ sym (q .next) in
+    ((λ i. record { answer = says i; ledger = next i }), p .holds ∙ sym (q .holds))
