@@ -1,0 +1,125 @@
+-- Bytes that are fed one by one come to the fields that stand among them, however they are cut. Assumes nothing.
+use Prim.Native.Nat.{ℕ, zero, suc, _+_, _≤_, _<_}
+use mathlib.Core.Path.{_≡_, refl, sym, ap, _∙_}
+use mathlib.Core.Bool.{Bool, true, false}
+use mathlib.Core.List.{List, [], _∷_, _++_}
+use native.Mathlib.Nat.{not-suc-le-zero}
+use native.Mathlib.Omega.{arith}
+use borrow.Author.Tests.{le-leb, lt-leb, leb-true, leb-false}
+use lib.Dec.{leb}
+use lib.ListN.{length, getD, take, drop, take-append-drop}
+use lib.Seq.{length-take-le, getD-take, take-suc, take-all}
+use Rattle.field.specs.Outcome.{both}
+use Rattle.trace.specs.Fields.{sizeOf, isWhole}
+use Rattle.trace.specs.Feeding.{Held, take as takeByte, feed}
+
+-- true is not false
+differ : true ≡ false → ⊥
+differ e = let z : _≡_ {A = ℕ} 0 1 = cc in omega arith
+
+-- ---- what begins a field
+
+-- three bytes tell its size
+size-take : (k : ℕ) (s : List ℕ) → 3 ≤ k → sizeOf (take k s) ≡ sizeOf s
+unfolding sizeOf
+size-take k s h = rw (getD-take k s 1 0 (omega arith), getD-take k s 2 0 (omega arith))
+
+-- fewer bytes than three, or than its size, are none yet
+not-yet : (s : List ℕ) (k : ℕ) → k ≤ length s → (3 ≤ k → k < sizeOf s) → isWhole (take k s) ≡ false
+unfolding isWhole
+not-yet s k fits less = go (leb 3 k) refl
+  where
+    len : length (take k s) ≡ k
+    len = length-take-le k s fits
+
+    go : (b : Bool) → leb 3 k ≡ b → both (leb 3 (length (take k s))) (leb (sizeOf (take k s)) (length (take k s))) ≡ false
+    go false e = rw (len, e)
+    go true e =
+        let h = leb-true 3 k e in
+        rw (len, e, size-take k s h, lt-leb (sizeOf s) k (less h))
+
+-- bytes at whose front a field stands have three, and its size
+whole-fits : (s : List ℕ) → isWhole s ≡ true → (3 ≤ length s) × (sizeOf s ≤ length s)
+unfolding isWhole
+whole-fits s e = go (leb 3 (length s)) refl (leb (sizeOf s) (length s)) refl
+  where
+    go : (b : Bool) → leb 3 (length s) ≡ b → (d : Bool) → leb (sizeOf s) (length s) ≡ d → (3 ≤ length s) × (sizeOf s ≤ length s)
+    go true f true g = (leb-true 3 (length s) f, leb-true (sizeOf s) (length s) g)
+    go true f false g = absurd (differ (sym (rw (f, g) at e)))
+    go false f d g = absurd (differ (sym (rw f at e)))
+
+-- and where none stands they have less than its size
+cut-short : (s : List ℕ) → isWhole s ≡ false → 3 ≤ length s → length s < sizeOf s
+unfolding isWhole
+cut-short s e h = go (leb (sizeOf s) (length s)) refl
+  where
+    go : (d : Bool) → leb (sizeOf s) (length s) ≡ d → length s < sizeOf s
+    go true g = absurd (differ (rw (le-leb 3 (length s) h, g) at e))
+    go false g = leb-false (sizeOf s) (length s) g
+
+-- a size is three at least
+size-head : (s : List ℕ) → 3 ≤ sizeOf s
+unfolding sizeOf
+size-head s = omega arith
+
+-- a field is whole with its last byte
+whole-then : (s : List ℕ) → isWhole s ≡ true → isWhole (take (sizeOf s) s) ≡ true
+unfolding isWhole
+whole-then s e =
+    let w = whole-fits s e in
+    let len = length-take-le (sizeOf s) s (w .1) in
+    rw (len, size-take (sizeOf s) s (size-head s), le-leb 3 (sizeOf s) (size-head s), le-leb (sizeOf s) (sizeOf s) (omega arith))
+
+-- ---- feeding
+
+module _ {A : Type 0} (step : A → List ℕ → A) where
+  abbrev holding : A → List ℕ → Held A
+  holding a rest = record { soFar = a; rest = rest }
+
+  -- It doesn't matter where bytes are cut.
+  pub feed-cut : (h : Held A) (s t : List ℕ) → feed step h (s ++ t) ≡ feed step (feed step h s) t
+  unfolding feed
+  feed-cut h [] t = refl
+  feed-cut h (byte ∷ s) t = feed-cut (takeByte step h byte) s t
+
+  -- one byte more
+  feed-one : (h : Held A) (byte : ℕ) → feed step h (byte ∷ []) ≡ takeByte step h byte
+  unfolding feed
+  feed-one h byte = refl
+
+  -- as long as no field is whole, the bytes are held
+  feed-part : (a : A) (s : List ℕ) (n : ℕ) → n ≤ length s → ((k : ℕ) → k ≤ n → isWhole (take k s) ≡ false) → feed step (holding a []) (take n s) ≡ holding a (take n s)
+  unfolding feed takeByte
+  feed-part a s zero h none = refl
+  feed-part a s (suc n) h none =
+      let e = take-suc s n 0 (omega arith) in
+      rw (e, feed-cut (holding a []) (take n s) (getD s n 0 ∷ []), feed-part a s n (omega arith) (λ k l. none k (omega arith)), feed-one (holding a (take n s)) (getD s n 0), ← e, none (suc n) (omega arith))
+
+  -- and with its last byte a field is a step
+  feed-field : (a : A) (s : List ℕ) (n : ℕ) → suc n ≤ length s → ((k : ℕ) → k ≤ n → isWhole (take k s) ≡ false) → isWhole (take (suc n) s) ≡ true → feed step (holding a []) (take (suc n) s) ≡ holding (step a (take (suc n) s)) []
+  unfolding takeByte
+  feed-field a s n h none now =
+      let e = take-suc s n 0 (omega arith) in
+      rw (e, feed-cut (holding a []) (take n s) (getD s n 0 ∷ []), feed-part a s n (omega arith) none, feed-one (holding a (take n s)) (getD s n 0), ← e, now)
+
+  -- ---- what stands at the front of bytes
+
+  -- Where no field does, all bytes are held.
+  pub fed-none : (a : A) (s : List ℕ) → isWhole s ≡ false → feed step (holding a []) s ≡ holding a s
+  fed-none a s e =
+      let all = take-all (length s) s (omega arith) in
+      ap (feed step (holding a [])) (sym all)
+      ∙ feed-part a s (length s) (omega arith) (λ k h. not-yet s k h (λ three. omega (arith, cut-short s e (omega arith))))
+      ∙ ap (holding a) all
+
+  -- Where one does, it is a step, and what is behind it is fed on.
+  pub fed-field : (a : A) (s : List ℕ) → isWhole s ≡ true → feed step (holding a []) s ≡ feed step (holding (step a (take (sizeOf s) s)) []) (drop (sizeOf s) s)
+  fed-field a s e = go (sizeOf s) refl
+    where
+      go : (n : ℕ) → sizeOf s ≡ n → feed step (holding a []) s ≡ feed step (holding (step a (take n s)) []) (drop n s)
+      go zero z = absurd (not-suc-le-zero (rw z at (size-head s)))
+      go (suc n) z =
+          let w = whole-fits s e in
+          ap (feed step (holding a [])) (sym (take-append-drop (suc n) s))
+          ∙ feed-cut (holding a []) (take (suc n) s) (drop (suc n) s)
+          ∙ ap (λ (h : Held A). feed step h (drop (suc n) s)) (feed-field a s n (omega (arith, w .1)) (λ k h. not-yet s k (omega (arith, w .1)) (λ three. omega arith)) (rw z at (whole-then s e)))
