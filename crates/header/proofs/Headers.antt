@@ -70,7 +70,7 @@ module _ {A : Type 0} (l : Layout) (said : A → List Piece) (allowed : A → Bo
       record {
         reads-back = λ s a before rest says _.
             let b = bare-back l s (said a) (allowed a) (shape s a) (sizes s a) before rest says in
-            record { found = b .found; reads = ap (answer 1) (b .reads); alike = record { types = refl; fields = b .means } };
+            record { found = b .found; reads = ap (answer 1) (b .reads); same = record { type = refl; values = b .means } };
         no-longer = λ s a before read. fields.no-longer l [] s (said a) (allowed a) (shape s a) before (was-whole (scan l s 0) read) (lit≤ tt);
         only-room = λ s a before read. fields.only-room l [] s (said a) (allowed a) (shape s a) before (was-whole (scan l s 0) read) (lit≤ tt);
         written-again = λ s a before read. fields.written-again l [] s (said a) (allowed a) (shape s a) before (was-whole (scan l s 0) read) (lit≤ tt);
@@ -99,7 +99,7 @@ module _ {A : Type 0} (cut : ℕ) (types : ℕ → Named) (said : A → Typed) (
           reads-back = λ s a before rest {n} says follows.
               let b = typed-back cut types s (shape s a) before (writable s a) rest says in
               let bytes = take n (headerWritten (allowed a) (encOf (said a .type)) s (said a .pieces) before .holds) in
-              record { found = b .found; reads = r .reads a bytes rest (b .alike .types) follows (omega (arith, typed-count cut types s (shape s a) before (writable s a) says)) (b .reads); alike = b .alike };
+              record { found = b .found; reads = r .reads a bytes rest (b .same .type) follows (omega (arith, typed-count cut types s (shape s a) before (writable s a) says)) (b .reads); same = b .same };
           no-longer = λ s a before read. typed-no-longer cut types s (shape s a) before (r .heads s read);
           only-room = λ s a before read. typed-only-room cut types s (shape s a) before (r .heads s read);
           written-again = λ s a before read. typed-written-again cut types s (shape s a) before (r .heads s read);
@@ -123,7 +123,7 @@ stream-kept =
     record {
       reads-back = λ s h before rest says f.
           let b = stream-over .reads-back s h before rest (rw (stream-any s h before) at says) f in
-          rw (stream-any s h before) (record { found = b .found; reads = b .reads; alike = b .alike });
+          rw (stream-any s h before) (record { found = b .found; reads = b .reads; same = b .same });
       no-longer = λ s h before read says. stream-over .no-longer s h before read (rw (stream-any s h before) at says);
       only-room = λ s h before read says. stream-over .only-room s h before read (rw (stream-any s h before) at says);
       written-again = λ s h before read room. rw (stream-any s h before) (stream-over .written-again s h before read room);

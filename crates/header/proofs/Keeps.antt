@@ -16,12 +16,12 @@ use Rattle.field.proofs.Back.{from-start, front, number-back}
 use Rattle.field.proofs.Found.{number-at}
 use Rattle.layout.specs.Layout.{Layout, scan}
 use Rattle.layout.specs.Typed.{Typed}
+use Rattle.layout.specs.Same.{Same}
 use Rattle.shortest.specs.Writing.{sizedAll, encodeAll}
 use Rattle.shortest.proofs.Fitting.{fitting}
 use Rattle.header.specs.Layouts.{Named, known}
 use Rattle.header.specs.Reading.{headedOf}
 use Rattle.header.specs.Writing.{headerWritten}
-use Rattle.header.specs.Laws.{Alike}
 use Rattle.header.proofs.Shape.{Shaped}
 use Rattle.header.proofs.Writes.{Writable}
 use Rattle.header.proofs.Front.{HeadedAt, parts, joined}
@@ -58,7 +58,7 @@ module _ (cut : ℕ) (types : ℕ → Named) (s : List ℕ) {t : Typed} {allowed
   pub record HeaderBack (after : List ℕ) (n : ℕ) : Type 0 where
     pub found : Typed
     pub reads : headedOf cut types after ≡ answered found n
-    pub alike : Alike after found s t
+    pub same : Same after found s t
 
   pub typed-back : Writable s t → (rest : List ℕ) {n : ℕ} → written .says ≡ wrote n → HeaderBack (take n (written .holds) ++ rest) n
   unfolding encodeAll
@@ -76,7 +76,7 @@ module _ (cut : ℕ) (types : ℕ → Named) (s : List ℕ) {t : Typed} {allowed
       (record {
         found = record { type = type; pieces = b .found };
         reads = joined cut types (bytes ++ rest) all ∙ ap (answered (record { type = type; pieces = b .found })) ends;
-        alike = record { types = refl; fields = b .means };
+        same = record { type = refl; values = b .means };
       })
 
   -- its bytes are so many

@@ -1,12 +1,12 @@
 -- What reader and writer of a header owe each other, said once for every header.
 use Prim.Native.Nat.{ℕ, _≤_}
 use mathlib.Core.Path.{_≡_}
-use mathlib.Core.List.{List, [], _++_, map}
+use mathlib.Core.List.{List, [], _++_}
 use mathlib.Core.Bool.{Bool, false}
 use lib.ListN.{length, take}
 use Rattle.integer.specs.Answer.{Answer, whole as answered, refused, wrote, Written}
-use Rattle.field.specs.Value.{mean}
 use Rattle.layout.specs.Typed.{Typed}
+use Rattle.layout.specs.Same.{Same}
 
 -- A header A, of which reading tells B: its type and fields over the bytes s, what reading answers, what writing does, and whether
 -- bytes may follow it
@@ -17,17 +17,11 @@ pub record Codec (A B : Type 0) : Type 0 where
   pub writeOf : List ℕ → A → List ℕ → Written
   pub takesMore : A → Bool
 
--- "Two messages are the same when their numbers are equal and their byte fields equal": headers too, one over the bytes s and the
--- other over r
-pub record Alike (s : List ℕ) (t : Typed) (r : List ℕ) (u : Typed) : Type 0 where
-  pub types : t .type ≡ u .type
-  pub fields : map (mean s) (t .pieces) ≡ map (mean r) (u .pieces)
-
--- a header is read whole, from so many bytes, and it is like another
+-- a header is read whole, from so many bytes, and it is the same as another
 pub record ReadsAs {A B : Type 0} (c : Codec A B) (s : List ℕ) (used : ℕ) (r : List ℕ) (a : A) : Type 0 where
   pub found : B
   pub reads : c .readOf s ≡ answered found used
-  pub alike : Alike s (c .typed found) r (c .typed (c .said a))
+  pub same : Same s (c .typed found) r (c .typed (c .said a))
 
 pub record Kept {A B : Type 0} (c : Codec A B) : Type 0 where
   -- What is written reads back as the same header from exactly the bytes written, whatever follows that may follow.
