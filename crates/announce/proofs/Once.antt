@@ -1,14 +1,9 @@
 -- One possible answer: 01's number and values of a message, and of what was read, lose nothing. Assumes nothing.
-use Prim.Native.Nat.{ℕ}
 use mathlib.Core.Path.{_≡_, refl}
-use mathlib.Core.List.{List}
-use lib.Dec.{eqb}
-use Rattle.integer.specs.Answer.{pick}
-use Rattle.field.specs.declared.Piece.{Piece}
-use Rattle.layout.specs.Typed.{Typed}
-use Rattle.layout.proofs.Parts.{once, entriesIn, failureIn}
+use Rattle.layout.proofs.Parts.{once}
 use Rattle.announce.specs.Layouts.{numberOf}
 use Rattle.announce.specs.Told.{saidOf, told}
+use Rattle.announce.specs.Made.{kindOf, messageOf}
 use Rattle.announce.specs.declared.kinds.Naming.the-variants.{AnnounceOk, Unannounce, SubscribeAnnouncesOk, UnsubscribeAnnounces}
 use Rattle.announce.specs.declared.kinds.Asking.the-variants.{Announce, SubscribeAnnounces}
 use Rattle.announce.specs.declared.kinds.Refusing.the-variants.{AnnounceError, AnnounceCancel, SubscribeAnnouncesError}
@@ -18,18 +13,6 @@ use Rattle.announce.specs.declared.AnnounceMessage.{AnnounceMessage}
 use Rattle.announce.specs.declared.AnnounceMessage.the-variants.{Named as ANamed, Asked as AnAsked, Refused as ARefused}
 use Rattle.announce.specs.declared.AnnounceRead.{AnnounceRead}
 use Rattle.announce.specs.declared.AnnounceRead.the-variants.{Whole, No}
-
--- the kind that a number stands for
-kindOf : ℕ → AnnounceKind
-kindOf type =
-    pick (eqb type 0x6) (Asked Announce)
-    (pick (eqb type 0x7) (Named AnnounceOk)
-    (pick (eqb type 0x8) (Refused AnnounceError)
-    (pick (eqb type 0x9) (Named Unannounce)
-    (pick (eqb type 0xC) (Refused AnnounceCancel)
-    (pick (eqb type 0x11) (Asked SubscribeAnnounces)
-    (pick (eqb type 0x12) (Named SubscribeAnnouncesOk)
-    (pick (eqb type 0x13) (Refused SubscribeAnnouncesError) (Named UnsubscribeAnnounces))))))))
 
 kind-back : (k : AnnounceKind) → kindOf (numberOf k) ≡ k
 unfolding kindOf numberOf
@@ -43,16 +26,7 @@ kind-back (Named SubscribeAnnouncesOk) = refl
 kind-back (Refused SubscribeAnnouncesError) = refl
 kind-back (Named UnsubscribeAnnounces) = refl
 
--- the message that a type and fields say
-abbrev messageBy : AnnounceKind → List Piece → AnnounceMessage
-messageBy (Named k) ps = ANamed k (entriesIn ps 0)
-messageBy (Asked k) ps = AnAsked k (record { namespace = entriesIn ps 0; parameters = entriesIn ps 1 })
-messageBy (Refused k) ps = ARefused k (record { namespace = entriesIn ps 0; failure = failureIn ps 1 })
-
-pub messageOf : Typed → AnnounceMessage
-messageOf t = messageBy (kindOf (t .type)) (t .pieces)
-
--- is the one that was said,
+-- the message that is made of what was said is the one that said it,
 pub message-back : (m : AnnounceMessage) → messageOf (saidOf m) ≡ m
 unfolding messageOf
 message-back (ANamed k n) = rw (kind-back (Named k))

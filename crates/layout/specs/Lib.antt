@@ -3,3 +3,4 @@ pub mod Permitted
 pub mod Inside
 pub mod Typed
 pub mod Same
+pub mod Parts

@@ -1,24 +1,22 @@
--- One possible answer, and one possible content of the buffer: 01's number and values lose nothing. A type and fields are those of one message, which is made of them
--- again, by its family; and so is the answer that tells it. Assumes nothing.
+-- One possible answer, and one possible content of the buffer: 01's number and values lose nothing. A type and fields are those of
+-- one message, which is made of them again, by its family; and so is the answer that tells it. Assumes nothing.
 use Prim.Native.Nat.{ℕ}
 use mathlib.Core.Path.{_≡_, refl, sym, _∙_}
 use mathlib.Core.List.{List}
-use lib.Dec.{eqb, leb}
-use Rattle.integer.specs.Answer.{pick, Answer, whole as answered, refused, Leaves}
-use Rattle.layout.specs.Typed.{Typed}
+use Rattle.integer.specs.Answer.{Leaves}
 use Rattle.layout.proofs.Parts.{once}
 use Rattle.shortest.specs.Writing.{answering}
 use Rattle.shortest.specs.declared.Writing.{Writing}
 use Rattle.shortest.proofs.Once.{answering-once}
-use Rattle.subscription.proofs.Once.{messageOf as subscriptionOf, message-back as subscription-back}
+use Rattle.subscription.proofs.Once.{message-back as subscription-back}
 use Rattle.subscription.specs.Told.{saidOf as subscriptionSaid}
 use Rattle.subscription.specs.declared.SubscriptionMessage.{SubscriptionMessage}
 use Rattle.subscription.specs.declared.SubscriptionMessage.the-variants as subscription
-use Rattle.fetch.proofs.Once.{messageOf as fetchOf, message-back as fetch-back}
+use Rattle.fetch.proofs.Once.{message-back as fetch-back}
 use Rattle.fetch.specs.Told.{saidOf as fetchSaid}
 use Rattle.fetch.specs.declared.FetchMessage.{FetchMessage}
 use Rattle.fetch.specs.declared.FetchMessage.the-variants as fetch
-use Rattle.announce.proofs.Once.{messageOf as announceOf, message-back as announce-back}
+use Rattle.announce.proofs.Once.{message-back as announce-back}
 use Rattle.announce.specs.Told.{saidOf as announceSaid}
 use Rattle.announce.specs.Layouts.{numberOf as announceNumber}
 use Rattle.announce.specs.declared.kinds.Naming.the-variants as naming
@@ -26,11 +24,12 @@ use Rattle.announce.specs.declared.kinds.Asking.the-variants as asking
 use Rattle.announce.specs.declared.kinds.Refusing.the-variants as refusing
 use Rattle.announce.specs.declared.AnnounceMessage.{AnnounceMessage}
 use Rattle.announce.specs.declared.AnnounceMessage.the-variants as announce
-use Rattle.session.proofs.Once.{messageOf as sessionOf, message-back as session-back}
+use Rattle.session.proofs.Once.{message-back as session-back}
 use Rattle.session.specs.Told.{saidOf as sessionSaid}
 use Rattle.session.specs.declared.SessionMessage.{SessionMessage}
 use Rattle.session.specs.declared.SessionMessage.the-variants as session
 use Rattle.message.specs.Types.{saidOf}
+use Rattle.message.specs.Made.{subscribing, retrieving, announcing, setting, familyOf, messageOf, answerOf}
 use Rattle.message.specs.Reading.{readOf, told}
 use Rattle.message.specs.Writing.{writeOf}
 use Rattle.message.specs.declared.Message.{Message}
@@ -39,27 +38,6 @@ use Rattle.message.specs.declared.Reading.{Reading}
 use Rattle.message.specs.declared.Reading.the-variants.{Whole, More, Unknown, TooLong, Unfilled, Forbidden, Oversize}
 
 -- ---- the families, by the numbers of their types
-
--- what a message is about
-data Family : Type 0 where
-  subscribing : Family
-  retrieving : Family
-  announcing : Family
-  setting : Family
-
--- the family whose a number is; of a number that is no type, any
-familyOf : ℕ → Family
-familyOf type =
-    pick (leb type 0x5) subscribing
-    (pick (leb type 0x9) announcing
-    (pick (leb type 0xB) subscribing
-    (pick (leb type 0xC) announcing
-    (pick (leb type 0xE) retrieving
-    (pick (leb type 0x10) setting
-    (pick (leb type 0x14) announcing
-    (pick (leb type 0x15) subscribing
-    (pick (leb type 0x19) retrieving
-    (pick (leb type 0x1A) subscribing setting)))))))))
 
 -- each message has a number of its family
 of-subscription : (m : SubscriptionMessage) → familyOf (subscriptionSaid m .type) ≡ subscribing
@@ -99,28 +77,6 @@ unfolding familyOf
 of-session (session.ClientSetup m) = refl
 of-session (session.ServerSetup m) = refl
 of-session (session.GoAway uri) = refl
-
--- ---- the message that a type and fields are of
-
--- made by its family
-abbrev messageBy : Family → Typed → Message
-messageBy subscribing t = Subscription (subscriptionOf t)
-messageBy retrieving t = Fetch (fetchOf t)
-messageBy announcing t = Announce (announceOf t)
-messageBy setting t = Session (sessionOf t)
-
-messageOf : Typed → Message
-messageOf t = messageBy (familyOf (t .type)) t
-
--- and the answer that says so
-abbrev refusalOf : ℕ → Reading
-refusalOf n =
-    pick (eqb n 1) More
-    (pick (eqb n 2) Unknown (pick (eqb n 3) TooLong (pick (eqb n 4) Unfilled (pick (eqb n 5) Forbidden Oversize))))
-
-answerOf : Answer Typed → Reading
-answerOf (answered t used) = Whole (messageOf t) used
-answerOf (refused n) = refusalOf n
 
 -- ---- they are the ones that were told
 

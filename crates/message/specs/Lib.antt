@@ -3,3 +3,4 @@ pub mod Reading
 pub mod Names
 pub mod Writing
 pub mod Sound
+pub mod Made
