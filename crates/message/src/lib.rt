@@ -17,6 +17,7 @@ use session::kinds::SessionKind;
 pub use sound::is_sound;
 use subscription::SubscriptionMessage;
 use subscription::kinds::SubscriptionKind;
+pub use writer::number;
 pub use writer::write;
 
 // The longest body that is read or written.

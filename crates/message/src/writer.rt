@@ -31,6 +31,14 @@ pub fn fields(m: Message) -> Fields
     }
 }
 
+// The number of a message's type.
+pub fn number(m: Message) -> u64
+    ensures { λ r. ⌜ r ≡ saidOf m .type ⌝ }
+{
+    let f = fields(m);
+    f.kind
+}
+
 // Whether a message holds no forbidden value.
 pub fn is_allowed(m: Message) -> bool
     ensures { λ r. ⌜ r ≡ allowedOf m ⌝ }
