@@ -14,21 +14,20 @@ use Rattle.integer.specs.Integer.{spell, bytesOf, room}
 
 -- ---- what bytes spell
 
--- one byte more at the end
-pub spell-snoc : (n : ℕ) (xs : List ℕ) (x : ℕ) → spell n (xs ++ x ∷ []) ≡ spell n xs * 256 + x
-unfolding spell
-spell-snoc n [] x = refl
-spell-snoc n (y ∷ ys) x = spell-snoc (n * 256 + y) ys x
-
--- a turn of the loop that gathers
-pub spell-next : (s : List ℕ) (i : ℕ) → i < length s → spell 0 (take (i + 1) s) ≡ spell 0 (take i s) * 256 + getD s i 0
-spell-next s i h = rw (add-one, take-suc s i 0, spell-snoc)
-
 -- more bytes at the end
 spell-append : (n : ℕ) (xs ys : List ℕ) → spell n (xs ++ ys) ≡ spell (spell n xs) ys
 unfolding spell
 spell-append n [] ys = refl
 spell-append n (x ∷ xs) ys = spell-append (n * 256 + x) xs ys
+
+-- one byte more
+pub spell-snoc : (n : ℕ) (xs : List ℕ) (x : ℕ) → spell n (xs ++ x ∷ []) ≡ spell n xs * 256 + x
+unfolding spell
+spell-snoc n xs x = spell-append n xs (x ∷ [])
+
+-- a turn of the loop that gathers
+pub spell-next : (s : List ℕ) (i : ℕ) → i < length s → spell 0 (take (i + 1) s) ≡ spell 0 (take i s) * 256 + getD s i 0
+spell-next s i h = rw (add-one, take-suc s i 0, spell-snoc)
 
 -- what stands before bytes counts once for all that they can spell
 spell-from : (n : ℕ) (xs : List ℕ) → spell n xs ≡ n * 256 ^ length xs + spell 0 xs
