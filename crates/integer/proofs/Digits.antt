@@ -7,30 +7,63 @@ use native.Mathlib.Numerals.{add-one, sub-one}
 use native.Mathlib.Omega.{arith}
 use lib.Arith.{digits-lt}
 use lib.Dec.{lit<}
-use lib.ListN.{length, getD, take, drop, set, length-append, length-set, List·getD-append}
+use lib.ListN.{length, getD, take, drop, set, length-append, length-drop, length-set, take-append-drop, List·getD-append}
 use lib.Pow.{pow-add, pow-pos, pow-mono}
-use lib.Seq.{take-suc, drop-cons, getD-set-same, drop-set-lt}
+use lib.Seq.{length-take-le, take-append-add, take-suc, drop-cons, getD-set-same, drop-set-lt}
 use Rattle.integer.specs.Integer.{spell, bytesOf, room}
 
 -- ---- what bytes spell
 
--- one byte more at the end
+-- more bytes at the end
+spell-append : (n : ℕ) (xs ys : List ℕ) → spell n (xs ++ ys) ≡ spell (spell n xs) ys
+unfolding spell
+spell-append n [] ys = refl
+spell-append n (x ∷ xs) ys = spell-append (n * 256 + x) xs ys
+
+-- one byte more
 pub spell-snoc : (n : ℕ) (xs : List ℕ) (x : ℕ) → spell n (xs ++ x ∷ []) ≡ spell n xs * 256 + x
 unfolding spell
-spell-snoc n [] x = refl
-spell-snoc n (y ∷ ys) x = spell-snoc (n * 256 + y) ys x
+spell-snoc n xs x = spell-append n xs (x ∷ [])
 
 -- a turn of the loop that gathers
 pub spell-next : (s : List ℕ) (i : ℕ) → i < length s → spell 0 (take (i + 1) s) ≡ spell 0 (take i s) * 256 + getD s i 0
 spell-next s i h = rw (add-one, take-suc s i 0, spell-snoc)
+
+-- what stands before bytes counts once for all that they can spell
+spell-from : (n : ℕ) (xs : List ℕ) → spell n xs ≡ n * 256 ^ length xs + spell 0 xs
+unfolding spell
+spell-from n [] = omega arith
+spell-from n (x ∷ xs) = rw (spell-from (n * 256 + x) xs, spell-from (0 * 256 + x) xs, pow-succ') (omega arith)
 
 -- so many bytes spell less than this
 pub spell-fits : (n i : ℕ) {x : ℕ} → n < 256 ^ i → x < 256 → n * 256 + x < 256 ^ (i + 1)
 spell-fits n i h k = rw (add-one, pow-suc) (digits-lt h k)
 
 -- and eight of them fit a machine's number
-pub eight-fit : (i : ℕ) → i < 8 → 256 ^ (i + 1) ≤ 2 ^ 64
-eight-fit i h = pow-le-pow-right (zero-lt-suc 255) {i = i + 1} {j = 8} (omega arith)
+pub eight-fit : (i : ℕ) → i ≤ 8 → 256 ^ i ≤ 2 ^ 64
+eight-fit i h = pow-le-pow-right (zero-lt-suc 255) {i = i} {j = 8} h
+
+-- ---- bytes that are spelled in two parts
+
+module _ (s : List ℕ) (h w : ℕ) (k : h ≤ w) (b : w ≤ length s) where
+  cut : take w s ≡ take h s ++ take (w - h) (drop h s)
+  cut =
+      let e : w ≡ length (take h s) + (w - h) = omega (arith, length-take-le h s (omega arith)) in
+      ap (λ (i : ℕ). take i s) e ∙ ap (take (length (take h s) + (w - h))) (sym (take-append-drop h s)) ∙ take-append-add (take h s) (drop h s) (w - h)
+
+  length-second : length (take (w - h) (drop h s)) ≡ w - h
+  length-second = length-take-le (w - h) (drop h s) (omega (arith, length-drop h s))
+
+  -- the first part counts once for all that the second can spell
+  pub parts-spell : spell 0 (take h s) * 256 ^ (w - h) + spell 0 (take (w - h) (drop h s)) ≡ spell 0 (take w s)
+  parts-spell = rw (cut, spell-append, spell-from (spell 0 (take h s)) (take (w - h) (drop h s)), length-second)
+
+  -- and both together fit as the whole does
+  pub parts-fit : {high low : ℕ} → w ≤ 8 → high < 256 ^ length (take h s) → low < 256 ^ length (take (w - h) (drop h s)) → high * 256 ^ (w - h) + low < 2 ^ 64
+  parts-fit f x y =
+      let e : h + (w - h) ≡ w = omega arith in
+      let z = digits-lt (rw (length-take-le h s (omega arith)) at x) (rw length-second at y) in
+      omega (arith, rw (← pow-add 256 h (w - h), e) at z, eight-fit w f)
 
 -- ---- what a form has room for
 

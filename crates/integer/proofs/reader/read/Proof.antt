@@ -18,19 +18,19 @@ shared-slice-read-first c = search needs
 
 asks : tie.Need-gather-requires
 unfolding room
-asks c κs = (sym (wide-at _ 0 (omega arith)), refl)
+asks c κs = (sym (wide-at _ 0 (omega arith)), refl, refl)
 
 asks-2 : tie.Need-gather-requires-2
 unfolding room
-asks-2 c κs = (sym (wide-at _ 1 (omega arith)), refl)
+asks-2 c κs = (sym (wide-at _ 1 (omega arith)), refl, refl)
 
 asks-3 : tie.Need-gather-requires-3
 unfolding room
-asks-3 c κs = (sym (wide-at _ 2 (omega arith)), refl)
+asks-3 c κs = (sym (wide-at _ 2 (omega arith)), refl, refl)
 
 asks-4 : tie.Need-gather-requires-4
 unfolding room
-asks-4 c κs = (sym (wide-at _ 3 (omega (arith, c .before .before .before .shared-slice-known2 .given 0))), refl)
+asks-4 c κs = (sym (wide-at _ 3 (omega (arith, c .before .before .before .shared-slice-known2 .given 0))), refl, refl)
 
 returns-2 : tie.Need-returns-2
 returns-2 c = search needs

@@ -1,0 +1,27 @@
+//! How long the proved code takes, against the same work in plain Rust: a line
+//! for each thing measured, with the nanoseconds of ours, of theirs, and the
+//! ratio.
+
+#[cfg(exports)]
+mod clock;
+#[cfg(exports)]
+mod integer;
+#[cfg(exports)]
+mod ours;
+#[cfg(exports)]
+mod quinn;
+
+use std::process::ExitCode;
+
+#[cfg(exports)]
+fn main() -> ExitCode {
+    clock::heading();
+    integer::measure();
+    ExitCode::SUCCESS
+}
+
+#[cfg(not(exports))]
+fn main() -> ExitCode {
+    eprintln!("speed: build it with MOQ_EXPORTS, the archive of the proved code");
+    ExitCode::FAILURE
+}

@@ -1,0 +1,36 @@
+//! The proved code, as it stands in the archives: slices are a pointer and a
+//! count.
+
+/// An integer read from the front of bytes: answers 01's number, and behind a 0
+/// the number and the bytes used in `info`.
+pub type Read =
+    unsafe extern "C" fn(s: *const u8, len: usize, info: *mut u64, info_len: usize) -> u64;
+
+/// A number written at the front of `out`: answers 01's number, and behind a 0
+/// the bytes used in `info`.
+pub type Write = unsafe extern "C" fn(
+    n: u64,
+    out: *mut u8,
+    out_len: usize,
+    info: *mut u64,
+    info_len: usize,
+) -> u64;
+
+extern "C" {
+    pub fn moq_integer_read(s: *const u8, len: usize, info: *mut u64, info_len: usize) -> u64;
+    pub fn moq_integer_write(
+        n: u64,
+        out: *mut u8,
+        out_len: usize,
+        info: *mut u64,
+        info_len: usize,
+    ) -> u64;
+}
+
+#[cfg(passes)]
+extern "C" {
+    /// The integers of a slice, one behind the other, joined by exclusive or.
+    pub fn pass_read(s: *const u8, len: usize) -> u64;
+    /// Numbers written one behind the other: the bytes used.
+    pub fn pass_write(ns: *const u64, count: usize, out: *mut u8, out_len: usize) -> usize;
+}
