@@ -67,12 +67,8 @@ others kind s left e = encItems kind (itemsOf kind (left - 1) s (e .bytes .end))
 
 module _ {kind : Kind} {s all before out : List ℕ} {at here left : ℕ} {e : Entry} (w : Turn kind s all before out at here left e) where
   -- what was found, by its parts
-  parts : EntryAt kind greatest s here e (e .bytes .end)
+  pub parts : EntryAt kind greatest s here e (e .bytes .end)
   parts = entry-at kind greatest s here (w .found)
-
-  -- it starts before it ends
-  pub bytes-ordered : e .bytes .start ≤ e .bytes .end
-  bytes-ordered = parts .ordered
 
   -- the numbers come first,
   head-next : Next (encHead kind (e .number) (size (e .bytes))) (part s (e .bytes) ++ others kind s left e) (encItems kind (itemsOf kind left s here))
@@ -99,10 +95,9 @@ module _ {kind : Kind} {s all before out : List ℕ} {at here left : ℕ} {e : E
     pub head-within : at + head ≤ length (given at out t)
     head-within = going-within headed (w .fits)
 
-    -- and the bytes can be copied to behind them,
-    pub bytes-ask : ((e .bytes .start ≤ e .bytes .end) × (e .bytes .end ≤ length s)) × (size (e .bytes) ≤ length (lent (at + head) (given at out t)))
-    bytes-ask =
-        ((parts .ordered, parts .within), rw (length-part s (e .bytes) (parts .within)) at (next-fits headed (w .fits) bytes-next))
+    -- and there is room for the bytes behind them,
+    pub bytes-fit : size (e .bytes) ≤ length (lent (at + head) (given at out t))
+    bytes-fit = rw (length-part s (e .bytes) (parts .within)) at (next-fits headed (w .fits) bytes-next)
 
     module _ {u : List ℕ} (k : u ≡ over (part s (e .bytes)) (lent (at + head) (given at out t))) where
       -- which end within it too,

@@ -44,10 +44,10 @@ fn put_all(out: &mut [u8], bytes: &[u8], f: Fields) -> usize
     requires { ⌜ length (encodeAll (now bytes) (fieldsOf f)) ≤ length (now out) ⌝ }
     ensures { λ r. ⌜ Put (encodeAll (now (bytes .entry)) (fieldsOf f)) (now (out .entry)) r (now (out .exit)) ⌝ }
 {
-    let count = ten(f.used);
+    let n = ten(f.used);
     let mut at: usize = 0;
     let mut i: usize = 0;
-    while i < count {
+    while i < n {
         let slot = f.at[i];
         let p = slot.piece;
         let k = put_piece(&mut out[at..], bytes, p);

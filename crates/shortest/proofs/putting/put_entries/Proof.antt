@@ -4,7 +4,7 @@ use native.Mathlib.Omega.{arith}
 use borrow.Author.Needs.{needs}
 use Rattle.field.specs.Value.{itemsOf, contents, encItems}
 use Rattle.shortest.proofs.Going.{going-length, going-within}
-use Rattle.shortest.proofs.Entering.{Entering, Turn, entering-start, entering-end, entry-found, turn, bytes-ordered, head-asks, head-sum, head-within, bytes-ask, entry-sum, entry-next}
+use Rattle.shortest.proofs.Entering.{Entering, Turn, entering-start, entering-end, entry-found, turn, parts, head-asks, head-sum, head-within, bytes-fit, entry-sum, entry-next}
 use Rattle.shortest.proofs.putting.put_entries.Statement.{statement}
 use Rattle.shortest.proofs.putting.put_entries.Tie as tie
 
@@ -46,7 +46,7 @@ here : (a : tie.After-e Inv-loop μ-loop) → Turn (start (loop a) .args .kind) 
 here a = turn (loop a .loop .inv) (start (loop a) .pre .1) (a .before .before .before .loop-test .taken) (a .before .before .entry-at .ensures) (a .e .given .1)
 
 sub-n : tie.Need-sub-n Inv-loop μ-loop
-sub-n c = bytes-ordered (here (c .before .before))
+sub-n c = parts (here (c .before .before)) .ordered
 
 ends : tie.Need-sub-put-head Inv-loop μ-loop
 ends c = going-within (c .before .before .before .before .before .before .loop .inv .going) (c .before .before .before .before .before .before .before .before .before .pre .1)
@@ -58,10 +58,12 @@ add-from : tie.Need-add-from Inv-loop μ-loop
 add-from c = omega (arith, head-sum (here (c .before .before .before .before .before .before)) (c .before .before .put-head .ensures))
 
 ends-head : tie.Need-sub-copy Inv-loop μ-loop
-ends-head c = head-within (here (c .before .before .before .before .before .before)) (c .before .before .put-head .ensures)
+ends-head c = omega (arith, head-within (here (c .before .before .before .before .before .before)) (c .before .before .put-head .ensures))
 
 asks-copy : tie.Need-copy-requires Inv-loop μ-loop
-asks-copy c κs = bytes-ask (here (c .before .before .before .before .before .before .before)) (c .before .before .before .put-head .ensures)
+asks-copy c κs =
+    let w = here (c .before .before .before .before .before .before .before) in
+    omega (arith, parts w, bytes-fit w (c .before .before .before .put-head .ensures))
 
 add-at : tie.Need-add-at Inv-loop μ-loop
 add-at c = omega (arith, entry-sum (here (c .before .before .before .before .before .before .before .before .before .before)) (c .before .before .before .before .before .before .put-head .ensures) (c .before .before .copy .ensures))
