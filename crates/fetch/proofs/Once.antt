@@ -4,7 +4,7 @@ use mathlib.Core.Path.{_≡_, refl, ap}
 use mathlib.Core.Bool.{Bool, true, false}
 use Rattle.field.specs.Outcome.{Outcome, whole, no}
 use Rattle.layout.specs.Typed.{Typed}
-use Rattle.layout.proofs.Parts.{once}
+use Rattle.layout.proofs.Lossless.{once}
 use Rattle.fetch.specs.Told.{fetchPieces, saidOf, told}
 use Rattle.fetch.specs.Made.{fetchOf, messageOf}
 use Rattle.fetch.specs.declared.Range.{Range}

@@ -1,11 +1,12 @@
 // A message as its fields, in the order of its layout; and whether its values are permitted.
 ghost use mathlib.Core.Path.{_≡_};
 ghost use Rattle.shortest.specs.Writing.{typedOf};
-ghost use Rattle.fetch.specs.Told.{joiningType, fetchPieces, saidOf};
+ghost use Rattle.fetch.specs.Told.{joiningType, fetchPieces, statusPieces, saidOf};
 ghost use Rattle.fetch.specs.Allowed.{allowedOf};
 use crate::Fetch;
 use crate::FetchMessage;
 use crate::Range;
+use crate::TrackStatus;
 use crate::rules::is_status;
 use crate::rules::may_hold;
 use field::Kind;
@@ -43,17 +44,7 @@ pub fn fields(m: FetchMessage) -> Fields
         }
         FetchMessage::FetchCancel(id) => places::of1(0x17, Piece::Number(id)),
         FetchMessage::TrackStatusRequest(t) => places::of1(0xD, Piece::Track(t)),
-        FetchMessage::TrackStatus(x) => {
-            let track = x.track;
-            let largest = x.largest;
-            places::of4(
-                0xE,
-                Piece::Track(track),
-                Piece::Number(x.status),
-                Piece::Number(largest.group),
-                Piece::Number(largest.object),
-            )
-        }
+        FetchMessage::TrackStatus(x) => status_fields(x),
     }
 }
 
@@ -87,19 +78,26 @@ fn fetch_fields(x: Fetch) -> Fields
             )
         }
         Range::Joining(j) => {
-            let kind = joining_type(j.absolute);
-            places::of7(
-                0x16,
-                id,
-                priority,
-                order,
-                Piece::Number(kind),
-                Piece::Number(j.id),
-                Piece::Number(j.start),
-                last,
-            )
+            let kind = Piece::Number(joining_type(j.absolute));
+            let joined = Piece::Number(j.id);
+            let start = Piece::Number(j.start);
+            places::of7(0x16, id, priority, order, kind, joined, start, last)
         }
     }
+}
+
+fn status_fields(x: TrackStatus) -> Fields
+    ensures { λ r. ⌜ typedOf r ≡ record { type = 0xE; pieces = statusPieces x } ⌝ }
+{
+    let track = x.track;
+    let largest = x.largest;
+    places::of4(
+        0xE,
+        Piece::Track(track),
+        Piece::Number(x.status),
+        Piece::Number(largest.group),
+        Piece::Number(largest.object),
+    )
 }
 
 // The fetch type of a joining fetch.

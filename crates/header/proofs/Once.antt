@@ -9,7 +9,7 @@ use Rattle.field.specs.declared.Piece.{Piece}
 use Rattle.layout.specs.Layout.{control}
 use Rattle.layout.specs.Typed.{Typed}
 use Rattle.layout.specs.Parts.{numberIn, bytesIn, placeIn}
-use Rattle.layout.proofs.Parts.{once}
+use Rattle.layout.proofs.Lossless.{once}
 use Rattle.header.specs.Told.{datagramSaid, streamSaid, payloadPieces, subgroupObjectPieces, fetchObjectPieces, toldDatagram, toldStream, toldSubgroupObject, toldFetchObject}
 use Rattle.header.specs.declared.ObjectDatagram.{ObjectDatagram}
 use Rattle.header.specs.declared.Datagram.{Datagram}

@@ -8,5 +8,5 @@ pub mod Inside
 pub mod Theorems
 pub mod Steps
 pub mod Family
-pub mod Parts
+pub mod Lossless
 pub mod Said

@@ -1,6 +1,6 @@
 -- Rows by key and not by place: the first row with a number, changed or taken out. Assumes nothing.
-use Prim.Native.Nat.{ℕ, zero, suc, _+_, _≤_, _<_}
-use mathlib.Core.Path.{_≡_, refl, sym, ap, _∙_}
+use Prim.Native.Nat.{ℕ, zero, suc, _+_}
+use mathlib.Core.Path.{_≡_, refl, ap, _∙_}
 use mathlib.Core.Bool.{Bool, true, false}
 use mathlib.Core.List.{List, [], _∷_, _++_}
 use native.Mathlib.Nat.{zero-add}
@@ -10,8 +10,7 @@ use lib.ListN.{take, drop, getD, set}
 use Rattle.integer.specs.Answer.{pick}
 use Rattle.row.specs.declared.Row.{Row}
 use Rattle.ledger.specs.Steps.{find}
-use Rattle.ledger.specs.declared.Found.{Found}
-use Rattle.ledger.specs.declared.Found.the-variants.{At, Missing}
+use Rattle.ledger.specs.declared.Found.the-variants.{At}
 use Rattle.ledger.proofs.Finds.{found-from}
 
 -- the first row with the number, and those behind it, edited
@@ -72,13 +71,3 @@ module _ (key : Row → ℕ) (n : ℕ) where
 
     pub remove-found : take i rs ++ drop (suc i) rs ≡ removeBy key n rs
     remove-found = gone-is rs i ∙ edit-from (λ r rs. rs) 0 rs i (e ∙ rw (zero-add i))
-
-  -- where none is found, nothing changes
-  pub edit-missing : (g : Row → List Row → List Row) (from : ℕ) (rs : List Row) → find key n from rs ≡ Missing → editBy key n g rs ≡ rs
-  unfolding find editBy
-  edit-missing g from [] e = refl
-  edit-missing g from (r ∷ rs) e = go (eqb (key r) n) e (edit-missing g (from + 1) rs)
-    where
-      go : (b : Bool) → pick b (At from) (find key n (from + 1) rs) ≡ Missing → (find key n (from + 1) rs ≡ Missing → editBy key n g rs ≡ rs) → pick b (g r rs) (r ∷ editBy key n g rs) ≡ r ∷ rs
-      go true p ih = absurd (let z : _≡_ {A = ℕ} 0 1 = cc in omega arith)
-      go false p ih = ap (λ (t : List Row). r ∷ t) (ih p)

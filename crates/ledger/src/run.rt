@@ -43,10 +43,9 @@ impl Ledger {
         while k < count {
             let at = 3 * k;
             let alias = run[at];
-            let place = Place {
-                group: run[at + 1],
-                object: run[at + 2],
-            };
+            let group = run[at + 1];
+            let object = run[at + 2];
+            let place = Place { group, object };
             let mut n = first(valid, opened, Arrival { alias, place });
             if n == 0 {
                 n = 18;
@@ -60,10 +59,8 @@ impl Ledger {
             answers[k] = n;
             k += 1;
         }
-        Ran {
-            answer: Filled::Done(count),
-            ledger: l,
-        }
+        let answer = Filled::Done(count);
+        Ran { answer, ledger: l }
     }
 }
 

@@ -4,7 +4,7 @@ use Prim.Native.Nat.{ℕ}
 use mathlib.Core.Path.{_≡_, refl, sym, _∙_}
 use mathlib.Core.List.{List}
 use Rattle.integer.specs.Answer.{Leaves}
-use Rattle.layout.proofs.Parts.{once}
+use Rattle.layout.proofs.Lossless.{once}
 use Rattle.shortest.specs.Writing.{answering}
 use Rattle.shortest.specs.declared.Writing.{Writing}
 use Rattle.shortest.proofs.Once.{answering-once}

@@ -39,6 +39,12 @@ module _ (s : List ℕ) (p : Span) (before : List ℕ) {out : List ℕ} (i : ℕ
       let z : i ≡ length (part s p) = omega arith in
       e ∙ rw (z, take-length)
 
+-- ---- what was copied
+
+-- was put
+pub copy-put : (s : List ℕ) (p : Span) {before after : List ℕ} → p .end ≤ length s → after ≡ over (part s p) before → Put (part s p) before (size p) after
+copy-put s p h e = record { count = sym (length-part s p h); holds = e }
+
 -- ---- a length and the bytes of a part
 
 module _ (s : List ℕ) (p : Span) (before : List ℕ) (h : (rightSpan s p ≡ true) × (length (encText (part s p)) ≤ length before)) where
@@ -56,7 +62,7 @@ module _ (s : List ℕ) (p : Span) (before : List ℕ) (h : (rightSpan s p ≡ t
     module _ {t : List ℕ} (e : t ≡ over (part s p) (lent used after)) where
       -- they were put,
       bytes-put : Put (part s p) (lent used after) (size p) t
-      bytes-put = let l = lies s p (h .0) in record { count = sym (length-part s p (l .within)); holds = e }
+      bytes-put = copy-put s p (lies s p (h .0) .within) e
 
       -- both are no longer than the buffer,
       pub text-sum : used + size p ≤ length before

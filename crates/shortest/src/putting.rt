@@ -5,13 +5,12 @@ ghost use Prim.Native.Nat.{_-_, _≤_};
 ghost use lib.ListN.{length};
 ghost use Rattle.integer.specs.Answer.{Leaves};
 ghost use Rattle.integer.specs.Integer.{encOf, greatest, over};
-ghost use Rattle.field.specs.Value.{part, item, contents, mean, encText, encItem, encItems, encList, encField};
+ghost use Rattle.field.specs.Value.{part, contents, mean, encText, encItems, encList, encField};
 ghost use Rattle.shortest.specs.Judging.{rightSpan, rightList, right};
-ghost use Rattle.shortest.specs.Putting.{Put, putOf, saying};
+ghost use Rattle.shortest.specs.Putting.{Put, encHead, putOf, saying};
 use crate::Measured;
 use crate::judging::measure;
 use field::Entries;
-use field::Entry;
 use field::EntryRead;
 use field::Kind;
 use field::Piece;
@@ -54,19 +53,18 @@ fn put_text(out: &mut [u8], bytes: &[u8], p: Span) -> usize
     head + n
 }
 
-fn put_entry(out: &mut [u8], bytes: &[u8], kind: Kind, e: Entry) -> usize
-    requires { ⌜ (e .number ≤ greatest) × (rightSpan (now bytes) (e .bytes) ≡ true) ⌝ }
-    requires { ⌜ length (encItem kind (item (now bytes) e)) ≤ length (now out) ⌝ }
-    ensures { λ r. ⌜ Put (encItem kind (item (now (bytes .entry)) e)) (now (out .entry)) r (now (out .exit)) ⌝ }
+// The numbers in front of the n bytes of an entry.
+fn put_head(out: &mut [u8], kind: Kind, number: u64, n: u64) -> usize
+    requires { ⌜ (number ≤ greatest) × (n ≤ greatest) ⌝ }
+    requires { ⌜ length (encHead kind number n) ≤ length (now out) ⌝ }
+    ensures { λ r. ⌜ Put (encHead kind number n) (now (out .entry)) r (now (out .exit)) ⌝ }
 {
-    let number = e.number;
-    let p = e.bytes;
     match kind {
-        Kind::Namespace => put_text(out, bytes, p),
+        Kind::Namespace => put_number(out, n),
         Kind::Parameters => {
-            let head = put_number(out, number);
-            let n = put_text(&mut out[head..], bytes, p);
-            head + n
+            let a = put_number(out, number);
+            let b = put_number(&mut out[a..], n);
+            a + b
         }
         Kind::Versions => put_number(out, number),
     }
@@ -85,10 +83,15 @@ fn put_entries(out: &mut [u8], bytes: &[u8], kind: Kind, l: Entries) -> usize
         let EntryRead::Whole(e) = field::entry_at(bytes, kind, integer::GREATEST, here) else {
             return at;
         };
-        let n = put_entry(&mut out[at..], bytes, kind, e);
         let p = e.bytes;
-        at = at + n;
-        here = p.end;
+        let start = p.start;
+        let end = p.end;
+        let n = end - start;
+        let head = put_head(&mut out[at..], kind, e.number, n as u64);
+        let from = at + head;
+        copy(&mut out[from..], bytes, start, end);
+        at = from + n;
+        here = end;
         left = left - 1;
     }
     at

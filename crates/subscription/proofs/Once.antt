@@ -2,7 +2,7 @@
 -- Assumes nothing.
 use mathlib.Core.Path.{_≡_, refl, sym}
 use Rattle.field.proofs.Unjudged.{apart}
-use Rattle.layout.proofs.Parts.{once}
+use Rattle.layout.proofs.Lossless.{once}
 use Rattle.subscription.specs.Told.{saidOf, told}
 use Rattle.subscription.specs.Made.{messageOf}
 use Rattle.subscription.specs.declared.Filter.{Filter}
