@@ -1,9 +1,10 @@
 // Words, put at the front of what is lent.
 ghost use mathlib.Core.Path.{_≡_};
+ghost use mathlib.Core.List.{_++_};
 ghost use Prim.Native.Nat.{_≤_};
 ghost use lib.ListN.{length};
 ghost use Rattle.shortest.specs.Putting.{Put};
-ghost use Rattle.text.specs.Words.{wordOf, nameOf};
+ghost use Rattle.text.specs.Words.{wordOf, laterNames, lastNames, nameIn, nameOf};
 use crate::Word;
 
 fn copy(out: &mut [u8], s: &[u8]) -> usize
@@ -37,7 +38,7 @@ pub fn put_word(out: &mut [u8], word: Word) -> usize
     }
 }
 
-// The name of a control message, by the number of its type.
+// The name of a control message, by the number of its type. In three parts, since one check of 26 arms takes long.
 pub fn put_name(out: &mut [u8], kind: u64) -> usize
     requires { ⌜ length (nameOf kind) ≤ length (now out) ⌝ }
     ensures { λ r. ⌜ Put (nameOf kind) (now (out .entry)) r (now (out .exit)) ⌝ }
@@ -53,6 +54,16 @@ pub fn put_name(out: &mut [u8], kind: u64) -> usize
         0x9 => copy(out, b"UNANNOUNCE"),
         0xA => copy(out, b"UNSUBSCRIBE"),
         0xB => copy(out, b"SUBSCRIBE_DONE"),
+        _ => put_later(out, kind),
+    }
+}
+
+// The types from 0xC on.
+fn put_later(out: &mut [u8], kind: u64) -> usize
+    requires { ⌜ length (nameIn (laterNames ++ lastNames) kind) ≤ length (now out) ⌝ }
+    ensures { λ r. ⌜ Put (nameIn (laterNames ++ lastNames) kind) (now (out .entry)) r (now (out .exit)) ⌝ }
+{
+    match kind {
         0xC => copy(out, b"ANNOUNCE_CANCEL"),
         0xD => copy(out, b"TRACK_STATUS_REQUEST"),
         0xE => copy(out, b"TRACK_STATUS"),
@@ -61,6 +72,16 @@ pub fn put_name(out: &mut [u8], kind: u64) -> usize
         0x12 => copy(out, b"SUBSCRIBE_ANNOUNCES_OK"),
         0x13 => copy(out, b"SUBSCRIBE_ANNOUNCES_ERROR"),
         0x14 => copy(out, b"UNSUBSCRIBE_ANNOUNCES"),
+        _ => put_last(out, kind),
+    }
+}
+
+// The types from 0x15 on.
+fn put_last(out: &mut [u8], kind: u64) -> usize
+    requires { ⌜ length (nameIn lastNames kind) ≤ length (now out) ⌝ }
+    ensures { λ r. ⌜ Put (nameIn lastNames kind) (now (out .entry)) r (now (out .exit)) ⌝ }
+{
+    match kind {
         0x15 => copy(out, b"MAX_SUBSCRIBE_ID"),
         0x16 => copy(out, b"FETCH"),
         0x17 => copy(out, b"FETCH_CANCEL"),
