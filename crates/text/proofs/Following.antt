@@ -2,17 +2,18 @@
 use Prim.Native.Nat.{ℕ, _+_, _≤_, _<_, min}
 use mathlib.Core.Path.{_≡_, refl, sym, ap, _∙_}
 use mathlib.Core.Bool.{true, false}
-use mathlib.Core.List.{List, [], _∷_}
+use mathlib.Core.List.{List, [], _∷_, _++_, append-nil}
 use mathlib.Core.Logic.{⊎-elim}
 use native.Mathlib.Nat.{eq-or-lt-of-le}
 use native.Mathlib.Numerals.{add-one}
 use native.Mathlib.Omega.{arith}
 use borrow.Author.Tests.{eq-eqb, ne-eqb}
 use lib.Dec.{eqb}
-use lib.ListN.{length, getD, take, drop, length-map, length-take, drop-of-length-le, List·getD-map}
-use lib.Seq.{drop-cons, getD-take}
+use lib.ListN.{length, getD, take, drop, length-append, length-map, length-take, drop-of-length-le, List·getD-map}
+use lib.Seq.{drop-cons, getD-take, append-snoc}
+use Rattle.integer.specs.Answer.{pick}
 use Rattle.shortest.proofs.Going.{Next}
-use Rattle.text.specs.Lines.{endedOf, isNone, lineOf, slot, itemsOf}
+use Rattle.text.specs.Lines.{itemOf, endedOf, isNone, lineOf, slot, itemsOf}
 use Rattle.text.specs.declared.Item.{Item}
 use Rattle.text.specs.declared.Slot.{Slot}
 use Rattle.text.specs.declared.Line.{Line}
@@ -58,3 +59,22 @@ module _ (line : Line) (l : length (line .at) ≡ 6) {n : ℕ} (e : n ≡ min (l
   pub line-end : n ≤ i → lineOf (drop i (itemsOf line)) ≡ []
   unfolding lineOf
   line-end h = rw (drop-of-length-le (itemsOf line) {i = i} (omega (arith, items-count line l)))
+
+-- ---- a line, by its items
+
+-- one item, and a newline
+pub line-one : (a : Item) → lineOf (a ∷ []) ≡ itemOf a ++ 10 ∷ []
+unfolding lineOf endedOf isNone
+line-one a = append-nil (itemOf a ++ 10 ∷ [])
+
+-- an item and a space, before the others
+pub line-more : (a b : Item) (rest : List Item) → lineOf (a ∷ b ∷ rest) ≡ itemOf a ++ 32 ∷ lineOf (b ∷ rest)
+unfolding lineOf endedOf isNone
+line-more a b rest = append-snoc (itemOf a) 32 (lineOf (b ∷ rest))
+
+-- no line with an item is empty
+pub line-some : (a : Item) (rest : List Item) → 0 < length (lineOf (a ∷ rest))
+unfolding lineOf endedOf
+line-some a rest =
+    let end : ℕ = pick (isNone rest) 10 32 in
+    omega (arith, length-append (endedOf a (isNone rest)) (lineOf rest), length-append (itemOf a) (end ∷ []))

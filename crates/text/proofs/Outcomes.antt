@@ -6,11 +6,14 @@ use mathlib.Core.List.{List}
 use borrow.Author.Tests.{le-leb, lt-leb}
 use lib.ListN.{length}
 use Rattle.integer.specs.Answer.{refused, wrote, Written, Leaves}
-use Rattle.integer.proofs.Cases.{apart}
+use Rattle.integer.proofs.Cases.{pick-le, apart}
 use Rattle.shortest.specs.Putting.{Put}
 use Rattle.text.specs.Lines.{putOf, saying}
 use Rattle.text.specs.declared.Putting.{Putting}
 use Rattle.text.specs.declared.Putting.the-variants.{Done, TooShort}
+
+same-count : {m n : ℕ} → wrote m ≡ wrote n → m ≡ n
+same-count e = cc
 
 module _ (text before : List ℕ) where
   pub line-short : length before < length text → Leaves (putOf text before) (refused 7) before
@@ -20,6 +23,23 @@ module _ (text before : List ℕ) where
   pub line-done : {used : ℕ} {after : List ℕ} → length text ≤ length before → Put text before used after → Leaves (putOf text before) (wrote used) after
   unfolding putOf
   line-done h p = rw (le-leb (length text) (length before) h) (record { says = rw (p .count); holds = p .holds })
+
+  module _ {after : List ℕ} where
+    -- it was put, so it fits and stands there
+    pub done-is : {used : ℕ} → Leaves (putOf text before) (wrote used) after → (length text ≤ length before) × Put text before used after
+    unfolding putOf
+    done-is {used} =
+        pick-le (λ w. Leaves w (wrote used) after → (length text ≤ length before) × Put text before used after) (length text) (length before)
+        (λ h l. (h, record { count = same-count (l .says); holds = l .holds }))
+        (λ h l. absurd (apart (sym (l .says))))
+
+    -- it was refused, so it is too long and nothing was changed
+    pub short-is : Leaves (putOf text before) (refused 7) after → (length before < length text) × (after ≡ before)
+    unfolding putOf
+    short-is =
+        pick-le (λ w. Leaves w (refused 7) after → (length before < length text) × (after ≡ before)) (length text) (length before)
+        (λ h l. absurd (apart (l .says)))
+        (λ h l. (h, l .holds))
 
 -- two answers with the same number and values are the same
 pub saying-once : (a b : Putting) → saying a ≡ saying b → a ≡ b
