@@ -40,8 +40,7 @@ asks c κs =
 add-at : tie.Need-add-at Inv-loop μ-loop
 add-at c =
     let a = c .before .before .before .before .before .before .before .before .before in
-    let next = line-next _ (places a) (c .before .before .before .before .before .before .before .six .ensures) _ _ (c .before .before .before .before .before .loop-test .taken) in
-    omega (arith, going-sum (c .before .before .before .before .before .before .loop .inv) (a .pre) next (c .before .before .put-ended .ensures))
+    omega (arith, going-sum (c .before .before .before .before .before .before .loop .inv) (a .pre) (line-next _ (places a) (c .before .before .before .before .before .before .before .six .ensures) _ _ (c .before .before .before .before .before .loop-test .taken)) (c .before .before .put-ended .ensures))
 
 loop-again : tie.Need-loop-again Inv-loop μ-loop
 loop-again c =
