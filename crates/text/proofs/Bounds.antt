@@ -1,0 +1,79 @@
+-- How long a line can be. Assumes nothing.
+use Prim.Native.Nat.{ℕ, suc, _*_, _≤_}
+use Prim.Native.String.{String}
+use mathlib.Core.Path.{_≡_, refl}
+use mathlib.Core.Bool.{Bool, true, false}
+use mathlib.Core.List.{List, [], _∷_, _++_}
+use native.Mathlib.Nat.{le-refl}
+use native.Mathlib.Omega.{arith}
+use borrow.Author.Tests.{leb-true}
+use lib.Dec.{leb, eqb, lit≤}
+use lib.ListN.{length, length-append}
+use Rattle.integer.specs.Answer.{pick}
+use Rattle.integer.proofs.Cases.{pick-by}
+use Rattle.text.specs.Letters.{letters, decimalOf}
+use Rattle.text.specs.Words.{wordOf, firstNames, laterNames, lastNames, nameIn, nameOf}
+use Rattle.text.specs.Lines.{itemOf, endedOf, isNone, lineOf, itemsOf}
+use Rattle.text.specs.declared.Word.{Word as Wording}
+use Rattle.text.specs.declared.Word.the-variants.{Open, Closed, Columns, Pending, Active, Nothing, TraceFaultAt, Start, Malformed, Arrival}
+use Rattle.text.specs.declared.Item.{Item}
+use Rattle.text.specs.declared.Item.the-variants.{Number, Word, Rule, Name}
+use Rattle.text.specs.declared.Line.{Line}
+use Rattle.text.proofs.Decimals.{decimal-few}
+use Rattle.text.proofs.Following.{items-count}
+
+-- twenty digits
+pub number-bound : (n : ℕ) → length (decimalOf n) ≤ 20
+unfolding decimalOf
+number-bound n = decimal-few 20 n
+
+-- the longest of the words are the columns
+pub word-bound : (word : Wording) → length (wordOf word) ≤ 33
+unfolding wordOf letters
+word-bound Open = lit≤ tt
+word-bound Closed = lit≤ tt
+word-bound Columns = lit≤ tt
+word-bound Pending = lit≤ tt
+word-bound Active = lit≤ tt
+word-bound Nothing = lit≤ tt
+word-bound TraceFaultAt = lit≤ tt
+word-bound Start = lit≤ tt
+word-bound Malformed = lit≤ tt
+word-bound Arrival = lit≤ tt
+
+-- every name of a table takes so many bytes at most
+areWithin : ℕ → List (ℕ × String) → Bool
+areWithin n [] = true
+areWithin n (row ∷ rows) = pick (leb (length (letters (row .1))) n) (areWithin n rows) false
+
+within : (n : ℕ) (rows : List (ℕ × String)) (type : ℕ) → areWithin n rows ≡ true → length (nameIn rows type) ≤ n
+unfolding areWithin nameIn
+within n [] type = λ h. omega arith
+within n (row ∷ rows) type =
+    pick-by (λ (t : Bool). t ≡ true → length (nameIn (row ∷ rows) type) ≤ n) (leb (length (letters (row .1))) n)
+    (λ e h. pick-by (λ (l : List ℕ). length l ≤ n) (eqb type (row .0)) (λ t. leb-true (length (letters (row .1))) n e) (λ t. within n rows type h))
+    (λ e h. absurd (let z : _≡_ {A = ℕ} 0 1 = cc in omega arith))
+
+pub name-bound : (type : ℕ) → length (nameOf type) ≤ 25
+unfolding nameOf firstNames laterNames lastNames areWithin letters
+name-bound type = within 25 (firstNames ++ (laterNames ++ lastNames)) type refl
+
+-- so no item is longer than the columns,
+pub item-bound : (item : Item) → length (itemOf item) ≤ 33
+unfolding itemOf letters
+item-bound (Number n) = omega (arith, number-bound n)
+item-bound (Word word) = word-bound word
+item-bound (Rule n) = omega (arith, number-bound n)
+item-bound (Name type) = omega (arith, name-bound type)
+
+-- and a line takes at most one byte more for each
+pub line-bound : (items : List Item) → length (lineOf items) ≤ 34 * length items
+unfolding lineOf endedOf
+line-bound [] = le-refl 0
+line-bound (item ∷ rest) =
+    let last = isNone rest in
+    omega (arith, length-append (endedOf item last) (lineOf rest), length-append (itemOf item) (pick last 10 32 ∷ []), item-bound item, line-bound rest)
+
+-- six items, then, at most
+pub six-bound : (line : Line) → length (line .at) ≡ 6 → length (lineOf (itemsOf line)) ≤ 204
+six-bound line l = omega (arith, line-bound (itemsOf line), items-count line l)

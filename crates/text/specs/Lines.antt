@@ -1,0 +1,55 @@
+-- A line is its items, with a space between two and a newline at the end.
+use Prim.Native.Nat.{ℕ}
+use mathlib.Core.Bool.{Bool, true, false}
+use mathlib.Core.List.{List, [], _∷_, _++_, map}
+use lib.ListN.{length, take}
+use lib.Dec.{leb}
+use Rattle.integer.specs.Answer.{pick, Answer, refused, Nothing, wrote, Written}
+use Rattle.integer.specs.Integer.{over}
+use Rattle.text.specs.Letters.{letters, decimalOf}
+use Rattle.text.specs.Words.{wordOf, nameOf}
+use Rattle.text.specs.declared.Item.{Item}
+use Rattle.text.specs.declared.Item.the-variants.{Number, Word, Rule, Name}
+use Rattle.text.specs.declared.Slot.{Slot}
+use Rattle.text.specs.declared.Line.{Line}
+use Rattle.text.specs.declared.Putting.{Putting}
+use Rattle.text.specs.declared.Putting.the-variants.{Done, TooShort}
+
+-- the bytes of an item
+unfoldable pub itemOf : Item → List ℕ
+itemOf (Number n) = decimalOf n
+itemOf (Word word) = wordOf word
+itemOf (Rule n) = letters "R" ++ decimalOf n
+itemOf (Name type) = nameOf type
+
+-- and what stands behind it: a newline behind the last of a line, a space behind another
+unfoldable pub endedOf : Item → Bool → List ℕ
+endedOf item last = itemOf item ++ pick last 10 32 ∷ []
+
+unfoldable pub isNone : List Item → Bool
+isNone [] = true
+isNone (item ∷ rest) = false
+
+-- A LINE: each of its items so
+unfoldable pub lineOf : List Item → List ℕ
+lineOf [] = []
+lineOf (item ∷ rest) = endedOf item (isNone rest) ++ lineOf rest
+
+-- the items in their places
+abbrev pub slot : Slot → Item
+slot s = s .item
+
+unfoldable pub itemsOf : Line → List Item
+itemsOf line = map slot (take (line .used) (line .at))
+
+-- text put into a buffer: 7 where it is too short
+unfoldable pub putOf : List ℕ → List ℕ → Written
+putOf text before =
+    pick (leb (length text) (length before))
+    (record { says = wrote (length text); holds = over text before })
+    (record { says = refused 7; holds = before })
+
+-- 01's number and values of what is answered
+abbrev pub saying : Putting → Answer Nothing
+saying (Done used) = wrote used
+saying TooShort = refused 7

@@ -1,0 +1,139 @@
+// A line, made of its items; measured, and put at the front of what is lent.
+ghost use mathlib.Core.Path.{_≡_};
+ghost use mathlib.Core.List.{[], _∷_};
+ghost use Prim.Native.Nat.{_≤_, min};
+ghost use lib.ListN.{length, take};
+ghost use Rattle.integer.specs.Answer.{Leaves};
+ghost use Rattle.shortest.specs.Putting.{Put};
+ghost use Rattle.text.specs.Lines.{itemOf, endedOf, lineOf, itemsOf, putOf, saying};
+use crate::Item;
+use crate::Line;
+use crate::Putting;
+use crate::Slot;
+use crate::digits::put_number;
+use crate::words::put_name;
+use crate::words::put_word;
+
+// ---- the items of a line
+
+// The first of six items, so many as are used. A place that is not used holds the first item.
+fn of(used: usize, a: Item, b: Item, c: Item, d: Item, e: Item, f: Item) -> Line
+    ensures { λ r. ⌜ itemsOf r ≡ take used (a ∷ b ∷ c ∷ d ∷ e ∷ f ∷ []) ⌝ }
+{
+    let at = [
+        Slot { item: a },
+        Slot { item: b },
+        Slot { item: c },
+        Slot { item: d },
+        Slot { item: e },
+        Slot { item: f },
+    ];
+    Line { at, used }
+}
+
+pub fn of1(a: Item) -> Line
+    ensures { λ r. ⌜ itemsOf r ≡ a ∷ [] ⌝ }
+{
+    of(1, a, a, a, a, a, a)
+}
+
+pub fn of2(a: Item, b: Item) -> Line
+    ensures { λ r. ⌜ itemsOf r ≡ a ∷ b ∷ [] ⌝ }
+{
+    of(2, a, b, a, a, a, a)
+}
+
+pub fn of3(a: Item, b: Item, c: Item) -> Line
+    ensures { λ r. ⌜ itemsOf r ≡ a ∷ b ∷ c ∷ [] ⌝ }
+{
+    of(3, a, b, c, a, a, a)
+}
+
+pub fn of4(a: Item, b: Item, c: Item, d: Item) -> Line
+    ensures { λ r. ⌜ itemsOf r ≡ a ∷ b ∷ c ∷ d ∷ [] ⌝ }
+{
+    of(4, a, b, c, d, a, a)
+}
+
+pub fn of5(a: Item, b: Item, c: Item, d: Item, e: Item) -> Line
+    ensures { λ r. ⌜ itemsOf r ≡ a ∷ b ∷ c ∷ d ∷ e ∷ [] ⌝ }
+{
+    of(5, a, b, c, d, e, a)
+}
+
+pub fn of6(a: Item, b: Item, c: Item, d: Item, e: Item, f: Item) -> Line
+    ensures { λ r. ⌜ itemsOf r ≡ a ∷ b ∷ c ∷ d ∷ e ∷ f ∷ [] ⌝ }
+{
+    of(6, a, b, c, d, e, f)
+}
+
+// ---- putting
+
+fn put_item(out: &mut [u8], item: Item) -> usize
+    requires { ⌜ length (itemOf item) ≤ length (now out) ⌝ }
+    ensures { λ r. ⌜ Put (itemOf item) (now (out .entry)) r (now (out .exit)) ⌝ }
+{
+    match item {
+        Item::Number(n) => put_number(out, n),
+        Item::Word(word) => put_word(out, word),
+        Item::Rule(n) => {
+            out[0] = b'R';
+            let k = put_number(&mut out[1..], n);
+            1 + k
+        }
+        Item::Name(kind) => put_name(out, kind),
+    }
+}
+
+// An item, and what stands behind it: a newline behind the last, a space behind another.
+fn put_ended(out: &mut [u8], item: Item, last: bool) -> usize
+    requires { ⌜ length (endedOf item last) ≤ length (now out) ⌝ }
+    ensures { λ r. ⌜ Put (endedOf item last) (now (out .entry)) r (now (out .exit)) ⌝ }
+{
+    let k = put_item(out, item);
+    out[k] = if last { b'\n' } else { b' ' };
+    k + 1
+}
+
+// How many items there are: no more than there are places.
+fn six(used: usize) -> usize
+    ensures { λ r. ⌜ r ≡ min used 6 ⌝ }
+{
+    if used < 6 { used } else { 6 }
+}
+
+// Each item into what is left of the output.
+fn put_items(out: &mut [u8], line: Line) -> usize
+    requires { ⌜ length (lineOf (itemsOf line)) ≤ length (now out) ⌝ }
+    ensures { λ r. ⌜ Put (lineOf (itemsOf line)) (now (out .entry)) r (now (out .exit)) ⌝ }
+{
+    let n = six(line.used);
+    let mut at: usize = 0;
+    let mut i: usize = 0;
+    while i < n {
+        let slot = line.at[i];
+        let item = slot.item;
+        i += 1;
+        let k = put_ended(&mut out[at..], item, i == n);
+        at = at + k;
+    }
+    at
+}
+
+// How many bytes a line takes. It is put where nobody looks; no line takes more than 204.
+pub fn measure(line: Line) -> usize
+    ensures { λ r. ⌜ r ≡ length (lineOf (itemsOf line)) ⌝ }
+{
+    let mut nowhere = [0u8; 204];
+    put_items(&mut nowhere, line)
+}
+
+// A line at the front of out; every byte after it stays, and where it doesn't fit none is changed.
+pub fn put(out: &mut [u8], line: Line) -> Putting
+    ensures { λ r. ⌜ Leaves (putOf (lineOf (itemsOf line)) (now (out .entry))) (saying r) (now (out .exit)) ⌝ }
+{
+    if out.len() < measure(line) {
+        return Putting::TooShort;
+    }
+    Putting::Done(put_items(out, line))
+}
