@@ -6,11 +6,15 @@ mod endings;
 mod finding;
 mod gating;
 mod messages;
+mod numbers;
 mod rules;
 mod run;
 mod starting;
 mod subscribing;
 
+pub use numbers::broken;
+pub use numbers::number;
+pub use numbers::rule_number;
 use row::Row;
 pub use rules::close_code;
 pub use starting::start;

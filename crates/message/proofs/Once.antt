@@ -89,7 +89,7 @@ message-back (Announce m) = rw (of-announce m, announce-back m)
 message-back (Session m) = rw (of-session m, session-back m)
 
 -- and an answer
-answer-back : (a : Reading) → answerOf (told a) ≡ a
+pub answer-back : (a : Reading) → answerOf (told a) ≡ a
 unfolding answerOf
 answer-back (Whole m used) = rw message-back
 answer-back More = refl

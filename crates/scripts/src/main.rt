@@ -5,7 +5,6 @@
 ghost use mathlib.Core.Path.{_≡_};
 ghost use Prim.Native.Nat.{_≤_};
 ghost use lib.ListN.{length};
-ghost use Rattle.ledger.specs.Answers.{said, ruleNumber};
 use field::Arrival;
 use field::Entries;
 use field::Failure;
@@ -15,7 +14,6 @@ use field::Track;
 use ledger::Answer;
 use ledger::Ledger;
 use ledger::Part;
-use ledger::Rule;
 use ledger::Taken;
 use message::Message;
 use session::SessionMessage;
@@ -28,46 +26,11 @@ use subscription::SubscribeOk;
 
 // ---- answers
 
-fn rule_number(rule: Rule) -> u64
-    ensures { λ n. ⌜ n ≡ ruleNumber rule ⌝ }
-{
-    match rule {
-        Rule::R1 => 1,
-        Rule::R2 => 2,
-        Rule::R3 => 3,
-        Rule::R4 => 4,
-        Rule::R5 => 5,
-        Rule::R6 => 6,
-        Rule::R7 => 7,
-    }
-}
-
-// Document 01's number of an answer.
-fn number(answer: Answer) -> u64
-    ensures { λ n. ⌜ n ≡ said answer .number ⌝ }
-{
-    match answer {
-        Answer::Forbidden => 5,
-        Answer::Done => 8,
-        Answer::NotKept => 9,
-        Answer::AlreadyClosed => 10,
-        Answer::Full => 11,
-        Answer::Stale => 12,
-        Answer::Breaks(_) => 13,
-        Answer::NotALedger => 14,
-        Answer::StartRefused => 15,
-        Answer::Counted => 16,
-        Answer::Outside => 17,
-        Answer::NoRow => 18,
-        Answer::StillPending => 19,
-    }
-}
-
 fn print(answer: Answer) {
-    io::print_decimal(libc::STDOUT_FILENO, number(answer));
+    io::print_decimal(libc::STDOUT_FILENO, ledger::number(answer) as u64);
     if let Answer::Breaks(rule) = answer {
         io::write_all(libc::STDOUT_FILENO, b" R");
-        io::print_decimal(libc::STDOUT_FILENO, rule_number(rule));
+        io::print_decimal(libc::STDOUT_FILENO, ledger::rule_number(rule) as u64);
     }
 }
 

@@ -7,7 +7,7 @@ use native.Mathlib.Nat.{not-suc-le-zero}
 use native.Mathlib.Omega.{arith}
 use borrow.Author.Tests.{le-leb, lt-leb, leb-true, leb-false}
 use lib.Dec.{leb}
-use lib.ListN.{length, getD, take, drop, take-append-drop}
+use lib.ListN.{length, getD, take, drop, take-append-drop, length-drop}
 use lib.Seq.{length-take-le, getD-take, take-suc, take-all}
 use Rattle.field.specs.Outcome.{both}
 use Rattle.trace.specs.Fields.{sizeOf, isWhole}
@@ -20,7 +20,7 @@ differ e = let z : _≡_ {A = ℕ} 0 1 = cc in omega arith
 -- ---- what begins a field
 
 -- three bytes tell its size
-size-take : (k : ℕ) (s : List ℕ) → 3 ≤ k → sizeOf (take k s) ≡ sizeOf s
+pub size-take : (k : ℕ) (s : List ℕ) → 3 ≤ k → sizeOf (take k s) ≡ sizeOf s
 unfolding sizeOf
 size-take k s h = rw (getD-take k s 1 0 (omega arith), getD-take k s 2 0 (omega arith))
 
@@ -39,7 +39,7 @@ not-yet s k fits less = go (leb 3 k) refl
         rw (len, e, size-take k s h, lt-leb (sizeOf s) k (less h))
 
 -- bytes at whose front a field stands have three, and its size
-whole-fits : (s : List ℕ) → isWhole s ≡ true → (3 ≤ length s) × (sizeOf s ≤ length s)
+pub whole-fits : (s : List ℕ) → isWhole s ≡ true → (3 ≤ length s) × (sizeOf s ≤ length s)
 unfolding isWhole
 whole-fits s e = go (leb 3 (length s)) refl (leb (sizeOf s) (length s)) refl
   where
@@ -49,7 +49,7 @@ whole-fits s e = go (leb 3 (length s)) refl (leb (sizeOf s) (length s)) refl
     go false f d g = absurd (differ (sym (rw f at e)))
 
 -- and where none stands they have less than its size
-cut-short : (s : List ℕ) → isWhole s ≡ false → 3 ≤ length s → length s < sizeOf s
+pub cut-short : (s : List ℕ) → isWhole s ≡ false → 3 ≤ length s → length s < sizeOf s
 unfolding isWhole
 cut-short s e h = go (leb (sizeOf s) (length s)) refl
   where
@@ -58,7 +58,7 @@ cut-short s e h = go (leb (sizeOf s) (length s)) refl
     go false g = leb-false (sizeOf s) (length s) g
 
 -- a size is three at least
-size-head : (s : List ℕ) → 3 ≤ sizeOf s
+pub size-head : (s : List ℕ) → 3 ≤ sizeOf s
 unfolding sizeOf
 size-head s = omega arith
 
@@ -123,3 +123,27 @@ module _ {A : Type 0} (step : A → List ℕ → A) where
           ap (feed step (holding a [])) (sym (take-append-drop (suc n) s))
           ∙ feed-cut (holding a []) (take (suc n) s) (drop (suc n) s)
           ∙ ap (λ (h : Held A). feed step h (drop (suc n) s)) (feed-field a s n (omega (arith, w .1)) (λ k h. not-yet s k (omega (arith, w .1)) (λ three. omega arith)) (rw z at (whole-then s e)))
+
+  -- ---- what holds of bytes however many fields they have
+
+  -- It holds of what is fed where it holds of bytes with no field at their front, and of bytes with one as soon as it holds of what
+  -- is behind that.
+  module _
+      (P : A → List ℕ → Held A → Type 0)
+      (none : (a : A) (s : List ℕ) → isWhole s ≡ false → P a s (holding a s))
+      (more : (a : A) (s : List ℕ) (h : Held A) → isWhole s ≡ true → P (step a (take (sizeOf s) s)) (drop (sizeOf s) s) h → P a s h)
+    where
+      front : (a : A) (s : List ℕ) → (isWhole s ≡ true → P (step a (take (sizeOf s) s)) (drop (sizeOf s) s) (feed step (holding (step a (take (sizeOf s) s)) []) (drop (sizeOf s) s))) → P a s (feed step (holding a []) s)
+      front a s behind = go (isWhole s) refl
+        where
+          go : (b : Bool) → isWhole s ≡ b → P a s (feed step (holding a []) s)
+          go false e = rw (fed-none a s e) (none a s e)
+          go true e = rw (fed-field a s e) (more a s _ e (behind e))
+
+      up-to : (n : ℕ) (a : A) (s : List ℕ) → length s ≤ n → P a s (feed step (holding a []) s)
+      up-to zero a s h = front a s (λ e. absurd (omega (arith, whole-fits s e .0)))
+      up-to (suc n) a s h =
+          front a s (λ e. up-to n (step a (take (sizeOf s) s)) (drop (sizeOf s) s) (omega (arith, length-drop (sizeOf s) s, size-head s, whole-fits s e .0)))
+
+      pub fed-by : (a : A) (s : List ℕ) → P a s (feed step (holding a []) s)
+      fed-by a s = up-to (length s) a s (omega arith)

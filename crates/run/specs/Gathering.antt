@@ -1,0 +1,45 @@
+-- How the functions that feed a trace go on: what is fed to one progress from an offset on is what is fed to the next from a later
+-- one on.
+use Prim.Native.Nat.{ℕ, _+_, _-_, _*_, _^_, _≤_, _<_}
+use mathlib.Core.Path.{_≡_}
+use mathlib.Core.Bool.{Bool, true, false}
+use mathlib.Core.List.{List}
+use lib.ListN.{length, take, drop}
+use lib.Dec.{eqb}
+use Rattle.integer.specs.Answer.{pick}
+use Rattle.trace.specs.Fields.{isWhole}
+use Rattle.trace.specs.declared.Field.{Field}
+use Rattle.run.specs.Events.{arrivedBy}
+use Rattle.run.specs.Progressing.{fed, arrivedAll}
+use Rattle.run.specs.declared.Event.{Event}
+use Rattle.run.specs.declared.Event.the-variants.{Fault}
+use Rattle.run.specs.declared.Stage.{Stage}
+use Rattle.run.specs.declared.Stage.the-variants.{Empty, Running, Faulty}
+use Rattle.run.specs.declared.Progress.{Progress}
+use Rattle.run.specs.declared.Fed.{Fed}
+use Rattle.run.specs.declared.Gathered.{Gathered}
+
+abbrev pub isRunning : Stage → Bool
+isRunning Empty = false
+isRunning Running = true
+isRunning (Faulty at) = false
+
+-- a field that is an arrival
+unfoldable pub arrivalIn : List ℕ → Field → Event
+arrivalIn s f = pick (eqb (f .tag) 3) (arrivedBy (take (f .end - f .start) (drop (f .start) s))) Fault
+
+-- arrivals from an offset on: feeding them all is feeding what is behind them to the ledger behind them
+pub record Gathers (s : List ℕ) (at : ℕ) (g : Gathered) (before after : List ℕ) : Type 0 where
+  pub same-room : length after ≡ length before
+  pub fits : 3 * g .count ≤ length before
+  pub goes-on : at ≤ g .end
+  pub ends : g .end ≤ length s
+  pub moves : 0 < g .count → at < g .end
+  pub feeds : (p : Progress) → p .stage ≡ Running → p .offset < 2 ^ 64 → fed p (drop at s) ≡ fed (arrivedAll p (take (3 * g .count) after) (g .end - at)) (drop (g .end) s)
+
+-- one turn: where nothing is used, no whole field stands there
+pub record Turns (p : Progress) (s : List ℕ) (at : ℕ) (r : Fed) : Type 0 where
+  pub goes-on : at ≤ r .used
+  pub ends : r .used ≤ length s
+  pub feeds : fed p (drop at s) ≡ fed (r .progress) (drop (r .used) s)
+  pub last : r .used ≡ at → isWhole (drop at s) ≡ false

@@ -1,0 +1,4 @@
+pub mod Events
+pub mod Progressing
+pub mod Gathering
+pub mod Advancing
