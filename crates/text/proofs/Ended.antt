@@ -64,13 +64,13 @@ module _ {item : Item} where
 
 module _ {x before after : List ℕ} {used : ℕ} (b : ℕ) (p : Put x before used after) (h : length (x ++ b ∷ []) ≤ length before) where
   -- there is room for one byte more,
-  pub byte-fits : used < length after
+  byte-fits : used < length after
   byte-fits =
       let k : length x ≤ length before = omega (arith, length-append x (b ∷ [])) in
       omega (arith, p .count, length-append x (b ∷ []), put-length p k)
 
   -- which is put behind by one store
-  pub byte-behind : Put (x ++ b ∷ []) before (used + 1) (set after used b)
+  byte-behind : Put (x ++ b ∷ []) before (used + 1) (set after used b)
   byte-behind =
       let k : length x < length before = omega (arith, length-append x (b ∷ [])) in
       let e : after ≡ x ++ getD before (length x) 0 ∷ drop (suc (length x)) before = p .holds ∙ rw (drop-cons before (length x) 0 k) in
@@ -78,9 +78,6 @@ module _ {x before after : List ℕ} {used : ℕ} (b : ℕ) (p : Put x before us
         count = rw (p .count, length-append x (b ∷ []));
         holds = rw (e, p .count, set-at x (getD before (length x) 0) (drop (suc (length x)) before) b (length x) refl, length-append x (b ∷ []), add-one (length x)) (sym (append-snoc x b (drop (suc (length x)) before)));
       }
-
-  pub behind-length : length (set after used b) ≡ length before
-  behind-length = put-length byte-behind h
 
 -- of an item
 module _ (item : Item) (last : Bool) (before : List ℕ) (h : length (endedOf item last) ≤ length before) where

@@ -4,6 +4,7 @@ mod lines;
 mod words;
 
 pub use lines::measure;
+pub use lines::of0;
 pub use lines::of1;
 pub use lines::of2;
 pub use lines::of3;

@@ -31,6 +31,14 @@ fn of(used: usize, a: Item, b: Item, c: Item, d: Item, e: Item, f: Item) -> Line
     Line { at, used }
 }
 
+// No items: a line of no bytes.
+pub fn of0() -> Line
+    ensures { λ r. ⌜ itemsOf r ≡ [] ⌝ }
+{
+    let a = Item::Number(0);
+    of(0, a, a, a, a, a, a)
+}
+
 pub fn of1(a: Item) -> Line
     ensures { λ r. ⌜ itemsOf r ≡ a ∷ [] ⌝ }
 {
