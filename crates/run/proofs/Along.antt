@@ -7,7 +7,7 @@ use native.Mathlib.Nat.{mod-add-mod, mod-eq-of-lt, div-mul-le-self}
 use native.Mathlib.Omega.{arith}
 use borrow.Author.Tests.{le-leb, eqb-true}
 use lib.Dec.{eqb}
-use lib.ListN.{length, take, drop, getD, set, length-drop, length-set}
+use lib.ListN.{length, take, drop, set, length-drop, length-set}
 use lib.Seq.{length-take-le, drop-drop, getD-take, take-suc-set}
 use Rattle.field.specs.declared.Arrival.{Arrival}
 use Rattle.ledger.specs.Steps.{arrivalOf}

@@ -1,13 +1,15 @@
 -- What a field is, by what was read of its value. Assumes nothing.
 use Prim.Native.Nat.{ℕ, _<_}
-use mathlib.Core.Path.{_≡_, sym, ap, _∙_}
-use mathlib.Core.List.{List}
+use mathlib.Core.Path.{_≡_, refl, sym, ap, _∙_}
+use mathlib.Core.List.{List, [], _∷_}
+use mathlib.Core.Logic.{⊎-elim}
+use native.Mathlib.Nat.{not-suc-le-zero}
 use native.Mathlib.Omega.{arith}
 use borrow.Author.Tests.{eq-eqb, ne-eqb}
+use denote.Enum.Declared.{tagOf}
+use types.Run.{OneOf}
 use lib.ListN.{length, getD}
-use Rattle.field.specs.Entries.{numberAt}
 use Rattle.field.specs.Fields.{fieldAt, integer, placeAt}
-use Rattle.field.specs.Outcome.{whole, no}
 use Rattle.field.specs.Told.{toldNumber, toldPlace}
 use Rattle.field.specs.declared.Place.{Place}
 use Rattle.field.specs.declared.NumberRead.{NumberRead}
@@ -18,11 +20,14 @@ use Rattle.field.proofs.Found.{number-at}
 use Rattle.field.proofs.Together.{number-missing, number-there}
 use Rattle.message.specs.Reading.{readOf, told}
 use Rattle.message.specs.Made.{answerOf}
+use Rattle.message.specs.declared.Message.{Message}
 use Rattle.message.specs.declared.Reading.{Reading}
+use Rattle.message.specs.declared.Reading.the-variants.{Whole, More, Unknown, TooLong, Unfilled, Forbidden, Oversize}
+use Rattle.message.proofs.Reading.{the-type}
 use Rattle.message.proofs.Once.{answer-back}
-use Rattle.run.specs.Events.{partBy, startedBy, readingBy, controlBy, arrivedBy}
+use Rattle.run.specs.Events.{partBy, startedBy, malformedBy, readingBy, controlBy, arrivedBy}
 use Rattle.run.specs.declared.Event.{Event}
-use Rattle.run.specs.declared.Event.the-variants.{Arrived, Fault}
+use Rattle.run.specs.declared.Event.the-variants.{Control, Arrived, Fault}
 
 -- ---- tag 1
 
@@ -52,6 +57,29 @@ module _ (value : List ℕ) {r : NumberRead} (said : toldNumber r ≡ fieldAt in
 pub control-by : (value : List ℕ) {r v : Reading} {e : Event} → told r ≡ readOf value → r ≡ v → e ≡ readingBy value v → e ≡ controlBy value
 unfolding controlBy
 control-by value {r} said h is = is ∙ ap (readingBy value) (sym h ∙ sym (answer-back r) ∙ ap answerOf said)
+
+-- one that is not whole, by the place of its variant
+behind-first : (n : ℕ) → OneOf (1 ∷ 2 ∷ 3 ∷ 4 ∷ 5 ∷ 6 ∷ []) n → 0 < n
+behind-first n = ⊎-elim (λ e. omega arith) (⊎-elim (λ e. omega arith) (⊎-elim (λ e. omega arith) (⊎-elim (λ e. omega arith) (⊎-elim (λ e. omega arith) (λ e. omega arith)))))
+
+not-whole : (value : List ℕ) (r : Reading) → OneOf (1 ∷ 2 ∷ 3 ∷ 4 ∷ 5 ∷ 6 ∷ []) (tagOf the-type r) → malformedBy r ≡ readingBy value r
+not-whole value (Whole m used) h = absurd (not-suc-le-zero (behind-first 0 h))
+not-whole value More h = refl
+not-whole value Unknown h = refl
+not-whole value TooLong h = refl
+not-whole value Unfilled h = refl
+not-whole value Forbidden h = refl
+not-whole value Oversize h = refl
+
+pub control-else : (value : List ℕ) (r : Reading) {e : Event} → told r ≡ readOf value → OneOf (1 ∷ 2 ∷ 3 ∷ 4 ∷ 5 ∷ 6 ∷ []) (tagOf the-type r) → e ≡ malformedBy r → e ≡ controlBy value
+control-else value r said h is = control-by value {r = r} said refl (is ∙ not-whole value r h)
+
+module _ (value : List ℕ) {r : Reading} {m : Message} {used : ℕ} (said : told r ≡ readOf value) (h : r ≡ Whole m used) where
+  pub control-over : (used ≡ length value → ⊥) → Fault ≡ controlBy value
+  control-over k = control-by value said h (rw (ne-eqb used (length value) k))
+
+  pub control-filled : used ≡ length value → Control m ≡ controlBy value
+  control-filled k = control-by value said h (rw (eq-eqb used (length value) k))
 
 -- ---- tag 3
 

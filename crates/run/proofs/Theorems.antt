@@ -7,7 +7,7 @@ use native.Mathlib.Nat.{mod-eq-of-lt}
 use native.Mathlib.Omega.{arith}
 use borrow.Author.Tests.{leb-true, leb-false}
 use lib.Dec.{leb}
-use lib.ListN.{length, take, drop, getD, length-drop}
+use lib.ListN.{length, take, getD, length-drop}
 use lib.Seq.{getD-drop}
 use Rattle.integer.specs.Octets.{Octets}
 use Rattle.ledger.specs.Ledgers.{isLedger}

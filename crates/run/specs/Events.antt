@@ -29,15 +29,24 @@ unfoldable pub startedBy : List ℕ → Event
 startedBy value =
     onFound (numberAt value 1) (λ maximum end. filling value end (partBy (getD value 0 0) maximum)) Fault
 
--- tag 2
+-- tag 2: what is no whole message answers 1, a fault, or is malformed
+abbrev pub malformedBy : Reading → Event
+malformedBy (Whole m used) = Fault
+malformedBy More = Fault
+malformedBy Unknown = Malformed 2
+malformedBy TooLong = Malformed 3
+malformedBy Unfilled = Malformed 4
+malformedBy Forbidden = Malformed 5
+malformedBy Oversize = Malformed 6
+
 abbrev pub readingBy : List ℕ → Reading → Event
 readingBy value (Whole m used) = filling value used (Control m)
-readingBy value More = Fault
-readingBy value Unknown = Malformed 2
-readingBy value TooLong = Malformed 3
-readingBy value Unfilled = Malformed 4
-readingBy value Forbidden = Malformed 5
-readingBy value Oversize = Malformed 6
+readingBy value More = malformedBy More
+readingBy value Unknown = malformedBy Unknown
+readingBy value TooLong = malformedBy TooLong
+readingBy value Unfilled = malformedBy Unfilled
+readingBy value Forbidden = malformedBy Forbidden
+readingBy value Oversize = malformedBy Oversize
 
 unfoldable pub controlBy : List ℕ → Event
 controlBy value = readingBy value (answerOf (readOf value))

@@ -1,12 +1,11 @@
 -- A trace is taken field by field by a ledger of 64 rows.
 use Prim.Native.Nat.{ℕ, _+_, _-_, _%_, _^_}
 use mathlib.Core.List.{List, []}
-use lib.ListN.{length, take}
+use lib.ListN.{length}
 use lib.Dec.{eqb}
 use Rattle.integer.specs.Answer.{pick}
-use Rattle.integer.specs.Integer.{over}
 use Rattle.ledger.specs.Ledgers.{emptyLedger}
-use Rattle.ledger.specs.Answers.{Said, only, Came, same}
+use Rattle.ledger.specs.Answers.{Said, Came, same}
 use Rattle.ledger.specs.Steps.{startOf, takeOf, malformedOf, arrivalOf}
 use Rattle.ledger.specs.Runs.{arrivalsIn, behind}
 use Rattle.ledger.specs.declared.Ledger.{Ledger}

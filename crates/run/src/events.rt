@@ -1,6 +1,6 @@
 // What a field of a trace is, by its tag and its value.
 ghost use mathlib.Core.Path.{_≡_};
-ghost use Rattle.run.specs.Events.{startedBy, controlBy, arrivedBy, eventOf};
+ghost use Rattle.run.specs.Events.{startedBy, controlBy, malformedBy, arrivedBy, eventOf};
 use crate::Event;
 use field::Arrival;
 use field::NumberRead;
@@ -42,13 +42,21 @@ fn control(value: &[u8]) -> Event
     ensures { λ r. ⌜ r ≡ controlBy (now (value .entry)) ⌝ }
 {
     let reading = message::read(value);
+    let Reading::Whole(m, used) = reading else {
+        return malformed(reading);
+    };
+    if used != value.len() {
+        return Event::Fault;
+    }
+    Event::Control(m)
+}
+
+// A reading that is not whole: 1 is a fault, any other number is malformed.
+fn malformed(reading: Reading) -> Event
+    ensures { λ r. ⌜ r ≡ malformedBy reading ⌝ }
+{
     match reading {
-        Reading::Whole(m, used) => {
-            if used != value.len() {
-                return Event::Fault;
-            }
-            Event::Control(m)
-        }
+        Reading::Whole(_, _) => Event::Fault,
         Reading::More => Event::Fault,
         Reading::Unknown => Event::Malformed(2),
         Reading::TooLong => Event::Malformed(3),

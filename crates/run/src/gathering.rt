@@ -6,7 +6,6 @@ ghost use Rattle.run.specs.Gathering.{Gathers, arrivalIn};
 use crate::Event;
 use crate::Gathered;
 use crate::events::arrived;
-use field::Arrival;
 use trace::Field;
 use trace::FieldRead;
 use trace::field_at;

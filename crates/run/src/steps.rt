@@ -1,7 +1,7 @@
 // How far a trace was taken, and one event more.
 ghost use mathlib.Core.Path.{_≡_};
-ghost use Rattle.run.specs.Progressing.{dueFirst, dueThen, dueOf, heardOf, stageBy, stageOf, stepOf, begun, endStage, endOf, toldHeard, toldStep};
-ghost use Rattle.ledger.specs.Answers.{Came, told};
+ghost use Rattle.run.specs.Progressing.{dueOf, heardOf, stageBy, stageOf, stepOf, begun, endStage, endOf, toldHeard, toldStep};
+ghost use Rattle.ledger.specs.Answers.{told};
 use crate::Event;
 use crate::Heard;
 use crate::Progress;

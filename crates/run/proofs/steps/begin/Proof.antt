@@ -1,11 +1,10 @@
 -- `begin` meets its contract. Assumes nothing.
 use borrow.Author.Needs.{needs}
-use mathlib.Core.Path.{_≡_, ap}
+use mathlib.Core.Path.{ap}
 use Rattle.ledger.specs.Answers.{Came}
 use Rattle.row.specs.Places.{small}
 use Rattle.ledger.specs.Steps.{startOf}
 use Rattle.run.specs.declared.Stage.the-variants.{Empty}
-use Rattle.run.specs.declared.Progress.{Progress}
 use Rattle.run.proofs.steps.begin.Statement.{statement}
 use Rattle.run.proofs.steps.begin.Tie as tie
 
