@@ -5,10 +5,10 @@ use mathlib.Core.Path.{_≡_, refl}
 use mathlib.Core.Logic.{⊎-elim}
 use mathlib.Core.List.{List, [], _∷_, map, List·Memᴰ, List·Memᴰ·not-nil, List·Memᴰ·cases-cons}
 use Rattle.integer.specs.Answer.{Answer, whole, refused, wrote, Written}
-use Rattle.field.specs.Entries.{numberAt}
-use Rattle.field.specs.Fields.{fieldAt}
+use Rattle.field.specs.Entries.{numberAt, textAt, numberedAt, entryAt, mostOf, entriesAt, few, listAt}
+use Rattle.field.specs.Fields.{fieldAt, placeAt}
 use Rattle.field.specs.declared.Piece.the-variants.{Number}
-use Rattle.layout.specs.Layout.{scan}
+use Rattle.layout.specs.Layout.{scan, place, parameters}
 use Rattle.layout.specs.Typed.{Typed}
 use Rattle.fetch.specs.Layouts.{fetchCancel}
 use Rattle.message.specs.Types.{known, layoutOf}
@@ -23,19 +23,30 @@ use Rattle.shortest.specs.Writing.{rightAll, sizedAll, encodeAll, writtenOf, fr
 use Rattle.field.specs.Value.{mean, encField, encode}
 use Rattle.shortest.specs.Small.{smallPiece, smallAll}
 use Rattle.field.specs.Value.{nowhere}
-use Rattle.field.specs.Rules.{askable}
+use Rattle.field.specs.Rules.{askable, givable}
+use Rattle.subscription.specs.Layouts.{filter, delivery, subscribe, content, subscribeOk}
+use Rattle.subscription.specs.Made.{messageOf as subscriptionOf}
+use Rattle.message.specs.Made.{familyOf, messageOf as madeOf, answerOf}
 use Rattle.subscription.specs.Allowed.{allowedFilter, allowedOf as subscriptionAllowed}
 use Rattle.subscription.specs.declared.Filter.the-variants.{Latest}
 use Rattle.subscription.specs.declared.SubscriptionMessage.the-variants.{Subscribe}
 use Rattle.message.specs.Sound.{soundOf}
-use Rattle.row.specs.Places.{small, smallPlace}
-use Rattle.row.specs.Ranges.{isKnown, smallRange}
-use Rattle.row.specs.Rows.{agree, suits, isRow, isPending, isNowhere, isUnused}
+use Rattle.row.specs.Places.{before, small, smallPlace}
+use Rattle.row.specs.Ranges.{inRange, isKnown, smallRange, settledOf}
+use Rattle.row.specs.Rows.{agree, suits, isRow, isPending, isNowhere, isUnused, greater, risen, countedRow, arriveOf, openOf}
 use Rattle.ledger.specs.Ledgers.{held, rising, hasAlias, distinct, allUnused, bounded, isLedger}
 use Rattle.ledger.specs.Answers.{Said, only, breaks, stops, gateOf, gated}
-use Rattle.ledger.specs.Steps.{startOf, added, subscribeStep, takeOf}
+use Rattle.ledger.specs.Steps.{startOf, find, changed, added, subscribeStep, okStep, arrivalStep, smallArrival, takeOf, arrivalOf}
 use Rattle.ledger.specs.declared.Ledger.{Ledger}
 use Rattle.ledger.specs.declared.Part.the-variants.{Subscriber}
+use Rattle.trace.specs.Fields.{tagOf, valueOf, sizeOf as fieldSize, isWhole}
+use Rattle.trace.specs.Feeding.{take, feed}
+use Rattle.text.specs.Letters.{letters, decimalIn, decimalOf}
+use Rattle.text.specs.Words.{wordOf}
+use Rattle.text.specs.Lines.{itemOf, endedOf, isNone, lineOf}
+use Rattle.run.specs.Events.{startedBy, controlBy, arrivedBy, eventOf}
+use Rattle.run.specs.Progressing.{offsetOf, stepOf, step, fed, endOf, runOf}
+use Rattle.report.specs.Report.{rowsText, ledgerText, textOf, reportOf}
 use Rattle.integer.specs.Integer.{wide, room, tag, sizeOf, spell, bytesOf, encOf, readOf, putOf, writeOf}
 
 -- a line: what is done, and what it comes to
@@ -50,12 +61,15 @@ pub data Line : Type 0 where
   sends : List ℕ → Message → List ℕ → Written → Line
   -- a subscriber's ledger with so many rows and a maximum takes messages
   takes : ℕ → ℕ → List Message → List Said → Line
+  -- a trace is reported
+  reports : List ℕ → List ℕ → Line
 
 pub data Result : Type 0 where
   read : Answer ℕ → Result
   write : Written → Result
   receive : Answer Typed → Result
   answer : List Said → Result
+  report : List ℕ → Result
 
 -- what each message is answered, one after the other
 unfoldable pub answersTo : Ledger → List Message → List Said
@@ -84,6 +98,7 @@ found (writes n before r) = write (writeOf n before)
 found (receives s r) = receive (messageOf s)
 found (sends s m before r) = write (messageAs s m before)
 found (takes rows maximum ms r) = answer (answersTo (startOf Subscriber rows maximum .next) ms)
+found (reports trace r) = report (reportOf trace)
 
 -- what the line says
 unfoldable pub stated : Line → Result
@@ -92,6 +107,16 @@ stated (writes n before r) = write r
 stated (receives s r) = receive r
 stated (sends s m before r) = write r
 stated (takes rows maximum ms r) = answer r
+stated (reports trace r) = report r
+
+-- the report's history: part and maximum; SUBSCRIBE; SUBSCRIBE_OK; two arrivals
+abbrev pub history : List ℕ
+history =
+    0x01 ∷ 0x00 ∷ 0x02 ∷ 0x00 ∷ 0x0A
+    ∷ 0x02 ∷ 0x00 ∷ 0x0E ∷ 0x03 ∷ 0x0C ∷ 0x03 ∷ 0x07 ∷ 0x01 ∷ 0x01 ∷ 0x6D ∷ 0x02 ∷ 0x63 ∷ 0x65 ∷ 0x80 ∷ 0x01 ∷ 0x02 ∷ 0x00
+    ∷ 0x02 ∷ 0x00 ∷ 0x07 ∷ 0x04 ∷ 0x05 ∷ 0x03 ∷ 0x00 ∷ 0x01 ∷ 0x00 ∷ 0x00
+    ∷ 0x03 ∷ 0x00 ∷ 0x06 ∷ 0x07 ∷ 0x80 ∷ 0x01 ∷ 0x00 ∷ 0x00 ∷ 0x00
+    ∷ 0x03 ∷ 0x00 ∷ 0x06 ∷ 0x07 ∷ 0x80 ∷ 0x00 ∷ 0xFF ∷ 0xFF ∷ 0x02 ∷ []
 
 unfoldable pub lines : List Line
 lines =
@@ -132,10 +157,14 @@ lines =
     -- "ID 9 twice with the same alias: R2. Maximum 0: every ID R3."
     ∷ takes 64 10 (subscribing 9 1 ∷ subscribing 9 1 ∷ []) (only 8 ∷ record { number = 13; rule = 2 } ∷ [])
     ∷ takes 64 0 (subscribing 0 0 ∷ []) (record { number = 13; rule = 3 } ∷ [])
+    -- P12 the report's history gives its row
+    ∷ reports history (letters "open 1\nID ALIAS STATE GROUP OBJECT COUNT\n3 7 active 65536 0 2\n")
+    -- "0 for an empty input"
+    ∷ reports [] (letters "trace fault at 0\n")
     ∷ []
 
 computed : map found lines ≡ map stated lines
-unfolding found stated lines wide room tag sizeOf spell bytesOf readOf putOf writeOf numberAt fieldAt scan fetchCancel known layoutOf bodyOf messageOf messageAs allowedOf fetchAllowed right sized rightAll sizedAll encodeAll encode encField mean writtenOf frame encOf answersTo smallPiece smallAll askable allowedFilter subscriptionAllowed soundOf small smallPlace isKnown smallRange agree suits isRow isPending isNowhere isUnused held rising hasAlias distinct allUnused bounded isLedger breaks stops gateOf gated startOf added subscribeStep takeOf
+unfolding found stated lines wide room tag sizeOf spell bytesOf readOf putOf writeOf numberAt fieldAt scan fetchCancel known layoutOf bodyOf messageOf messageAs allowedOf fetchAllowed right sized rightAll sizedAll encodeAll encode encField mean writtenOf frame encOf answersTo smallPiece smallAll askable allowedFilter subscriptionAllowed soundOf small smallPlace isKnown smallRange agree suits isRow isPending isNowhere isUnused held rising hasAlias distinct allUnused bounded isLedger breaks stops gateOf gated startOf added subscribeStep takeOf textAt numberedAt entryAt mostOf entriesAt few listAt placeAt place parameters givable filter delivery subscribe content subscribeOk subscriptionOf familyOf madeOf answerOf before inRange settledOf greater risen countedRow arriveOf openOf find changed okStep arrivalStep smallArrival arrivalOf tagOf valueOf fieldSize isWhole take feed letters decimalIn decimalOf wordOf itemOf endedOf isNone lineOf startedBy controlBy arrivedBy eventOf offsetOf stepOf step fed endOf runOf rowsText ledgerText textOf reportOf
 computed = refl
 
 -- two functions that map a list alike agree at each of its members

@@ -1,11 +1,12 @@
 // Answers lines of bytes: each line of standard input is the name of a reader and bytes in hexadecimal. The number that reading
-// answers is printed for each, and after a 0 the bytes used.
+// answers is printed for each, and after a 0 the bytes used; for a trace, its report.
 mod numbers;
 mod objects;
 
 ghost use mathlib.Core.Path.{_≡_};
 ghost use Prim.Native.Nat.{_≤_};
 ghost use lib.ListN.{length};
+use text::Putting;
 
 // Document 01's number of an answer, and the bytes used, 0 for a refusal.
 pub struct Said {
@@ -107,6 +108,13 @@ fn say(a: Said) {
     io::write_all(libc::STDOUT_FILENO, b"\n");
 }
 
+fn say_report(s: &[u8]) {
+    let mut out = [0u8; 16384];
+    if let Putting::Done(n) = report::of_trace(s, &mut out) {
+        io::write_all(libc::STDOUT_FILENO, &out[..n]);
+    }
+}
+
 // Has bytes read by the reader of this name.
 fn answer(word: &[u8], s: &[u8]) {
     if is_same(word, b"control") {
@@ -123,6 +131,9 @@ fn answer(word: &[u8], s: &[u8]) {
     }
     if is_same(word, b"fetchobj") {
         say(objects::of_fetch_object(header::read_fetch_object(s)));
+    }
+    if is_same(word, b"trace") {
+        say_report(s);
     }
 }
 

@@ -1,0 +1,41 @@
+-- What a run that ended shows. Assumes nothing.
+use Prim.Native.Nat.{ℕ, _-_, _≤_}
+use mathlib.Core.Path.{_≡_, refl, sym, ap, _∙_}
+use mathlib.Core.List.{List}
+use native.Mathlib.Omega.{arith}
+use lib.ListN.{length}
+use Rattle.integer.specs.Answer.{Answer, Nothing, Leaves}
+use Rattle.text.specs.Lines.{lineOf, putOf}
+use Rattle.text.specs.declared.Item.{Item}
+use Rattle.run.specs.Progressing.{begun, fed, endOf, runOf, fedOf}
+use Rattle.run.proofs.Rests.{rest-few}
+use Rattle.run.specs.declared.Fed.{Fed}
+use Rattle.run.specs.declared.Stage.the-variants.{Empty, Running, Faulty}
+use Rattle.run.specs.declared.Progress.{Progress}
+use Rattle.report.specs.Rows.{faultLine}
+use Rattle.report.specs.Report.{ledgerText, textOf, reportOf}
+
+module _ (p q : Progress) (e : q ≡ p) (before : List ℕ) {r : Answer Nothing} {after : List ℕ} where
+  pub shows-nothing : (items : List Item) → q .stage ≡ Empty → items ≡ faultLine 0 → Leaves (putOf (lineOf items) before) r after → Leaves (putOf (textOf p) before) r after
+  unfolding textOf
+  shows-nothing items s f w = rw (← e, s, ← f) w
+
+  pub shows-ledger : q .stage ≡ Running → Leaves (putOf (ledgerText (q .ledger)) before) r after → Leaves (putOf (textOf p) before) r after
+  unfolding textOf
+  shows-ledger s w = rw (← e, s) w
+
+  pub shows-fault : (at : ℕ) (items : List Item) → q .stage ≡ Faulty at → items ≡ faultLine at → Leaves (putOf (lineOf items) before) r after → Leaves (putOf (textOf p) before) r after
+  unfolding textOf
+  shows-fault at items s f w = rw (← e, s, ← f) w
+
+-- a trace that was fed whole, and ends
+module _ (s : List ℕ) (p : Progress) (r : Fed) (b : p ≡ begun) (e : r ≡ fedOf p s) where
+  pub used-fits : r .used ≤ length s
+  unfolding fedOf
+  used-fits = rw e (omega arith)
+
+  pub shows-report : textOf (endOf (r .progress) (length s - r .used)) ≡ reportOf s
+  unfolding fedOf reportOf runOf
+  shows-report =
+      let left : length s - (length s - length (fed begun s .rest)) ≡ length (fed begun s .rest) = omega (arith, rest-few begun s) in
+      rw (e, b, left)

@@ -1,0 +1,70 @@
+-- The session's line, the columns and the rows, each into what is left behind the one before. Assumes nothing.
+use Prim.Native.Nat.{ℕ, _+_, _≤_}
+use mathlib.Core.Path.{_≡_, refl, sym}
+use mathlib.Core.List.{List, _++_, append-assoc}
+use native.Mathlib.Omega.{arith}
+use lib.ListN.{length, length-append}
+use Rattle.ledger.specs.Ledgers.{held}
+use Rattle.ledger.specs.declared.Ledger.{Ledger}
+use Rattle.shortest.specs.Putting.{Put}
+use Rattle.shortest.proofs.Puts.{lent, given, Room, first-fits, ends-within, second-fits, both-fit, put-both}
+use Rattle.text.specs.Lines.{lineOf}
+use Rattle.text.specs.declared.Item.{Item}
+use Rattle.report.specs.Rows.{sessionLine, columnsLine}
+use Rattle.report.specs.Report.{rowsText, ledgerText}
+
+-- the two lines in front
+abbrev session : Ledger → List ℕ
+session l = lineOf (sessionLine (l .session) (l .used))
+
+abbrev columns : List ℕ
+columns = lineOf columnsLine
+
+module _ (l : Ledger) (before : List ℕ) (fits : length (ledgerText l) ≤ length before) where
+  all-room : Room (session l ++ columns) (rowsText (held l)) (ledgerText l) before
+  unfolding ledgerText
+  all-room = record { joins = append-assoc (session l) columns (rowsText (held l)); fits = fits }
+
+  front-room : Room (session l) columns (session l ++ columns) before
+  front-room = record { joins = refl; fits = first-fits all-room }
+
+  -- a line is put as its items are known,
+  module _ {items : List Item} (is : items ≡ sessionLine (l .session) (l .used)) where
+    pub session-fits : length (lineOf items) ≤ length before
+    session-fits = rw is (first-fits front-room)
+
+    module _ {n : ℕ} {after : List ℕ} (p : Put (lineOf items) before n after) where
+      first : Put (session l) before n after
+      first = rw (← is) p
+
+      pub session-ends : n ≤ length after
+      session-ends = ends-within front-room first
+
+      -- the columns behind it,
+      module _ {others : List Item} (are : others ≡ columnsLine) where
+        pub columns-fit : length (lineOf others) ≤ length (lent n after)
+        columns-fit = rw are (second-fits front-room first)
+
+        module _ {m : ℕ} {t : List ℕ} (q : Put (lineOf others) (lent n after) m t) where
+          second : Put columns (lent n after) m t
+          second = rw (← are) q
+
+          front : Put (session l ++ columns) before (n + m) (given n after t)
+          front = put-both front-room first second
+
+          pub front-sum : n + m ≤ length before
+          front-sum = both-fit front-room first second
+
+          pub front-ends : n + m ≤ length (given n after t)
+          front-ends = ends-within all-room front
+
+          -- and the rows behind both
+          pub rows-fit : length (rowsText (held l)) ≤ length (lent (n + m) (given n after t))
+          rows-fit = second-fits all-room front
+
+          module _ {k : ℕ} {u : List ℕ} (r : Put (rowsText (held l)) (lent (n + m) (given n after t)) k u) where
+            pub all-sum : n + m + k ≤ length before
+            all-sum = both-fit all-room front r
+
+            pub all-put : Put (ledgerText l) before (n + m + k) (given (n + m) (given n after t) u)
+            all-put = put-both all-room front r

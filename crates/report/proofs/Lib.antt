@@ -1,0 +1,4 @@
+pub mod Putting
+pub mod Showing
+pub mod Joining
+pub mod Ending

@@ -1,0 +1,61 @@
+-- The rows of a ledger, one line behind the other, and how long a report can be. Assumes nothing.
+use Prim.Native.Nat.{ℕ, _+_, _*_, _≤_, _<_, min}
+use mathlib.Core.Path.{_≡_, refl, sym, ap, _∙_}
+use mathlib.Core.List.{List, [], _∷_, _++_}
+use native.Mathlib.Nat.{le-refl}
+use native.Mathlib.Numerals.{add-one}
+use native.Mathlib.Omega.{arith}
+use lib.ListN.{length, getD, take, drop, length-take, length-append, drop-of-length-le}
+use lib.Seq.{drop-cons, getD-take}
+use Rattle.row.specs.declared.Row.{Row}
+use Rattle.ledger.specs.Ledgers.{held}
+use Rattle.ledger.specs.declared.Ledger.{Ledger}
+use Rattle.ledger.specs.declared.Session.{Session}
+use Rattle.ledger.specs.declared.Session.the-variants.{Open, Closed}
+use Rattle.shortest.proofs.Going.{Next}
+use Rattle.text.specs.Lines.{lineOf}
+use Rattle.text.specs.declared.Item.{Item}
+use Rattle.text.proofs.Bounds.{line-bound}
+use Rattle.report.specs.Rows.{sessionLine, columnsLine, rowLine}
+use Rattle.report.specs.Report.{rowsText, ledgerText}
+
+-- ---- how long lines are
+
+session-bound : (session : Session) (rows : ℕ) → length (lineOf (sessionLine session rows)) ≤ 102
+session-bound Open rows = omega (arith, line-bound (sessionLine Open rows))
+session-bound (Closed rule) rows = omega (arith, line-bound (sessionLine (Closed rule) rows))
+
+rows-bound : (rs : List Row) → length (rowsText rs) ≤ 204 * length rs
+unfolding rowsText
+rows-bound [] = le-refl 0
+rows-bound (r ∷ rs) = omega (arith, length-append (lineOf (rowLine r)) (rowsText rs), line-bound (rowLine r), rows-bound rs)
+
+-- ---- a ledger's rows
+
+module _ (l : Ledger) (places : length (l .rows) ≡ 64) where
+  -- as many as are used, and no more than there are places
+  held-count : length (held l) ≡ min (l .used) 64
+  unfolding held
+  held-count = length-take (l .used) (l .rows) ∙ rw places
+
+  module _ {n : ℕ} (e : n ≡ min (l .used) 64) (i : ℕ) where
+    -- the text goes on with the i-th,
+    pub row-next : (d : Row) → i < n → {items : List Item} → items ≡ rowLine (getD (l .rows) i d) → Next (lineOf items) (rowsText (drop (i + 1) (held l))) (rowsText (drop i (held l)))
+    unfolding held rowsText
+    row-next d h f =
+        record {
+          joins = rw (f, drop-cons (take (l .used) (l .rows)) i d (omega (arith, held-count)), add-one i, getD-take (l .used) (l .rows) i d (omega arith));
+        }
+
+    -- and behind the last it ends
+    pub rows-end : n ≤ i → rowsText (drop i (held l)) ≡ []
+    unfolding rowsText
+    rows-end h = rw (drop-of-length-le (held l) {i = i} (omega (arith, held-count)))
+
+  -- no report is longer
+  pub ledger-bound : length (ledgerText l) ≤ 13_464
+  unfolding ledgerText
+  ledger-bound =
+      let a = lineOf (sessionLine (l .session) (l .used)) in
+      let b = lineOf columnsLine in
+      omega (arith, length-append a (b ++ rowsText (held l)), length-append b (rowsText (held l)), session-bound (l .session) (l .used), line-bound columnsLine, rows-bound (held l), held-count)

@@ -1,0 +1,102 @@
+// The text of a report, put at the front of what is lent.
+ghost use mathlib.Core.Path.{_≡_};
+ghost use Prim.Native.Nat.{_≤_, min};
+ghost use lib.ListN.{length};
+ghost use Rattle.integer.specs.Answer.{Leaves};
+ghost use Rattle.shortest.specs.Putting.{Put};
+ghost use Rattle.ledger.specs.Ledgers.{held};
+ghost use Rattle.text.specs.Lines.{itemsOf, lineOf, putOf, saying};
+ghost use Rattle.run.specs.Progressing.{endOf};
+ghost use Rattle.report.specs.Report.{rowsText, ledgerText, textBy, textOf, reportOf};
+use crate::lines::columns_line;
+use crate::lines::fault_line;
+use crate::lines::row_line;
+use crate::lines::session_line;
+use ledger::Ledger;
+use run::Progress;
+use run::Stage;
+use text::Line;
+use text::Putting;
+
+// A line that fits.
+fn put_line(out: &mut [u8], line: Line) -> usize
+    requires { ⌜ length (lineOf (itemsOf line)) ≤ length (now out) ⌝ }
+    ensures { λ r. ⌜ Put (lineOf (itemsOf line)) (now (out .entry)) r (now (out .exit)) ⌝ }
+{
+    let Putting::Done(n) = text::put(out, line) else {
+        return 0;
+    };
+    n
+}
+
+// How many rows there are: no more than there are places.
+fn sixty_four(used: usize) -> usize
+    ensures { λ r. ⌜ r ≡ min used 64 ⌝ }
+{
+    if used < 64 { used } else { 64 }
+}
+
+// A line for each row in use.
+fn put_rows(out: &mut [u8], l: Ledger) -> usize
+    requires { ⌜ length (rowsText (held l)) ≤ length (now out) ⌝ }
+    ensures { λ r. ⌜ Put (rowsText (held l)) (now (out .entry)) r (now (out .exit)) ⌝ }
+{
+    let used = sixty_four(l.used);
+    let mut at: usize = 0;
+    let mut i: usize = 0;
+    while i < used {
+        let row = l.rows[i];
+        let k = put_line(&mut out[at..], row_line(row));
+        at = at + k;
+        i += 1;
+    }
+    at
+}
+
+// The session, the columns, the rows.
+fn put_ledger(out: &mut [u8], l: Ledger) -> usize
+    requires { ⌜ length (ledgerText l) ≤ length (now out) ⌝ }
+    ensures { λ r. ⌜ Put (ledgerText l) (now (out .entry)) r (now (out .exit)) ⌝ }
+{
+    let session = l.session;
+    let a = put_line(out, session_line(session, l.used as u64));
+    let b = put_line(&mut out[a..], columns_line());
+    let at = a + b;
+    let c = put_rows(&mut out[at..], l);
+    at + c
+}
+
+// It is measured by being put where nobody looks: no report takes more than 13,464 bytes, 204 for each of 66 lines.
+fn write_ledger(out: &mut [u8], l: Ledger) -> Putting
+    ensures { λ r. ⌜ Leaves (putOf (ledgerText l) (now (out .entry))) (saying r) (now (out .exit)) ⌝ }
+{
+    let mut nowhere = [0u8; 13464];
+    if out.len() < put_ledger(&mut nowhere, l) {
+        return Putting::TooShort;
+    }
+    Putting::Done(put_ledger(out, l))
+}
+
+// The report of a trace that was fed, with left bytes behind its last whole field; 7 where out is too short, and then nothing is
+// written.
+pub fn of_progress(p: Progress, left: usize, out: &mut [u8]) -> Putting
+    ensures { λ r. ⌜ Leaves (putOf (textOf (endOf p left)) (now (out .entry))) (saying r) (now (out .exit)) ⌝ }
+{
+    let ended = p.finish(left);
+    let stage = ended.stage;
+    match stage {
+        Stage::Empty => text::put(out, fault_line(0)),
+        Stage::Running => write_ledger(out, ended.ledger),
+        Stage::Faulty(at) => text::put(out, fault_line(at)),
+    }
+}
+
+// The report of a whole trace.
+pub fn of_trace(s: &[u8], out: &mut [u8]) -> Putting
+    ensures { λ r. ⌜ Leaves (putOf (reportOf (now (s .entry))) (now (out .entry))) (saying r) (now (out .exit)) ⌝ }
+{
+    let fed = run::begin().feed(s);
+    let used = fed.used;
+    let progress = fed.progress;
+    of_progress(progress, s.len() - used, out)
+}
