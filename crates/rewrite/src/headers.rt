@@ -1,0 +1,100 @@
+// Data headers.
+ghost use mathlib.Core.Path.{_≡_};
+ghost use Rattle.header.specs.Told.{datagramSaid, streamSaid};
+ghost use Rattle.rewrite.specs.Rewriting.{datagramAgain, streamAgain, subgroupObjectAgain, fetchObjectAgain, Does};
+use crate::telling::tell;
+use header::Datagram;
+use header::DatagramRead;
+use header::FetchObjectRead;
+use header::StreamHeader;
+use header::StreamRead;
+use header::SubgroupObjectRead;
+
+// ---- datagrams
+
+pub fn datagram(s: &[u8], out: &mut [u8], info: &mut [u64]) -> u8
+    ensures { λ r. ⌜ Does (datagramAgain (now (s .entry)) (now (out .entry)) (now (info .entry))) r (now (out .exit)) (now (info .exit)) ⌝ }
+{
+    match header::read_datagram(s) {
+        DatagramRead::Unknown => 2,
+        DatagramRead::Cut => 4,
+        DatagramRead::Forbidden => 5,
+        DatagramRead::Whole(d, used) => {
+            if info.len() < 3 {
+                return 7;
+            }
+            let writing = header::write_datagram(out, s, d);
+            tell(info, writing, used, datagram_type(d))
+        }
+    }
+}
+
+fn datagram_type(d: Datagram) -> u64
+    ensures { λ r. ⌜ r ≡ datagramSaid d .type ⌝ }
+{
+    match d {
+        Datagram::Object(_) => 0x1,
+        Datagram::Status(_, _) => 0x2,
+    }
+}
+
+// ---- streams
+
+pub fn stream(s: &[u8], out: &mut [u8], info: &mut [u64]) -> u8
+    ensures { λ r. ⌜ Does (streamAgain (now (s .entry)) (now (out .entry)) (now (info .entry))) r (now (out .exit)) (now (info .exit)) ⌝ }
+{
+    match header::read_stream(s) {
+        StreamRead::More => 1,
+        StreamRead::Unknown => 2,
+        StreamRead::Whole(h, used) => {
+            if info.len() < 3 {
+                return 7;
+            }
+            let writing = header::write_stream(out, h);
+            tell(info, writing, used, stream_type(h))
+        }
+    }
+}
+
+fn stream_type(h: StreamHeader) -> u64
+    ensures { λ r. ⌜ r ≡ streamSaid h .type ⌝ }
+{
+    match h {
+        StreamHeader::Subgroup(_) => 0x4,
+        StreamHeader::Fetch(_) => 0x5,
+    }
+}
+
+// ---- objects on a stream, which have no type
+
+pub fn subgroup_object(s: &[u8], out: &mut [u8], info: &mut [u64]) -> u8
+    ensures { λ r. ⌜ Does (subgroupObjectAgain (now (s .entry)) (now (out .entry)) (now (info .entry))) r (now (out .exit)) (now (info .exit)) ⌝ }
+{
+    match header::read_subgroup_object(s) {
+        SubgroupObjectRead::More => 1,
+        SubgroupObjectRead::Forbidden => 5,
+        SubgroupObjectRead::Whole(o, used) => {
+            if info.len() < 3 {
+                return 7;
+            }
+            let writing = header::write_subgroup_object(out, s, o);
+            tell(info, writing, used, 0)
+        }
+    }
+}
+
+pub fn fetch_object(s: &[u8], out: &mut [u8], info: &mut [u64]) -> u8
+    ensures { λ r. ⌜ Does (fetchObjectAgain (now (s .entry)) (now (out .entry)) (now (info .entry))) r (now (out .exit)) (now (info .exit)) ⌝ }
+{
+    match header::read_fetch_object(s) {
+        FetchObjectRead::More => 1,
+        FetchObjectRead::Forbidden => 5,
+        FetchObjectRead::Whole(o, used) => {
+            if info.len() < 3 {
+                return 7;
+            }
+            let writing = header::write_fetch_object(out, s, o);
+            tell(info, writing, used, 0)
+        }
+    }
+}
