@@ -1,0 +1,13 @@
+// The calls that C makes: include/moq.h declares them. A slice is passed as a pointer and a count of elements. Each call answers
+// document 01's number, and changes what is lent to it only where it answers 0.
+mod headers;
+mod integers;
+mod messages;
+
+pub use headers::moq_datagram_rewrite;
+pub use headers::moq_fetch_object_rewrite;
+pub use headers::moq_stream_rewrite;
+pub use headers::moq_subgroup_object_rewrite;
+pub use integers::moq_integer_read;
+pub use integers::moq_integer_write;
+pub use messages::moq_control_rewrite;
