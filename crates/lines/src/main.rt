@@ -1,18 +1,14 @@
-// Answers lines of bytes: each line of standard input is the name of a reader and bytes in hexadecimal. The number that reading
-// answers is printed for each, and after a 0 the bytes used; for a trace, its report.
-mod numbers;
-mod objects;
-
+// Answers cases: each line of the file `cases` is the name of a reader and bytes in hexadecimal. For each a line is printed: the number
+// that is answered, and behind a 0 the bytes used and the shortest form; for an integer its number and the bytes used; for a
+// trace its report, with ` /` for each newline.
 ghost use mathlib.Core.Path.{_≡_};
 ghost use Prim.Native.Nat.{_≤_};
 ghost use lib.ListN.{length};
+use integer::Reading;
+use libc::STDOUT_FILENO;
 use text::Putting;
 
-// Document 01's number of an answer, and the bytes used, 0 for a refusal.
-pub struct Said {
-    number: u64,
-    used: usize,
-}
+// ---- bytes in hexadecimal
 
 // The value of a hexadecimal digit; 16 for any other character.
 fn digit(c: u8) -> u8 {
@@ -99,47 +95,144 @@ fn is_same(a: &[u8], b: &[u8]) -> bool {
     true
 }
 
-fn say(a: Said) {
-    io::print_decimal(libc::STDOUT_FILENO, a.number);
-    if a.number == 0 {
-        io::write_all(libc::STDOUT_FILENO, b" ");
-        io::print_decimal(libc::STDOUT_FILENO, a.used as u64);
+// ---- what is printed
+
+fn say(word: &[u8]) {
+    io::write_all(STDOUT_FILENO, word);
+}
+
+fn say_number(n: u64) {
+    io::print_decimal(STDOUT_FILENO, n);
+}
+
+fn say_byte(byte: u8) {
+    io::print_hex(STDOUT_FILENO, byte as u64, 2);
+}
+
+// The first count bytes of out.
+fn say_bytes(out: &[u8], count: usize) {
+    let mut i: usize = 0;
+    while i < out.len() {
+        if i < count {
+            say_byte(out[i]);
+        }
+        i += 1;
     }
-    io::write_all(libc::STDOUT_FILENO, b"\n");
+}
+
+// The number, and behind a 0 the bytes used and those written.
+fn say_rewritten(number: u8, info: [u64; 3], out: &[u8]) {
+    say_number(number as u64);
+    if number == 0 {
+        say(b" ");
+        say_number(info[0]);
+        say(b" ");
+        say_bytes(out, info[1] as usize);
+    }
+    say(b"\n");
+}
+
+fn say_integer(s: &[u8]) {
+    if let Reading::Whole(n, used) = integer::read(s) {
+        say(b"0 ");
+        say_number(n);
+        say(b" ");
+        say_number(used as u64);
+        say(b"\n");
+        return;
+    }
+    say(b"1\n");
+}
+
+// Text on one line.
+fn say_text(text: &[u8]) {
+    let mut i: usize = 0;
+    while i < text.len() {
+        if text[i] == b'\n' {
+            say(b" /");
+            if i + 1 < text.len() {
+                say(b" ");
+            }
+        } else {
+            say(&text[i..i + 1]);
+        }
+        i += 1;
+    }
+    say(b"\n");
 }
 
 fn say_report(s: &[u8]) {
     let mut out = [0u8; 16384];
     if let Putting::Done(n) = report::of_trace(s, &mut out) {
-        io::write_all(libc::STDOUT_FILENO, &out[..n]);
+        say_text(&out[..n]);
     }
 }
 
-// Has bytes read by the reader of this name.
+// ---- cases
+
+fn say_control(s: &[u8]) {
+    let mut out = [0u8; 2048];
+    let mut info = [0u64; 3];
+    let number = rewrite::control(s, &mut out, &mut info);
+    say_rewritten(number, info, &out);
+}
+
+fn say_stream(s: &[u8]) {
+    let mut out = [0u8; 2048];
+    let mut info = [0u64; 3];
+    let number = rewrite::stream(s, &mut out, &mut info);
+    say_rewritten(number, info, &out);
+}
+
+fn say_datagram(s: &[u8]) {
+    let mut out = [0u8; 2048];
+    let mut info = [0u64; 3];
+    let number = rewrite::datagram(s, &mut out, &mut info);
+    say_rewritten(number, info, &out);
+}
+
+fn say_subgroup_object(s: &[u8]) {
+    let mut out = [0u8; 2048];
+    let mut info = [0u64; 3];
+    let number = rewrite::subgroup_object(s, &mut out, &mut info);
+    say_rewritten(number, info, &out);
+}
+
+fn say_fetch_object(s: &[u8]) {
+    let mut out = [0u8; 2048];
+    let mut info = [0u64; 3];
+    let number = rewrite::fetch_object(s, &mut out, &mut info);
+    say_rewritten(number, info, &out);
+}
+
+// Has bytes answered by the reader of this name.
 fn answer(word: &[u8], s: &[u8]) {
+    if is_same(word, b"integer") {
+        say_integer(s);
+    }
     if is_same(word, b"control") {
-        say(numbers::of_message(message::read(s)));
+        say_control(s);
     }
     if is_same(word, b"stream") {
-        say(numbers::of_stream(header::read_stream(s)));
+        say_stream(s);
     }
     if is_same(word, b"datagram") {
-        say(numbers::of_datagram(header::read_datagram(s)));
+        say_datagram(s);
     }
     if is_same(word, b"subobj") {
-        say(objects::of_subgroup_object(header::read_subgroup_object(s)));
+        say_subgroup_object(s);
     }
     if is_same(word, b"fetchobj") {
-        say(objects::of_fetch_object(header::read_fetch_object(s)));
+        say_fetch_object(s);
     }
     if is_same(word, b"trace") {
         say_report(s);
     }
 }
 
-// A line has room for 256 bytes.
+// A line has room for 2,048 bytes.
 fn answer_line(line: &[u8]) {
-    let mut bytes = [0u8; 256];
+    let mut bytes = [0u8; 2048];
     let end = find(line, 0, b' ');
     let n = decode(&line[end..], &mut bytes);
     answer(&line[..end], &bytes[..n]);
@@ -158,9 +251,15 @@ fn answer_lines(text: &[u8]) {
     }
 }
 
-// Reads 65,536 bytes of standard input at most.
+// Reads 262,144 bytes of the file at most.
 fn main() {
-    let mut text = io::large_buffer();
-    let n = io::read_full(libc::STDIN_FILENO, &mut text);
+    let mut text = [0u8; 262144];
+    let fd = os::open_read(b"cases");
+    if fd < 0 {
+        os::fail(b"lines: cases");
+        return;
+    }
+    let n = io::read_full(fd, &mut text);
     answer_lines(&text[..n]);
+    libc::close(fd);
 }
