@@ -18,7 +18,9 @@ fn main() {
             .canonicalize()
             .unwrap_or_else(|error| panic!("{variable}: {}: {error}", path.display()));
         println!("cargo::rerun-if-changed={}", path.display());
-        println!("cargo::rustc-link-arg-bin=speed={}", path.display());
+        for bin in ["speed", "live"] {
+            println!("cargo::rustc-link-arg-bin={bin}={}", path.display());
+        }
         println!("cargo::rustc-cfg={flag}");
     }
 }

@@ -42,11 +42,12 @@ use Rattle.ledger.specs.declared.Part.the-variants.{Subscriber}
 use Rattle.trace.specs.Fields.{tagOf, valueOf, sizeOf as fieldSize, isWhole}
 use Rattle.trace.specs.Feeding.{take, feed}
 use Rattle.text.specs.Letters.{letters, decimalIn, decimalOf}
-use Rattle.text.specs.Words.{wordOf}
+use Rattle.text.specs.Words.{wordOf, firstNames, laterNames, lastNames, nameIn, nameOf}
 use Rattle.text.specs.Lines.{itemOf, endedOf, isNone, lineOf}
 use Rattle.run.specs.Events.{startedBy, controlBy, arrivedBy, eventOf}
 use Rattle.run.specs.Progressing.{offsetOf, stepOf, step, fed, endOf, runOf}
 use Rattle.report.specs.Report.{rowsText, ledgerText, textOf, reportOf}
+use Rattle.answers.specs.Telling.{lineIn, tell, endItems, lastText, answersOf}
 use Rattle.integer.specs.Integer.{wide, room, tag, sizeOf, spell, bytesOf, encOf, readOf, putOf, writeOf}
 
 -- a line: what is done, and what it comes to
@@ -63,6 +64,8 @@ pub data Line : Type 0 where
   takes : ℕ → ℕ → List Message → List Said → Line
   -- a trace is reported
   reports : List ℕ → List ℕ → Line
+  -- what its fields are answered is told
+  tells : List ℕ → List ℕ → Line
 
 pub data Result : Type 0 where
   read : Answer ℕ → Result
@@ -99,6 +102,7 @@ found (receives s r) = receive (messageOf s)
 found (sends s m before r) = write (messageAs s m before)
 found (takes rows maximum ms r) = answer (answersTo (startOf Subscriber rows maximum .next) ms)
 found (reports trace r) = report (reportOf trace)
+found (tells trace r) = report (answersOf trace)
 
 -- what the line says
 unfoldable pub stated : Line → Result
@@ -108,6 +112,7 @@ stated (receives s r) = receive r
 stated (sends s m before r) = write r
 stated (takes rows maximum ms r) = answer r
 stated (reports trace r) = report r
+stated (tells trace r) = report r
 
 -- the report's history: part and maximum; SUBSCRIBE; SUBSCRIBE_OK; two arrivals
 abbrev pub history : List ℕ
@@ -159,12 +164,13 @@ lines =
     ∷ takes 64 0 (subscribing 0 0 ∷ []) (record { number = 13; rule = 3 } ∷ [])
     -- P12 the report's history gives its row
     ∷ reports history (letters "open 1\nID ALIAS STATE GROUP OBJECT COUNT\n3 7 active 65536 0 2\n")
+    ∷ tells history (letters "0 start 8\n5 SUBSCRIBE 8\n22 SUBSCRIBE_OK 8\n32 arrival 16\n41 arrival 16\n")
     -- "0 for an empty input"
     ∷ reports [] (letters "trace fault at 0\n")
     ∷ []
 
 computed : map found lines ≡ map stated lines
-unfolding found stated lines wide room tag sizeOf spell bytesOf readOf putOf writeOf numberAt fieldAt scan fetchCancel known layoutOf bodyOf messageOf messageAs allowedOf fetchAllowed right sized rightAll sizedAll encodeAll encode encField mean writtenOf frame encOf answersTo smallPiece smallAll askable allowedFilter subscriptionAllowed soundOf small smallPlace isKnown smallRange agree suits isRow isPending isNowhere isUnused held rising hasAlias distinct allUnused bounded isLedger breaks stops gateOf gated startOf added subscribeStep takeOf textAt numberedAt entryAt mostOf entriesAt few listAt placeAt place parameters givable filter delivery subscribe content subscribeOk subscriptionOf familyOf madeOf answerOf before inRange settledOf greater risen countedRow arriveOf openOf find changed okStep arrivalStep smallArrival arrivalOf tagOf valueOf fieldSize isWhole take feed letters decimalIn decimalOf wordOf itemOf endedOf isNone lineOf startedBy controlBy arrivedBy eventOf offsetOf stepOf step fed endOf runOf rowsText ledgerText textOf reportOf
+unfolding found stated lines wide room tag sizeOf spell bytesOf readOf putOf writeOf numberAt fieldAt scan fetchCancel known layoutOf bodyOf messageOf messageAs allowedOf fetchAllowed right sized rightAll sizedAll encodeAll encode encField mean writtenOf frame encOf answersTo smallPiece smallAll askable allowedFilter subscriptionAllowed soundOf small smallPlace isKnown smallRange agree suits isRow isPending isNowhere isUnused held rising hasAlias distinct allUnused bounded isLedger breaks stops gateOf gated startOf added subscribeStep takeOf textAt numberedAt entryAt mostOf entriesAt few listAt placeAt place parameters givable filter delivery subscribe content subscribeOk subscriptionOf familyOf madeOf answerOf before inRange settledOf greater risen countedRow arriveOf openOf find changed okStep arrivalStep smallArrival arrivalOf tagOf valueOf fieldSize isWhole take feed letters decimalIn decimalOf wordOf itemOf endedOf isNone lineOf startedBy controlBy arrivedBy eventOf offsetOf stepOf step fed endOf runOf rowsText ledgerText textOf reportOf firstNames laterNames lastNames nameIn nameOf lineIn tell endItems lastText answersOf
 computed = refl
 
 -- two functions that map a list alike agree at each of its members

@@ -3,6 +3,7 @@
 mod headers;
 mod integers;
 mod messages;
+mod traces;
 
 pub use headers::moq_datagram_rewrite;
 pub use headers::moq_fetch_object_rewrite;
@@ -11,3 +12,5 @@ pub use headers::moq_subgroup_object_rewrite;
 pub use integers::moq_integer_read;
 pub use integers::moq_integer_write;
 pub use messages::moq_control_rewrite;
+pub use traces::moq_answers;
+pub use traces::moq_report;

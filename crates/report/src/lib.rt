@@ -2,5 +2,6 @@
 mod lines;
 mod writing;
 
+pub use lines::fault_line;
 pub use writing::of_progress;
 pub use writing::of_trace;

@@ -72,6 +72,7 @@ pub fn row_line(row: Row) -> Line
     )
 }
 
+// The whole report of a trace at fault, and the last line of its answers.
 pub fn fault_line(at: u64) -> Line
     ensures { λ r. ⌜ itemsOf r ≡ faultLine at ⌝ }
 {

@@ -119,9 +119,12 @@ module _ {s : List ℕ} {at : ℕ} {f : Field} (w : Stands s at f) where
   eventAt = eventOf (f .tag) (take (f .end - f .start) (drop (f .start) s))
 
   -- it is one step,
+  pub stepped-is : (p : Progress) → stepOf p (eventOf (tagOf field) (valueOf field)) (sizeOf field) ≡ stepOf p eventAt (f .end - at)
+  stepped-is p = λ i. stepOf p (eventOf (tag-is i) (value-is i)) (size-is i)
+
   step-is : (p : Progress) → step p field ≡ stepOf p eventAt (f .end - at) .next
   unfolding step
-  step-is p = λ i. stepOf p (eventOf (tag-is i) (value-is i)) (size-is i) .next
+  step-is p = ap (λ (x : Stepping). x .next) (stepped-is p)
 
   -- and what is behind it is fed on
   pub one-field : (p : Progress) → fed p (drop at s) ≡ fed (stepOf p eventAt (f .end - at) .next) (drop (f .end) s)

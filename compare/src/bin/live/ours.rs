@@ -1,0 +1,102 @@
+//! The proved code, through its C interface (`include/moq.h`): a slice is a
+//! pointer and a count.
+
+type Call = unsafe extern "C" fn(*const u8, usize, *mut u8, usize, *mut u64, usize) -> u64;
+
+extern "C" {
+    fn moq_integer_read(s: *const u8, s_len: usize, info: *mut u64, info_len: usize) -> u64;
+    fn moq_integer_write(
+        n: u64,
+        out: *mut u8,
+        out_len: usize,
+        info: *mut u64,
+        info_len: usize,
+    ) -> u64;
+}
+
+macro_rules! calls {
+    ($($name:ident)*) => {
+        extern "C" {
+            $(fn $name(
+                s: *const u8,
+                s_len: usize,
+                out: *mut u8,
+                out_len: usize,
+                info: *mut u64,
+                info_len: usize,
+            ) -> u64;)*
+        }
+    };
+}
+
+calls! {
+    moq_control_rewrite
+    moq_datagram_rewrite
+    moq_stream_rewrite
+    moq_subgroup_object_rewrite
+    moq_fetch_object_rewrite
+    moq_report
+    moq_answers
+}
+
+fn call(f: Call, s: &[u8], out: &mut [u8], info: &mut [u64]) -> u64 {
+    // Every pointer and count is that of one slice, and the slices are apart.
+    unsafe {
+        f(
+            s.as_ptr(),
+            s.len(),
+            out.as_mut_ptr(),
+            out.len(),
+            info.as_mut_ptr(),
+            info.len(),
+        )
+    }
+}
+
+/// Into `info` the number and the bytes used.
+pub fn integer_read(s: &[u8], info: &mut [u64]) -> u64 {
+    unsafe { moq_integer_read(s.as_ptr(), s.len(), info.as_mut_ptr(), info.len()) }
+}
+
+/// Into `info` the bytes written.
+pub fn integer_write(n: u64, out: &mut [u8], info: &mut [u64]) -> u64 {
+    unsafe {
+        moq_integer_write(
+            n,
+            out.as_mut_ptr(),
+            out.len(),
+            info.as_mut_ptr(),
+            info.len(),
+        )
+    }
+}
+
+/// Into `info` the bytes used, the bytes written and the type.
+pub fn control(s: &[u8], out: &mut [u8], info: &mut [u64]) -> u64 {
+    call(moq_control_rewrite, s, out, info)
+}
+
+pub fn datagram(s: &[u8], out: &mut [u8], info: &mut [u64]) -> u64 {
+    call(moq_datagram_rewrite, s, out, info)
+}
+
+pub fn stream(s: &[u8], out: &mut [u8], info: &mut [u64]) -> u64 {
+    call(moq_stream_rewrite, s, out, info)
+}
+
+pub fn subgroup_object(s: &[u8], out: &mut [u8], info: &mut [u64]) -> u64 {
+    call(moq_subgroup_object_rewrite, s, out, info)
+}
+
+pub fn fetch_object(s: &[u8], out: &mut [u8], info: &mut [u64]) -> u64 {
+    call(moq_fetch_object_rewrite, s, out, info)
+}
+
+/// Into `info` the length of the text.
+pub fn report(trace: &[u8], out: &mut [u8], info: &mut [u64]) -> u64 {
+    call(moq_report, trace, out, info)
+}
+
+pub fn answers(trace: &[u8], out: &mut [u8], info: &mut [u64]) -> u64 {
+    call(moq_answers, trace, out, info)
+}

@@ -1,0 +1,6 @@
+pub mod Taken
+pub mod Alike
+pub mod Left
+pub mod Added
+pub mod Whole
+pub mod Once

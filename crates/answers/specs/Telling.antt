@@ -1,0 +1,101 @@
+-- The answers of a trace: "a line for each field as it goes: the offset of its tag, what it is, and the answer".
+use Prim.Native.Nat.{ℕ, _+_}
+use mathlib.Core.List.{List, [], _∷_, _++_}
+use lib.ListN.{length, drop, take}
+use lib.Dec.{eqb}
+use Rattle.integer.specs.Answer.{pick}
+use Rattle.message.specs.Types.{saidOf}
+use Rattle.ledger.specs.Answers.{Said}
+use Rattle.trace.specs.Fields.{tagOf, valueOf, sizeOf, isWhole}
+use Rattle.trace.specs.Feeding.{Held, feed}
+use Rattle.text.specs.Lines.{lineOf, itemsOf}
+use Rattle.text.specs.declared.Item.{Item}
+use Rattle.text.specs.declared.Item.the-variants.{Number, Word, Rule, Name}
+use Rattle.text.specs.declared.Word.the-variants.{Start as AStart, Malformed as AMalformed, Arrival as AnArrival}
+use Rattle.run.specs.Events.{eventOf}
+use Rattle.run.specs.Progressing.{Stepping, stepOf, begun, endOf}
+use Rattle.run.specs.declared.Event.{Event}
+use Rattle.run.specs.declared.Event.the-variants.{Start, Control, Malformed, Arrived, Fault}
+use Rattle.run.specs.declared.Stage.{Stage}
+use Rattle.run.specs.declared.Stage.the-variants.{Empty, Running, Faulty}
+use Rattle.run.specs.declared.Progress.{Progress}
+use Rattle.report.specs.Rows.{faultLine}
+use Rattle.answers.specs.declared.Told.{Told}
+
+-- ---- a line
+
+-- "Behind a 13 stands its rule"
+abbrev pub answerItems : Said → List Item
+answerItems said = Number (said .number) ∷ pick (eqb (said .rule) 0) [] (Rule (said .rule) ∷ [])
+
+abbrev pub offsetLine : ℕ → Item → Said → List Item
+offsetLine offset what said = Number offset ∷ what ∷ answerItems said
+
+abbrev pub malformedLine : ℕ → ℕ → Said → List Item
+malformedLine offset refusal said = Number offset ∷ Word AMalformed ∷ Number refusal ∷ answerItems said
+
+-- "A message has its name as 004 spells it." "Bytes that the reader refuses show `malformed`, the reader's number, then the
+-- ledger's answer". A fault has no line here
+abbrev pub lineBy : ℕ → Event → Said → List Item
+lineBy offset (Start part maximum) said = offsetLine offset (Word AStart) said
+lineBy offset (Control m) said = offsetLine offset (Name (saidOf m .type)) said
+lineBy offset (Malformed refusal) said = malformedLine offset refusal said
+lineBy offset (Arrived a) said = offsetLine offset (Word AnArrival) said
+lineBy offset Fault said = []
+
+-- ---- a field
+
+-- what a field comes to
+abbrev pub steppedBy : Progress → List ℕ → Stepping
+steppedBy p field = stepOf p (eventOf (tagOf field) (valueOf field)) (sizeOf field)
+
+unfoldable pub lineIn : Progress → List ℕ → List Item
+lineIn p field = lineBy (p .offset) (steppedBy p field .event) (steppedBy p field .says)
+
+-- the progress, and the text so far
+pub record Telling : Type 0 where
+  pub progress : Progress
+  pub text : List ℕ
+
+unfoldable pub tell : Telling → List ℕ → Telling
+tell t field =
+    record { progress = steppedBy (t .progress) field .next; text = t .text ++ lineOf (lineIn (t .progress) field) }
+
+-- ---- a trace
+
+abbrev pub telling : Progress → List ℕ → Telling
+telling p text = record { progress = p; text = text }
+
+-- "At a fault the lines before it stand, then `trace fault at N`."
+abbrev pub faultItems : Stage → List Item
+faultItems Empty = faultLine 0
+faultItems Running = []
+faultItems (Faulty at) = faultLine at
+
+unfoldable pub endItems : Progress → ℕ → List Item
+endItems p left = faultItems (endOf p left .stage)
+
+unfoldable pub lastText : Held Telling → List ℕ
+lastText h = h .soFar .text ++ lineOf (endItems (h .soFar .progress) (length (h .rest)))
+
+-- THE ANSWERS, from the whole trace to the whole output
+unfoldable pub answersOf : List ℕ → List ℕ
+answersOf s = lastText (feed tell (record { soFar = telling begun []; rest = [] }) s)
+
+-- ---- what `tell` hands back
+
+pub record Taking : Type 0 where
+  pub items : List Item
+  pub next : Progress
+  pub used : ℕ
+
+-- the field at an offset; where none is whole, nothing
+unfoldable pub takenAt : Progress → List ℕ → ℕ → Taking
+takenAt p s at =
+    let field = take (sizeOf (drop at s)) (drop at s) in
+    pick (isWhole (drop at s))
+    (record { items = lineIn p field; next = steppedBy p field .next; used = at + sizeOf (drop at s) })
+    (record { items = []; next = p; used = at })
+
+abbrev pub toldTaking : Told → Taking
+toldTaking t = record { items = itemsOf (t .line); next = t .progress; used = t .used }
