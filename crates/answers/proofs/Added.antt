@@ -8,11 +8,10 @@ use borrow.Author.Tests.{le-leb, lt-leb}
 use lib.Dec.{leb}
 use lib.ListN.{length, take, drop, length-append, length-drop}
 use lib.Seq.{length-take-le, take-append-seam, drop-append-seam, drop-drop}
-use Rattle.integer.specs.Answer.{pick, Answer, refused, Nothing, wrote, Written, Leaves}
+use Rattle.integer.specs.Answer.{pick, Answer, refused, Nothing, wrote, Leaves}
 use Rattle.integer.specs.Integer.{over}
 use Rattle.integer.proofs.Cases.{pick-le, apart}
 use Rattle.integer.proofs.Parts.{to-end, back}
-use Rattle.shortest.specs.Putting.{Put}
 use Rattle.shortest.proofs.Puts.{lent, given, put-length}
 use Rattle.shortest.proofs.Going.{Next}
 use Rattle.text.specs.Lines.{putOf, saying}
@@ -34,6 +33,14 @@ module _ (text before : List ℕ) {r : Answer Nothing} {after : List ℕ} where
   unfolding putOf
   put-holds h l = rw (le-leb (length text) (length before) h) at l .holds
 
+-- and what is lent from an offset on comes back into a buffer of the same length
+pub lent-length : (before : List ℕ) (at : ℕ) → length (lent at before) ≡ length before - at
+lent-length before at = ap length (to-end before at) ∙ length-drop at before
+
+pub given-length : (text before : List ℕ) (at : ℕ) {r : Answer Nothing} {t : List ℕ} → at ≤ length before → Leaves (putOf text (lent at before)) r t → length (given at before t) ≡ length before
+given-length text before at {r} {t} k l =
+    rw back (omega (arith, length-append (take at before) t, length-take-le at before k, put-keeps text (lent at before) l, lent-length before at))
+
 -- ---- one line
 
 module _ (text : List ℕ) (at room : ℕ) (before : List ℕ) {n : ℕ} (long : n ≡ length text) (within : at ≤ room) where
@@ -53,11 +60,10 @@ module _ (text : List ℕ) (at room : ℕ) (before : List ℕ) {n : ℕ} (long :
     -- it is put,
     pub added : {r : Answer Nothing} {t : List ℕ} → at ≤ length before → Leaves (putOf text (lent at before)) r t → Adds text at room before (wrote (at + n)) (given at before t)
     added {r} {t} k l =
-        let behind : length (lent at before) ≡ length before - at = ap length (to-end before at) ∙ length-drop at before in
         record {
           says = fits-says;
-          keeps = rw back (omega (arith, length-append (take at before) t, length-take-le at before k, put-keeps text (lent at before) l, behind));
-          holds = λ e f. rw (back, put-holds text (lent at before) (omega (arith, behind)) l, to-end);
+          keeps = given-length text before at k l;
+          holds = λ e f. rw (back, put-holds text (lent at before) (omega (arith, lent-length before at)) l, to-end);
         }
 
     -- or only counted

@@ -1,6 +1,6 @@
 -- Two ways to feed the same bytes, of which the one tells the other at each step, tell each other throughout. Assumes nothing.
 use Prim.Native.Nat.{ℕ}
-use mathlib.Core.Path.{_≡_, refl, sym, ap, _∙_}
+use mathlib.Core.Path.{_≡_, refl, ap, _∙_}
 use mathlib.Core.Bool.{Bool, true, false}
 use mathlib.Core.List.{List, [], _∷_, _++_}
 use Rattle.trace.specs.Fields.{isWhole}

@@ -9,7 +9,6 @@ use lib.ListN.{length, take, drop, length-drop}
 use lib.Seq.{drop-drop}
 use Rattle.shortest.proofs.Going.{Next}
 use Rattle.text.specs.Lines.{lineOf, itemsOf}
-use Rattle.text.specs.declared.Item.{Item}
 use Rattle.trace.specs.Fields.{sizeOf, isWhole}
 use Rattle.trace.specs.Feeding.{Held, feed}
 use Rattle.trace.proofs.Fed.{size-head, whole-fits, fed-field, fed-none}

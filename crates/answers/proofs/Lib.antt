@@ -2,5 +2,5 @@ pub mod Taken
 pub mod Alike
 pub mod Left
 pub mod Added
-pub mod Whole
+pub mod Along
 pub mod Once

@@ -8,7 +8,7 @@ use Rattle.text.specs.Lines.{itemsOf, putOf, saying}
 use Rattle.text.specs.declared.Putting.{Putting}
 use Rattle.text.proofs.Outcomes.{leaves-once}
 use Rattle.trace.specs.Feeding.{Held, feed}
-use Rattle.run.specs.Progressing.{step, begun, fed, holding}
+use Rattle.run.specs.Progressing.{step, begun, fed}
 use Rattle.run.specs.declared.Progress.{Progress}
 use Rattle.answers.specs.Telling.{Telling, tell, telling, answersOf, Taking, takenAt, toldTaking}
 use Rattle.answers.specs.declared.Told.{Told}

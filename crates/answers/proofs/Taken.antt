@@ -1,10 +1,9 @@
 -- The field at an offset, as it is taken. Assumes nothing.
 use Prim.Native.Nat.{ℕ, _-_}
-use mathlib.Core.Path.{_≡_, refl, sym, ap, _∙_}
+use mathlib.Core.Path.{_≡_, sym, ap, _∙_}
 use mathlib.Core.List.{List, []}
 use lib.ListN.{take, drop}
 use Rattle.text.specs.Lines.{itemsOf}
-use Rattle.text.specs.declared.Item.{Item}
 use Rattle.text.specs.declared.Line.{Line}
 use Rattle.trace.specs.Fields.{sizeOf, fieldOf}
 use Rattle.trace.specs.declared.Field.{Field}

@@ -1,6 +1,5 @@
 // The line of a field.
 ghost use mathlib.Core.Path.{_≡_};
-ghost use Rattle.ledger.specs.Answers.{Said};
 ghost use Rattle.text.specs.Lines.{itemsOf};
 ghost use Rattle.answers.specs.Telling.{offsetLine, malformedLine, lineBy, faultItems, endItems, takenAt, toldTaking};
 use crate::Told;

@@ -1,5 +1,4 @@
 // The answers of a whole trace, put at the front of what is lent.
-ghost use mathlib.Core.Path.{_≡_};
 ghost use Prim.Native.Nat.{_≤_};
 ghost use Rattle.integer.specs.Answer.{Leaves};
 ghost use Rattle.text.specs.Lines.{itemsOf, lineOf, putOf, saying};

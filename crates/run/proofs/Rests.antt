@@ -7,13 +7,14 @@ use native.Mathlib.Numerals.{add-one}
 use native.Mathlib.Omega.{arith}
 use borrow.Author.Tests.{leb-true, leb-false}
 use lib.Dec.{leb}
-use lib.ListN.{length, take, drop, getD, set, length-drop, length-set}
+use lib.ListN.{length, take, drop, getD, set, length-drop, length-set, drop-of-length-le}
 use lib.Seq.{length-take-le, take-all, take-length, take-suc, drop-cons, drop-drop, drop-at, set-at, getD-drop, getD-append-add, append-snoc, take-add}
+use Rattle.integer.specs.Integer.{over}
 use Rattle.trace.specs.Fields.{sizeOf, isWhole}
 use Rattle.trace.specs.Feeding.{Held}
 use Rattle.trace.proofs.Fed.{whole-fits, fed-by}
 use Rattle.run.specs.Progressing.{step, fed, fedOf}
-use Rattle.run.specs.Advancing.{advanceOf, Advances, atMost}
+use Rattle.run.specs.Advancing.{advanceOf, Advances, keptOf, atMost}
 use Rattle.run.specs.declared.Progress.{Progress}
 use Rattle.run.specs.declared.Fed.{Fed}
 
@@ -98,6 +99,29 @@ at-most-take n l = go (leb n (length l)) refl
     go : (b : Bool) → leb n (length l) ≡ b → take (atMost n (length l)) l ≡ take n l
     go true e = rw e
     go false e = rw e (take-length l ∙ sym (take-all n l (omega (arith, leb-false n (length l) e))))
+
+-- bytes up to an offset are kept
+module _ (before : List ℕ) (from end : ℕ) {last : ℕ} (bound : last ≡ atMost end (length before)) where
+  last-fits : last ≤ length before
+  last-fits = omega (arith, bound, at-most-fits end (length before))
+
+  up-to : take last before ≡ take end before
+  up-to = ap (λ (n : ℕ). take n before) bound ∙ at-most-take end before
+
+  pub kept-none : last ≤ from → before ≡ keptOf before from end
+  unfolding keptOf
+  kept-none h = rw (← up-to, drop-of-length-le (take last before) {i = from} (omega (arith, length-take-le last before last-fits)))
+
+  pub keeps-fit : from < last → from + (last - from) ≤ length before
+  keeps-fit h = omega (arith, last-fits)
+
+  pub kept : {after : List ℕ} → from < last → after ≡ take (last - from) (drop from before) ++ drop (last - from) before → after ≡ keptOf before from end
+  unfolding keptOf
+  kept h e =
+      let all : from + (last - from) ≡ last = omega arith in
+      let part : take (last - from) (drop from before) ≡ drop from (take end before) = sym (drop-take from (last - from) before (omega (arith, last-fits))) ∙ ap (λ (n : ℕ). drop from (take n before)) all ∙ ap (drop from) up-to in
+      let count : last - from ≡ length (take (last - from) (drop from before)) = sym (length-take-le (last - from) (drop from before) (omega (arith, last-fits, length-drop from before))) in
+      e ∙ ap (λ (n : ℕ). take (last - from) (drop from before) ++ drop n before) count ∙ ap (λ (l : List ℕ). over l before) part
 
 module _ (p : Progress) (before : List ℕ) (filled : ℕ) {end : ℕ} {f : Fed} (bound : end ≡ atMost filled (length before)) (fields : f ≡ fedOf p (take end before)) where
   abbrev rest : List ℕ

@@ -2,7 +2,7 @@
 use Prim.Native.Nat.{ℕ}
 use mathlib.Core.Path.{_≡_}
 use mathlib.Core.List.{List}
-use lib.ListN.{length, take}
+use lib.ListN.{length, take, drop}
 use lib.Dec.{leb}
 use Rattle.integer.specs.Answer.{pick}
 use Rattle.integer.specs.Integer.{over}
@@ -26,6 +26,10 @@ pub record Advances (w : Onward) (r : Advanced) (after : List ℕ) : Type 0 wher
   pub progress : r .progress ≡ w .progress
   pub left : r .left ≡ w .left
   pub holds : after ≡ w .holds
+
+-- the bytes from one offset on, up to another, at the front, and every byte behind them as it was
+unfoldable pub keptOf : List ℕ → ℕ → ℕ → List ℕ
+keptOf before from end = over (drop from (take end before)) before
 
 abbrev pub atMost : ℕ → ℕ → ℕ
 atMost n most = pick (leb n most) n most

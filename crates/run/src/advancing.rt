@@ -3,7 +3,7 @@ ghost use mathlib.Core.Path.{_≡_};
 ghost use mathlib.Core.List.{_++_};
 ghost use Prim.Native.Nat.{_+_, _≤_};
 ghost use lib.ListN.{length, take, drop};
-ghost use Rattle.run.specs.Advancing.{advanceOf, Advances, atMost};
+ghost use Rattle.run.specs.Advancing.{advanceOf, Advances, keptOf, atMost};
 use crate::Advanced;
 use crate::Progress;
 
@@ -20,6 +20,17 @@ impl Progress {
         move_front(buffer, used, left);
         Advanced { progress, left }
     }
+}
+
+// The bytes of a buffer from one offset on, up to another, go to its front.
+pub fn keep(buffer: &mut [u8], from: usize, end: usize)
+    ensures { λ r. ⌜ now (buffer .exit) ≡ keptOf (now (buffer .entry)) from end ⌝ }
+{
+    let last = at_most(end, buffer.len());
+    if last <= from {
+        return;
+    }
+    move_front(buffer, from, last - from);
 }
 
 fn at_most(n: usize, most: usize) -> usize

@@ -5,6 +5,7 @@ mod feeding;
 mod gathering;
 mod steps;
 
+pub use advancing::keep;
 pub use events::event_of;
 use field::Arrival;
 use ledger::Ledger;

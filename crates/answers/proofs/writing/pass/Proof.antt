@@ -1,19 +1,15 @@
 -- `pass` meets its contract. What was put or counted, and the text that is left at the offset, are all of it. Assumes nothing.
 use borrow.Author.Needs.{needs}
-use Prim.Native.Nat.{_-_, _≤_}
-use mathlib.Core.Path.{refl, sym, ap, _∙_}
+use Prim.Native.Nat.{_-_}
 use native.Mathlib.Omega.{arith}
-use lib.ListN.{length, drop}
-use Rattle.text.specs.Lines.{saying}
-use Rattle.answers.specs.Telling.{answersOf}
-use Rattle.answers.proofs.Added.{Passing, passing-next, passing-short, passing-end}
-use Rattle.answers.proofs.Left.{leftText, told-goes}
-use Rattle.answers.proofs.Whole.{Whole, whole-start, whole-next, whole-short, whole-end}
+use lib.ListN.{length}
+use Rattle.answers.proofs.Left.{told-goes}
+use Rattle.answers.proofs.Along.{Along, along-start, along-next, along-short, along-end}
 use Rattle.answers.proofs.writing.pass.Statement.{statement}
 use Rattle.answers.proofs.writing.pass.Tie as tie
 
 abbrev Inv-loop : tie.InvT-loop
-Inv-loop s out₀ room progress₀ used₀ at₀ out progress used at = Whole s room out₀ out at progress used
+Inv-loop s out₀ room progress₀ used₀ at₀ out progress used at = Along s room out₀ out at progress used
 
 abbrev μ-loop : tie.MeasureT-loop
 μ-loop s out₀ room progress₀ used₀ at₀ out progress used at = length s - used
@@ -21,19 +17,19 @@ abbrev μ-loop : tie.MeasureT-loop
 returns : tie.Need-returns Inv-loop μ-loop
 returns c =
     let last = c .before .before .before .before .before in
-    whole-end (last .before .before .loop .inv) _ (last .before .tell .ensures) (last .if1 .taken) (c .before .before .before .tell-end .ensures) (c .before .before .add .ensures)
+    along-end (last .before .before .loop .inv) _ (last .before .tell .ensures) (last .if1 .taken) (c .before .before .before .tell-end .ensures) (c .before .before .add .ensures)
 
 returns-2 : tie.Need-returns-2 Inv-loop μ-loop
 returns-2 c =
     let add = c .before .before .before .before in
     let more = add .before .before .before in
-    whole-short (more .before .before .loop .inv) _ (more .before .tell .ensures) (more .if1 .left) (add .add2 .ensures) (c .enum-told .given .1)
+    along-short (more .before .before .loop .inv) _ (more .before .tell .ensures) (more .if1 .left) (add .add2 .ensures) (c .enum-told .given .1)
 
 loop-again : tie.Need-loop-again Inv-loop μ-loop
 loop-again c =
     let add = c .before .before .before .before .before .before in
     let more = add .before .before .before in
-    whole-next (more .before .before .loop .inv) _ (more .before .tell .ensures) (more .if1 .left) (add .add2 .ensures) (c .before .before .end .given .1)
+    along-next (more .before .before .loop .inv) _ (more .before .tell .ensures) (more .if1 .left) (add .add2 .ensures) (c .before .before .end .given .1)
 
 pub pass-spec : {M : Type 1} → statement M
 pass-spec =
@@ -41,7 +37,7 @@ pass-spec =
     (tie.spec
     Inv-loop μ-loop
     (λ c κs. search needs)
-    (λ c. whole-start _ _ _ (c .begin .ensures))
+    (λ c. along-start _ _ _ (c .begin .ensures))
     (λ c κs. search needs)
     (λ c. c .before .before .before .loop .inv .reached)
     (λ c κs. search needs)

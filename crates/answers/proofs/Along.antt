@@ -1,7 +1,7 @@
 -- The text of a whole trace, line by line. Assumes nothing.
 use Prim.Native.Nat.{ℕ, _-_, _≤_}
 use mathlib.Core.Path.{_≡_, refl, sym, ap, _∙_}
-use mathlib.Core.List.{List, [], append-nil}
+use mathlib.Core.List.{List, append-nil}
 use native.Mathlib.Omega.{arith}
 use lib.ListN.{length, drop}
 use Rattle.integer.specs.Answer.{Answer, Nothing, refused}
@@ -18,31 +18,31 @@ use Rattle.answers.proofs.Added.{Passing, passing-start, passing-next, 
 use Rattle.answers.proofs.Left.{leftText, all-left, told-goes, told-ends}
 
 -- at an offset of the trace, so much of the text was passed, and the rest is left
-pub record Whole (s : List ℕ) (room : ℕ) (before out : List ℕ) (at : ℕ) (p : Progress) (used : ℕ) : Type 0 where
+pub record Along (s : List ℕ) (room : ℕ) (before out : List ℕ) (at : ℕ) (p : Progress) (used : ℕ) : Type 0 where
   pub reached : used ≤ length s
   pub text : Passing (answersOf s) room before out at (leftText p (drop used s))
 
-pub whole-start : (s : List ℕ) (room : ℕ) (before : List ℕ) {p : Progress} → p ≡ begun → Whole s room before before 0 p 0
-whole-start s room before e =
+pub along-start : (s : List ℕ) (room : ℕ) (before : List ℕ) {p : Progress} → p ≡ begun → Along s room before before 0 p 0
+along-start s room before e =
     record {
       reached = omega arith;
       text = passing-start (answersOf s) room before (ap (λ (q : Progress). leftText q s) e ∙ all-left s);
     }
 
-module _ {s : List ℕ} {room : ℕ} {before out : List ℕ} {at : ℕ} {p : Progress} {used : ℕ} (w : Whole s room before out at p used) (r : Told) (said : toldTaking r ≡ takenAt p s used) where
+module _ {s : List ℕ} {room : ℕ} {before out : List ℕ} {at : ℕ} {p : Progress} {used : ℕ} (w : Along s room before out at p used) (r : Told) (said : toldTaking r ≡ takenAt p s used) where
   module _ (more : r .used ≡ used → ⊥) {q : Putting} {after : List ℕ} (a : Adds (lineOf (itemsOf (r .line))) at room out (saying q) after) where
     -- the line of a field was added,
-    pub whole-next : {end : ℕ} → q ≡ Done end → Whole s room before after end (r .progress) (r .used)
-    whole-next e =
+    pub along-next : {end : ℕ} → q ≡ Done end → Along s room before after end (r .progress) (r .used)
+    along-next e =
         let goes = told-goes p s used r said more in
         record { reached = goes .within; text = passing-next (w .text) (goes .text) a (ap saying e) }
 
     -- or has no room,
-    pub whole-short : q ≡ TooShort → Adds (answersOf s) 0 room before (refused 7) after
-    whole-short e = let goes = told-goes p s used r said more in passing-short (w .text) (goes .text) a (ap saying e)
+    pub along-short : q ≡ TooShort → Adds (answersOf s) 0 room before (refused 7) after
+    along-short e = let goes = told-goes p s used r said more in passing-short (w .text) (goes .text) a (ap saying e)
 
   -- or it was the last
-  pub whole-end : r .used ≡ used → {items : List Item} → items ≡ endItems p (length s - used) → {q : Answer Nothing} {after : List ℕ} → Adds (lineOf items) at room out q after → Adds (answersOf s) 0 room before q after
-  whole-end last {items} is a =
+  pub along-end : r .used ≡ used → {items : List Item} → items ≡ endItems p (length s - used) → {q : Answer Nothing} {after : List ℕ} → Adds (lineOf items) at room out q after → Adds (answersOf s) 0 room before q after
+  along-end last {items} is a =
       let text = told-ends p s used r said last ∙ ap lineOf (sym is) ∙ sym (append-nil (lineOf items)) in
       passing-end (w .text) (record { joins = text }) a refl

@@ -1,0 +1,52 @@
+-- Text ends within the buffers of the program. Assumes nothing.
+use Prim.Native.Nat.{ℕ, _+_, _≤_}
+use mathlib.Core.Path.{_≡_}
+use mathlib.Core.List.{List}
+use native.Mathlib.Omega.{arith}
+use lib.ListN.{length}
+use Rattle.integer.specs.Answer.{Leaves}
+use Rattle.shortest.proofs.Puts.{lent, given}
+use Rattle.text.specs.Lines.{lineOf, putOf, saying}
+use Rattle.text.specs.declared.Item.{Item}
+use Rattle.text.specs.declared.Putting.{Putting}
+use Rattle.text.specs.declared.Putting.the-variants.{Done, TooShort}
+use Rattle.text.proofs.Bounds.{line-bound}
+use Rattle.run.specs.Progressing.{endOf}
+use Rattle.run.specs.declared.Stage.{Stage}
+use Rattle.run.specs.declared.Stage.the-variants.{Empty, Running, Faulty}
+use Rattle.run.specs.declared.Progress.{Progress}
+use Rattle.report.proofs.Putting.{put-within}
+use Rattle.answers.specs.Telling.{faultItems, endItems}
+use Rattle.answers.proofs.Added.{lent-length, given-length}
+use Rattle.moqanswers.specs.Ending.{Ends}
+
+-- what was not put has no end
+pub short-ends : (room : ℕ) → Ends TooShort room
+short-ends room n e = absurd (let z : _≡_ {A = ℕ} 0 1 = cc in omega arith)
+
+-- a line ends within what is lent,
+pub put-ends : (text before : List ℕ) (r : Putting) {after : List ℕ} → Leaves (putOf text before) (saying r) after → Ends r (length before)
+put-ends text before r w n e = put-within text before r w e
+
+-- also behind others
+module _ (text before : List ℕ) (at : ℕ) (r : Putting) {t : List ℕ} (k : at ≤ length before) (w : Leaves (putOf text (lent at before)) (saying r) t) where
+  module _ {n : ℕ} (e : r ≡ Done n) where
+    pub behind-fits : at + n ≤ length before
+    behind-fits = omega (arith, put-within text (lent at before) r w e, lent-length before at)
+
+    pub behind-ends : Ends (Done (at + n)) (length before)
+    behind-ends m f = let same : at + n ≡ m = cc in omega (arith, behind-fits)
+
+  -- or in its front, when it comes back
+  pub front-ends : {q : Putting} → Ends q (length (given at before t)) → Ends q (length before)
+  front-ends ends n e = omega (arith, ends n e, given-length text before at k w)
+
+-- the line of a trace's end has two items at most
+fault-bound : (stage : Stage) → length (lineOf (faultItems stage)) ≤ 204
+fault-bound Empty = omega (arith, line-bound (faultItems Empty))
+fault-bound Running = omega (arith, line-bound (faultItems Running))
+fault-bound (Faulty at) = omega (arith, line-bound (faultItems (Faulty at)))
+
+pub end-bound : (p : Progress) (left : ℕ) {items : List Item} → items ≡ endItems p left → length (lineOf items) ≤ 204
+unfolding endItems
+end-bound p left e = rw e (fault-bound (endOf p left .stage))
