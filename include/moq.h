@@ -1,5 +1,5 @@
-/* The collector's core, called from C and C++. The archive is made by `rt staticlib exports`: target/staticlib/libexports.a, for
-   x86-64 Linux.
+/* The collector's core, called from C and C++. `tools/archive` makes the archive for the machine that it runs on,
+   target/native/libexports.a; examples/ shows it used from C, Rust and Python.
 
    Each call answers a number:
 
