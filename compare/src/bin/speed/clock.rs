@@ -20,11 +20,22 @@ pub fn heading() {
 pub fn compare<T: PartialEq>(
     name: &str,
     count: usize,
+    ours: impl FnMut() -> T,
+    theirs: impl FnMut() -> T,
+) {
+    compare_times(name, count, PASSES, ours, theirs);
+}
+
+/// The same, in so many passes: fewer where each takes long.
+pub fn compare_times<T: PartialEq>(
+    name: &str,
+    count: usize,
+    passes: usize,
     mut ours: impl FnMut() -> T,
     mut theirs: impl FnMut() -> T,
 ) {
     let mut best = [f64::INFINITY; 2];
-    for _ in 0..PASSES {
+    for _ in 0..passes {
         let mine = timed(&mut best[0], &mut ours);
         let other = timed(&mut best[1], &mut theirs);
         assert!(mine == other, "{name}: the two differ");

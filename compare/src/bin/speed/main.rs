@@ -10,6 +10,10 @@ mod integer;
 mod ours;
 #[cfg(exports)]
 mod quinn;
+#[cfg(exports)]
+mod rewrite;
+#[cfg(exports)]
+mod trace;
 
 use std::process::ExitCode;
 
@@ -17,6 +21,8 @@ use std::process::ExitCode;
 fn main() -> ExitCode {
     clock::heading();
     integer::measure();
+    rewrite::measure();
+    trace::measure();
     ExitCode::SUCCESS
 }
 

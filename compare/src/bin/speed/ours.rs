@@ -16,6 +16,42 @@ pub type Write = unsafe extern "C" fn(
     info_len: usize,
 ) -> u64;
 
+/// A message or header read from the front of `s` and written again in its
+/// shortest form at the front of `out`, or the text of a trace: answers 01's
+/// number, and behind a 0 tells in `info` what `include/moq.h` says.
+pub type Rewrite = unsafe extern "C" fn(
+    s: *const u8,
+    len: usize,
+    out: *mut u8,
+    out_len: usize,
+    info: *mut u64,
+    info_len: usize,
+) -> u64;
+
+macro_rules! rewrites {
+    ($($name:ident)*) => {
+        extern "C" {
+            $(pub fn $name(
+                s: *const u8,
+                len: usize,
+                out: *mut u8,
+                out_len: usize,
+                info: *mut u64,
+                info_len: usize,
+            ) -> u64;)*
+        }
+    };
+}
+
+rewrites! {
+    moq_control_rewrite
+    moq_datagram_rewrite
+    moq_stream_rewrite
+    moq_subgroup_object_rewrite
+    moq_fetch_object_rewrite
+    moq_report
+}
+
 extern "C" {
     pub fn moq_integer_read(s: *const u8, len: usize, info: *mut u64, info_len: usize) -> u64;
     pub fn moq_integer_write(
