@@ -1,0 +1,58 @@
+-- A ledger as numbers: 710 of them. "A ledger starts with its own end's part, a row capacity and a maximum Subscribe ID"; "A row: ID,
+-- alias, pending or active, range, greatest place counted or none, count."
+use Prim.Native.Nat.{ℕ}
+use mathlib.Core.List.{List, [], _∷_, _++_}
+use Rattle.field.specs.declared.Place.{Place}
+use Rattle.row.specs.declared.State.{State}
+use Rattle.row.specs.declared.State.the-variants.{Pending, Active}
+use Rattle.row.specs.declared.Range.{Range}
+use Rattle.row.specs.declared.Range.the-variants.{Unknown, Open, Closed}
+use Rattle.row.specs.declared.Greatest.{Greatest}
+use Rattle.row.specs.declared.Greatest.the-variants.{Nowhere, At}
+use Rattle.row.specs.declared.Row.{Row}
+use Rattle.ledger.specs.Answers.{ruleNumber}
+use Rattle.ledger.specs.declared.Part.{Part}
+use Rattle.ledger.specs.declared.Part.the-variants.{Subscriber, Publisher}
+use Rattle.ledger.specs.declared.Session.{Session}
+use Rattle.ledger.specs.declared.Session.the-variants.{Open as IsOpen, Closed as IsClosed}
+use Rattle.ledger.specs.declared.Ledger.{Ledger}
+
+-- ---- a row: eleven numbers
+
+abbrev pub stateNumber : State → ℕ
+stateNumber Pending = 0
+stateNumber Active = 1
+
+-- not known yet, open or closed; where it starts; its last group
+abbrev pub rangeNumbers : Range → List ℕ
+rangeNumbers Unknown = 0 ∷ 0 ∷ 0 ∷ 0 ∷ []
+rangeNumbers (Open from) = 1 ∷ from .group ∷ from .object ∷ 0 ∷ []
+rangeNumbers (Closed from last) = 2 ∷ from .group ∷ from .object ∷ last ∷ []
+
+-- none, or one; where it is
+abbrev pub greatestNumbers : Greatest → List ℕ
+greatestNumbers Nowhere = 0 ∷ 0 ∷ 0 ∷ []
+greatestNumbers (At place) = 1 ∷ place .group ∷ place .object ∷ []
+
+unfoldable pub rowNumbers : Row → List ℕ
+rowNumbers r =
+    r .id ∷ r .alias ∷ stateNumber (r .state) ∷ rangeNumbers (r .range) ++ greatestNumbers (r .greatest) ++ (r .count ∷ [])
+
+unfoldable pub rowsNumbers : List Row → List ℕ
+rowsNumbers [] = []
+rowsNumbers (r ∷ rs) = rowNumbers r ++ rowsNumbers rs
+
+-- ---- a ledger: six numbers, and those of its rows
+
+abbrev pub partNumber : Part → ℕ
+partNumber Subscriber = 0
+partNumber Publisher = 1
+
+-- the rule that closed it, 0 while it is open
+abbrev pub sessionNumber : Session → ℕ
+sessionNumber IsOpen = 0
+sessionNumber (IsClosed rule) = ruleNumber rule
+
+unfoldable pub numbersOf : Ledger → List ℕ
+numbersOf l =
+    partNumber (l .part) ∷ sessionNumber (l .session) ∷ l .capacity ∷ l .maximum ∷ l .next ∷ l .used ∷ rowsNumbers (l .rows)

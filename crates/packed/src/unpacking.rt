@@ -1,0 +1,115 @@
+// The ledger that numbers name.
+ghost use mathlib.Core.Path.{_≡_};
+ghost use Prim.Native.Nat.{_≤_};
+ghost use lib.ListN.{length, take};
+ghost use Rattle.packed.specs.Numbers.{numbersOf};
+ghost use Rattle.packed.specs.Naming.{rowsIn, partOf, ruleOf, sessionOf, ledgerIn, areSame, noLedger, unpackOf};
+use crate::SIZE;
+use crate::packing::put_ledger;
+use crate::rows::row_in;
+use ledger::Ledger;
+use ledger::Part;
+use ledger::Rule;
+use ledger::Session;
+use row::Row;
+
+// Numbers that are no ledger's, and too few, are taken as a ledger that has no room for a row: every call on it answers 14.
+pub fn unpack(numbers: &[u64]) -> Ledger
+    ensures { λ r. ⌜ r ≡ unpackOf (now (numbers .entry)) ⌝ }
+{
+    if numbers.len() < SIZE {
+        return none();
+    }
+    let l = ledger_in(numbers);
+    if !has_numbers(l, numbers) {
+        return none();
+    }
+    l
+}
+
+fn none() -> Ledger
+    ensures { λ r. ⌜ r ≡ noLedger ⌝ }
+{
+    let refused = ledger::start(Part::Subscriber, 0, 0);
+    refused.ledger
+}
+
+fn part_of(n: u64) -> Part
+    ensures { λ r. ⌜ r ≡ partOf n ⌝ }
+{
+    match n {
+        0 => Part::Subscriber,
+        _ => Part::Publisher,
+    }
+}
+
+fn rule_of(n: u64) -> Rule
+    ensures { λ r. ⌜ r ≡ ruleOf n ⌝ }
+{
+    match n {
+        1 => Rule::R1,
+        2 => Rule::R2,
+        3 => Rule::R3,
+        4 => Rule::R4,
+        5 => Rule::R5,
+        6 => Rule::R6,
+        _ => Rule::R7,
+    }
+}
+
+fn session_of(n: u64) -> Session
+    ensures { λ r. ⌜ r ≡ sessionOf n ⌝ }
+{
+    if n == 0 {
+        return Session::Open;
+    }
+    Session::Closed(rule_of(n))
+}
+
+fn rows_in(numbers: &[u64]) -> [Row; 64]
+    requires { ⌜ 710 ≤ length (now numbers) ⌝ }
+    ensures { λ r. ⌜ r ≡ rowsIn 64 (now (numbers .entry)) 6 ⌝ }
+{
+    let mut rows = [row::unused(); 64];
+    let mut i: usize = 0;
+    while i < 64 {
+        rows[i] = row_in(numbers, 6 + 11 * i);
+        i += 1;
+    }
+    rows
+}
+
+fn ledger_in(numbers: &[u64]) -> Ledger
+    requires { ⌜ 710 ≤ length (now numbers) ⌝ }
+    ensures { λ r. ⌜ r ≡ ledgerIn (now (numbers .entry)) ⌝ }
+{
+    let rows = rows_in(numbers);
+    let part = part_of(numbers[0]);
+    let session = session_of(numbers[1]);
+    Ledger {
+        rows,
+        part,
+        session,
+        capacity: numbers[2] as usize,
+        maximum: numbers[3],
+        next: numbers[4],
+        used: numbers[5] as usize,
+    }
+}
+
+// Whether these are the ledger's own.
+fn has_numbers(l: Ledger, numbers: &[u64]) -> bool
+    requires { ⌜ 710 ≤ length (now numbers) ⌝ }
+    ensures { λ r. ⌜ r ≡ areSame (numbersOf l) (take 710 (now (numbers .entry))) ⌝ }
+{
+    let mut own = [0u64; 710];
+    put_ledger(&mut own, l);
+    let mut i: usize = 0;
+    while i < SIZE {
+        if own[i] != numbers[i] {
+            return false;
+        }
+        i += 1;
+    }
+    true
+}
