@@ -1,2 +1,3 @@
 pub mod Integers
+pub mod Ledgers
 pub mod Texts

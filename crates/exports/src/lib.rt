@@ -2,6 +2,7 @@
 // document 01's number, and changes what is lent to it only where it answers 0.
 mod headers;
 mod integers;
+mod ledgers;
 mod messages;
 mod traces;
 
@@ -11,6 +12,11 @@ pub use headers::moq_stream_rewrite;
 pub use headers::moq_subgroup_object_rewrite;
 pub use integers::moq_integer_read;
 pub use integers::moq_integer_write;
+pub use ledgers::moq_ledger_arrival;
+pub use ledgers::moq_ledger_arrivals;
+pub use ledgers::moq_ledger_malformed;
+pub use ledgers::moq_ledger_start;
+pub use ledgers::moq_ledger_take;
 pub use messages::moq_control_rewrite;
 pub use traces::moq_answers;
 pub use traces::moq_report;

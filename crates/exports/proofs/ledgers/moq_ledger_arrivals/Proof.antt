@@ -1,0 +1,25 @@
+-- `moq_ledger_arrivals` meets its contract. Assumes nothing.
+use mathlib.Core.Path.{refl}
+use borrow.Author.Needs.{needs}
+use Rattle.integer.specs.Answer.{number}
+use Rattle.exports.proofs.Holding.{ran}
+use Rattle.exports.proofs.ledgers.moq_ledger_arrivals.Statement.{statement}
+use Rattle.exports.proofs.ledgers.moq_ledger_arrivals.Tie as tie
+
+returns : tie.Need-returns
+unfolding number
+returns c =
+    ran _ _ _ (c .before .before .before .before .before .before .before .before .before .before .unpack .ensures) (c .before .before .before .before .before .before .before .before .arrivals .ensures) (c .before .before .before .before .keep .ensures) (c .enum-told .given .1) refl
+
+returns-2 : tie.Need-returns-2
+unfolding number
+returns-2 c =
+    ran _ _ _ (c .before .before .before .before .before .before .before .before .before .before .unpack .ensures) (c .before .before .before .before .before .before .before .before .arrivals .ensures) (c .before .before .before .before .keep .ensures) (c .enum-told2 .given .1) refl
+
+pub moq-ledger-arrivals-spec : {M : Type 1} → statement M
+moq-ledger-arrivals-spec =
+    tie.close
+    (tie.spec
+    (λ c κs. search needs) (λ c κs. search needs) (λ c κs. search needs) (λ c. search needs) (λ c. search needs)
+    (λ c. search needs) (λ c. search needs) returns
+    (λ c. search needs) (λ c. search needs) returns-2)

@@ -1,0 +1,70 @@
+-- What the calls on a ledger do, which the caller holds as numbers. "A message is taken by a ledger, which hands back the next ledger and
+-- an answer." `out` is what the ledger's numbers then are, `info` what is told beside.
+use Prim.Native.Nat.{ℕ}
+use mathlib.Core.List.{List, [], _∷_}
+use lib.ListN.{length}
+use lib.Dec.{leb, eqb}
+use Rattle.integer.specs.Answer.{pick, number}
+use Rattle.integer.specs.Integer.{over}
+use Rattle.field.specs.declared.Arrival.{Arrival}
+use Rattle.message.specs.Made.{answerOf}
+use Rattle.message.specs.Reading.{readOf}
+use Rattle.message.specs.declared.Message.{Message}
+use Rattle.message.specs.declared.Reading.{Reading}
+use Rattle.message.specs.declared.Reading.the-variants.{Whole, More, Unknown, TooLong, Unfilled, Forbidden, Oversize}
+use Rattle.ledger.specs.Answers.{Came}
+use Rattle.ledger.specs.Steps.{startOf, takeOf, malformedOf, arrivalOf}
+use Rattle.ledger.specs.Runs.{Run, runOf}
+use Rattle.ledger.specs.declared.Ledger.{Ledger}
+use Rattle.packed.specs.Numbers.{numbersOf}
+use Rattle.packed.specs.Naming.{partOf, unpackOf, keptIn}
+use Rattle.rewrite.specs.Rewriting.{Doing, refusing}
+
+-- a new ledger: 5 for a part that is none, 15, and 7 where it has no room
+abbrev pub beginning : Came → List ℕ → Doing
+beginning c before =
+    pick (eqb (c .says .number) 8)
+    (pick (leb (length (numbersOf (c .next))) (length before))
+    (record { says = 8; out = over (numbersOf (c .next)) before; info = [] })
+    (refusing 7 before []))
+    (refusing (c .says .number) before [])
+
+unfoldable pub started : ℕ → ℕ → ℕ → List ℕ → Doing
+started part rows maximum before =
+    pick (leb part 1) (beginning (startOf (partOf part) rows maximum) before) (refusing 5 before [])
+
+-- 01's number, and the numbers of the next ledger
+abbrev pub answered : Came → List ℕ → Doing
+answered c before = record { says = c .says .number; out = keptIn before (c .next); info = [] }
+
+unfoldable pub malformedIn : List ℕ → Doing
+malformedIn before = answered (malformedOf (unpackOf before)) before
+
+unfoldable pub arrivalIn : Arrival → List ℕ → Doing
+arrivalIn a before = answered (arrivalOf (unpackOf before) a) before
+
+-- a message read from the front of bytes: "info[0] bytes used, info[1] the rule", 0 where none is broken
+abbrev pub telling : Came → ℕ → List ℕ → List ℕ → Doing
+telling c used before info =
+    pick (leb 2 (length info))
+    (record { says = c .says .number; out = keptIn before (c .next); info = over (used ∷ c .says .rule ∷ []) info })
+    (refusing 7 before info)
+
+-- "Only a whole message reaches the ledger; every other reading ends there"
+abbrev pub takenBy : Reading → List ℕ → List ℕ → Doing
+takenBy (Whole m used) before info = telling (takeOf (unpackOf before) m) used before info
+takenBy More before info = refusing 1 before info
+takenBy Unknown before info = refusing 2 before info
+takenBy TooLong before info = refusing 3 before info
+takenBy Unfilled before info = refusing 4 before info
+takenBy Forbidden before info = refusing 5 before info
+takenBy Oversize before info = refusing 6 before info
+
+unfoldable pub messageIn : List ℕ → List ℕ → List ℕ → Doing
+messageIn s before info = takenBy (answerOf (readOf s)) before info
+
+-- a run of arrivals, and 01's number of each; 7 where there is no room for these
+unfoldable pub arrivalsIn : List ℕ → List ℕ → List ℕ → Doing
+arrivalsIn run before answers =
+    let w = runOf (unpackOf before) run answers in
+    record { says = number (w .says); out = keptIn before (w .next); info = w .holds }

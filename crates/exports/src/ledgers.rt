@@ -1,0 +1,107 @@
+// A ledger, which the caller holds as numbers (the crate packed says which). What is no ledger answers 14, and stays as it is.
+ghost use mathlib.Core.List.{[]};
+ghost use Rattle.rewrite.specs.Rewriting.{Does};
+ghost use Rattle.exports.specs.Ledgers.{started, malformedIn, arrivalIn, messageIn, arrivalsIn};
+use field::Arrival;
+use field::Place;
+use ledger::Filled;
+use ledger::Part;
+use message::Reading;
+
+// A new ledger, with no row in use. The part is 0 for the subscriber's end and 1 for the publisher's.
+#[no_mangle]
+pub extern "C" fn moq_ledger_start(part: u64, rows: u64, maximum: u64, numbers: &mut [u64]) -> u64
+    ensures { λ r. ⌜ Does (started part rows maximum (now (numbers .entry))) r (now (numbers .exit)) [] ⌝ }
+{
+    if part > 1 {
+        return 5;
+    }
+    let own = if part == 0 {
+        Part::Subscriber
+    } else {
+        Part::Publisher
+    };
+    let t = ledger::start(own, rows as usize, maximum);
+    let answer = t.answer;
+    let said = ledger::number(answer) as u64;
+    if said != 8 {
+        return said;
+    }
+    if numbers.len() < packed::SIZE {
+        return 7;
+    }
+    packed::keep(numbers, t.ledger);
+    8
+}
+
+// The control message at the front of s: into `info` the bytes used, and the rule that it breaks.
+#[no_mangle]
+pub extern "C" fn moq_ledger_take(s: &[u8], numbers: &mut [u64], info: &mut [u64]) -> u64
+    ensures { λ r. ⌜ Does (messageIn (now (s .entry)) (now (numbers .entry)) (now (info .entry))) r (now (numbers .exit)) (now (info .exit)) ⌝ }
+{
+    match message::read(s) {
+        Reading::More => 1,
+        Reading::Unknown => 2,
+        Reading::TooLong => 3,
+        Reading::Unfilled => 4,
+        Reading::Forbidden => 5,
+        Reading::Oversize => 6,
+        Reading::Whole(m, used) => {
+            if info.len() < 2 {
+                return 7;
+            }
+            let l = packed::unpack(numbers);
+            let t = l.take(m);
+            let answer = t.answer;
+            info[0] = used as u64;
+            info[1] = ledger::broken(answer) as u64;
+            packed::keep(numbers, t.ledger);
+            ledger::number(answer) as u64
+        }
+    }
+}
+
+// Bytes of the peer's that are no message.
+#[no_mangle]
+pub extern "C" fn moq_ledger_malformed(numbers: &mut [u64]) -> u64
+    ensures { λ r. ⌜ Does (malformedIn (now (numbers .entry))) r (now (numbers .exit)) [] ⌝ }
+{
+    let l = packed::unpack(numbers);
+    let t = l.malformed();
+    let answer = t.answer;
+    packed::keep(numbers, t.ledger);
+    ledger::number(answer) as u64
+}
+
+// An arrival.
+#[no_mangle]
+pub extern "C" fn moq_ledger_arrival(
+    alias: u64,
+    group: u64,
+    object: u64,
+    numbers: &mut [u64],
+) -> u64
+    ensures { λ r. ⌜ Does (arrivalIn (record { alias = alias; place = record { group = group; object = object } }) (now (numbers .entry))) r (now (numbers .exit)) [] ⌝ }
+{
+    let place = Place { group, object };
+    let l = packed::unpack(numbers);
+    let t = l.arrival(Arrival { alias, place });
+    let answer = t.answer;
+    packed::keep(numbers, t.ledger);
+    ledger::number(answer) as u64
+}
+
+// A run of arrivals, three numbers each: 01's number of each at the front of `answers`.
+#[no_mangle]
+pub extern "C" fn moq_ledger_arrivals(run: &[u64], numbers: &mut [u64], answers: &mut [u8]) -> u64
+    ensures { λ r. ⌜ Does (arrivalsIn (now (run .entry)) (now (numbers .entry)) (now (answers .entry))) r (now (numbers .exit)) (now (answers .exit)) ⌝ }
+{
+    let l = packed::unpack(numbers);
+    let t = l.arrivals(run, answers);
+    let answer = t.answer;
+    packed::keep(numbers, t.ledger);
+    match answer {
+        Filled::Done(_) => 0,
+        Filled::TooShort => 7,
+    }
+}
