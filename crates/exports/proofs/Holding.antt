@@ -6,7 +6,7 @@ use mathlib.Core.List.{List, []}
 use native.Mathlib.Omega.{arith}
 use borrow.Author.Tests.{leb-true, le-leb, lt-leb, eq-eqb, ne-eqb}
 use lib.ListN.{length, set}
-use lib.Dec.{leb, eqb}
+use lib.Dec.{leb}
 use Rattle.integer.specs.Answer.{pick, number}
 use Rattle.integer.specs.Integer.{over}
 use Rattle.field.specs.Outcome.{both}
@@ -19,7 +19,7 @@ use Rattle.message.proofs.Once.{answer-back}
 use Rattle.ledger.specs.Ledgers.{emptyLedger}
 use Rattle.ledger.specs.Answers.{Came, said, told, done}
 use Rattle.ledger.specs.Steps.{startOf, refusedStart, takeOf}
-use Rattle.ledger.specs.Runs.{Run, runOf, saying, Runs}
+use Rattle.ledger.specs.Runs.{runOf, saying, Runs}
 use Rattle.ledger.specs.declared.Part.{Part}
 use Rattle.ledger.specs.declared.Part.the-variants.{Subscriber, Publisher}
 use Rattle.ledger.specs.declared.Ledger.{Ledger}

@@ -1,7 +1,7 @@
 -- The numbers of rows and of a ledger, stored one by one, each thing behind the other. Assumes nothing.
 use Prim.Native.Nat.{ℕ, _+_, _*_, _≤_, _<_}
-use mathlib.Core.Path.{_≡_, refl, sym, ap, _∙_}
-use mathlib.Core.List.{List, [], _∷_, _++_}
+use mathlib.Core.Path.{_≡_, refl, ap, _∙_}
+use mathlib.Core.List.{List, [], _∷_}
 use native.Mathlib.Numerals.{add-one}
 use native.Mathlib.Nat.{zero-add}
 use native.Mathlib.Omega.{arith}
@@ -37,7 +37,7 @@ three (At place) e = rw e
 
 module _ (r : Row) {asked shown : List ℕ} {s : ℕ} (f : asked ≡ rangeNumbers (r .range)) (t : shown ≡ greatestNumbers (r .greatest)) (e : s ≡ stateNumber (r .state)) where
   -- a row's numbers, one by one
-  eleven : rowNumbers r ≡ r .id ∷ r .alias ∷ s ∷ getD asked 0 0 ∷ getD asked 1 0 ∷ getD asked 2 0 ∷ getD asked 3 0 ∷ getD shown 0 0 ∷ getD shown 1 0 ∷ getD shown 2 0 ∷ r .count ∷ []
+  pub eleven : rowNumbers r ≡ r .id ∷ r .alias ∷ s ∷ getD asked 0 0 ∷ getD asked 1 0 ∷ getD asked 2 0 ∷ getD asked 3 0 ∷ getD shown 0 0 ∷ getD shown 1 0 ∷ getD shown 2 0 ∷ r .count ∷ []
   unfolding rowNumbers
   eleven = rw (four (r .range) f, three (r .greatest) t, ← e)
 
