@@ -1,7 +1,7 @@
 /* The collector's core, called from C and C++. `tools/archive` makes the archive for the machine that it runs on,
    target/native/libexports.a; examples/ shows it used from C, Rust and Python.
 
-   Each call answers a number:
+   Each call answers a number; the calls on a ledger have further ones, which stand there:
 
      0  done
      1  more bytes are needed
@@ -10,15 +10,16 @@
      4  the fields don't fill the message; a datagram is cut, or bytes follow a status
      5  a value is forbidden, or a number is too great
      6  a field is over its size
-     7  `out` or `info` is too short
+     7  what is lent to be written is too short
 
-   The first that holds is answered, in the order that a call names. What is lent as `out` and as `info` is changed only where 0 is
-   answered; and of that only so many bytes or values as the call says, from the front on. Every byte and value behind them stays.
+   The first that holds is answered, in the order that a call names. What is lent to be written is changed only where 0 is answered, or
+   one of a ledger's numbers that say so; and of that only so many bytes or values as the call says, from the front on. Every byte and
+   value behind them stays.
 
    A slice is a pointer and a count of elements. What the caller must see to, as the calls can't:
      - a pointer points at so many elements, and isn't null even where the count is 0;
-     - `info` is aligned as uint64_t;
-     - `out` and `info` overlap nothing else that is lent in the same call.
+     - `info`, `numbers` and `run` are aligned as uint64_t;
+     - what is lent to be written overlaps nothing else that is lent in the same call.
    No call keeps a pointer, allocates, or waits. Calls that are lent different memory may run at the same time. */
 
 #ifndef MOQ_H
@@ -70,6 +71,72 @@ uint64_t moq_report(const uint8_t *trace, size_t trace_len, uint8_t *out, size_t
 
 /* What each field was answered, a line for each. */
 uint64_t moq_answers(const uint8_t *trace, size_t trace_len, uint8_t *out, size_t out_len, uint64_t *info, size_t info_len);
+
+/* ---- ledgers: the subscriptions of a session in one direction
+
+   A ledger is 710 numbers, which the caller holds and lends as `numbers`; what stands behind them stays. The first six:
+
+     0  part: 0 for the subscriber's end, 1 for the publisher's
+     1  session: 0 while it is open, or 1 to 7, the rule that closed it
+     2  capacity: how many rows may be in use
+     3  maximum: every Subscribe ID is below it
+     4  next: one more than the highest ID accepted, 0 for none
+     5  used: how many rows are in use
+
+   Then 64 rows of eleven, those in use first:
+
+     0  Subscribe ID
+     1  Track Alias
+     2  0 for pending, 1 for active
+     3  range: 0 for not known, 1 for open, 2 for closed
+     4  its first group
+     5  its first object
+     6  its last group, where it is closed
+     7  greatest place counted: 0 for none, 1 for one
+     8  its group
+     9  its object
+    10  count
+
+   Numbers that a range or a place doesn't have are 0. Numbers are a ledger's where all this is so: the capacity is 1 to 64, and no
+   more rows are in use; their IDs rise, and none is above the highest; no alias comes twice; the count is 0 exactly where there is no
+   place; a pending row counts nothing, and the range of an active one is known; all eleven numbers of a row that isn't in use are 0;
+   no count is above 4,294,967,295, and neither the highest ID nor any other number is above 4,611,686,018,427,387,903.
+
+     8  done
+     9  the ledger doesn't keep such messages
+    10  the session is closed already
+    11  all rows are in use
+    12  stale: no row has the ID, and it isn't above the highest
+    13  a rule is broken: by the own end, and nothing is done; or by the peer, and that closes the session
+    14  the numbers aren't a ledger's, or are too few
+    15  a ledger can't start so
+    16  the arrival is counted
+    17  it is outside the row's range
+    18  no row has the alias
+    19  the row is pending
+
+   `numbers` are the next ledger's with 8, with 16, and with 13 where the peer broke the rule; with any other they stay as they are. */
+
+/* A new ledger with no row in use: 8. 5: part is neither 0 nor 1. 15: rows isn't 1 to 64, or the maximum is above
+   4,611,686,018,427,387,903. 7: numbers has fewer than 710 values. What it held before isn't looked at. */
+uint64_t moq_ledger_start(uint64_t part, uint64_t rows, uint64_t maximum, uint64_t *numbers, size_t numbers_len);
+
+/* The control message at the front of s is taken; its type tells who sent it. info[0]: the bytes used; info[1]: the rule with 13, else
+   0; both are told with every number from 8 on. The numbers of reading are answered first: 1, 2, 3, 4, 5, 6. 7: info has fewer than 2
+   values. Then 14, 10, and then 9, 13, 12, 11 or 8. */
+uint64_t moq_ledger_take(const uint8_t *s, size_t s_len, uint64_t *numbers, size_t numbers_len, uint64_t *info, size_t info_len);
+
+/* Control bytes of the peer's could not be read, with 2, 3, 4, 5 or 6: 14, 10, or else 13, which is rule 1. */
+uint64_t moq_ledger_malformed(uint64_t *numbers, size_t numbers_len);
+
+/* An arrival: 14, 5, 10, 18, 19, 17, 16. 5: one of its three numbers is above 4,611,686,018,427,387,903. */
+uint64_t moq_ledger_arrival(uint64_t alias, uint64_t group, uint64_t object, uint64_t *numbers, size_t numbers_len);
+
+/* Arrivals one after the other, each an alias, a group and an object in run; one or two values at its end are none. answers[i]: what
+   moq_ledger_arrival answers to the i-th, which is 14 for all of them where the numbers aren't a ledger's. Then 0, and numbers are the
+   ledger's behind the last. 7: answers has fewer bytes than there are arrivals; none of them is taken. */
+uint64_t moq_ledger_arrivals(const uint64_t *run, size_t run_len, uint64_t *numbers, size_t numbers_len,
+                             uint8_t *answers, size_t answers_len);
 
 #ifdef __cplusplus
 }

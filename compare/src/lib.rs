@@ -1,5 +1,6 @@
 //! A collector core for Media over QUIC Transport, written from documents
-//! 01 (the scope and its rules) and 004 (the layouts and close codes) alone.
+//! 01 (the scope and its rules) and 004 (the layouts and close codes) alone;
+//! the calls on a ledger's numbers from `include/moq.h`.
 //!
 //! In the comments, a sentence behind `01:` or `004:` is the document's own.
 
@@ -8,6 +9,7 @@
 
 pub mod announce;
 pub mod answer;
+pub mod calls;
 pub mod cases;
 pub mod fetch;
 pub mod fields;
@@ -17,6 +19,7 @@ pub mod hex;
 pub mod integer;
 pub mod ledger;
 pub mod message;
+pub mod numbers;
 pub mod report;
 pub mod rewrite;
 pub mod script;
