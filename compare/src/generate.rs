@@ -1,14 +1,17 @@
 //! Cases from a seed: valid messages of every type with all their variants
 //! first, then a mixture of valid and damaged messages, data headers,
-//! integers and whole traces.
+//! integers and whole traces; and calls on ledgers.
 
 mod damage;
+pub mod damaged;
 mod header;
+mod ledger;
 mod make;
 mod message;
 mod random;
 mod trace;
 
+pub use ledger::{Call, LedgerCase, Ledgers};
 pub use random::Random;
 
 use crate::cases::Kind;

@@ -43,7 +43,7 @@ pub fn trace(make: &mut Make) -> Vec<u8> {
 }
 
 /// A tag and its value.
-type Value = (u8, Vec<u8>);
+pub(super) type Value = (u8, Vec<u8>);
 
 fn put_field(out: &mut Vec<u8>, (tag, value): &Value) {
     let length = u16::try_from(value.len()).expect("generated values are short");
@@ -78,7 +78,7 @@ fn control(make: &mut Make, kind: u64, body: &[u8]) -> Value {
 }
 
 /// A message that holds an ID and, for ERROR and DONE, more behind it.
-fn by_id(make: &mut Make, kind: u64, id: u64) -> Value {
+pub(super) fn by_id(make: &mut Make, kind: u64, id: u64) -> Value {
     let mut body = Vec::new();
     make.integer(&mut body, id);
     match kind {
@@ -122,7 +122,7 @@ fn subscribe(make: &mut Make, history: &mut History) -> Value {
     subscribe_as(make, id, alias)
 }
 
-fn subscribe_as(make: &mut Make, id: u64, alias: u64) -> Value {
+pub(super) fn subscribe_as(make: &mut Make, id: u64, alias: u64) -> Value {
     let mut body = Vec::new();
     make.integer(&mut body, id);
     make.integer(&mut body, alias);
@@ -231,7 +231,7 @@ fn broken_rule(make: &mut Make, history: &mut History) -> Value {
 }
 
 /// Bytes that the reader most often refuses.
-fn malformed(make: &mut Make) -> Value {
+pub(super) fn malformed(make: &mut Make) -> Value {
     let known = [
         b"\x3F".as_slice(),
         b"\x17\x80\x00\x40\x00",

@@ -10,8 +10,8 @@ use second::rewrite::{self, Rewritten};
 use crate::ours;
 
 /// What stands in the buffers before a call.
-const BYTE: u8 = 0xA5;
-const VALUE: u64 = 0x5A5A_5A5A_5A5A_5A5A;
+pub const BYTE: u8 = 0xA5;
+pub const VALUE: u64 = 0x5A5A_5A5A_5A5A_5A5A;
 
 type Call = fn(&[u8], &mut [u8], &mut [u64]) -> u64;
 

@@ -1,14 +1,19 @@
 //! `live SEED COUNT` puts COUNT cases from a seed to the proved code, through
 //! its C interface, and to the second implementation, and compares every
 //! answer, every byte and every value. It prints the seed, the first
-//! difference, and at its end 'N passed, 0 failed'.
+//! difference, how many cases of each kind there were, and at its end 'N
+//! passed, 0 failed'.
 
 use std::process::ExitCode;
 
 #[cfg(exports)]
 mod compare;
 #[cfg(exports)]
+mod ledgers;
+#[cfg(exports)]
 mod ours;
+#[cfg(exports)]
+mod run;
 
 fn main() -> ExitCode {
     let arguments: Vec<String> = std::env::args().skip(1).collect();
@@ -22,22 +27,14 @@ fn main() -> ExitCode {
 
 #[cfg(exports)]
 fn run(seed: u64, count: u64) -> ExitCode {
-    use second::generate::Cases;
-    use second::hex;
     println!("seed {seed}");
-    let mut cases = Cases::new(seed);
-    let mut failed = 0;
-    for _ in 0..count {
-        let (kind, bytes) = cases.next_case();
-        if let Some(difference) = compare::difference(kind, &bytes) {
-            if failed == 0 {
-                println!("{} {}\n  {difference}", kind.word(), hex::encode(&bytes));
-            }
-            failed += 1;
-        }
+    let mut run = run::Run::new(seed);
+    for at in 0..count {
+        run.case(at);
     }
-    println!("{} passed, {failed} failed", count - failed);
-    if failed == 0 {
+    run.print_kinds();
+    println!("{} passed, {} failed", count - run.failed, run.failed);
+    if run.failed == 0 {
         ExitCode::SUCCESS
     } else {
         ExitCode::FAILURE

@@ -12,6 +12,37 @@ extern "C" {
         info: *mut u64,
         info_len: usize,
     ) -> u64;
+    fn moq_ledger_start(
+        part: u64,
+        rows: u64,
+        maximum: u64,
+        numbers: *mut u64,
+        numbers_len: usize,
+    ) -> u64;
+    fn moq_ledger_take(
+        s: *const u8,
+        s_len: usize,
+        numbers: *mut u64,
+        numbers_len: usize,
+        info: *mut u64,
+        info_len: usize,
+    ) -> u64;
+    fn moq_ledger_malformed(numbers: *mut u64, numbers_len: usize) -> u64;
+    fn moq_ledger_arrival(
+        alias: u64,
+        group: u64,
+        object: u64,
+        numbers: *mut u64,
+        numbers_len: usize,
+    ) -> u64;
+    fn moq_ledger_arrivals(
+        run: *const u64,
+        run_len: usize,
+        numbers: *mut u64,
+        numbers_len: usize,
+        answers: *mut u8,
+        answers_len: usize,
+    ) -> u64;
 }
 
 macro_rules! calls {
@@ -99,4 +130,44 @@ pub fn report(trace: &[u8], out: &mut [u8], info: &mut [u64]) -> u64 {
 
 pub fn answers(trace: &[u8], out: &mut [u8], info: &mut [u64]) -> u64 {
     call(moq_answers, trace, out, info)
+}
+
+pub fn ledger_start(part: u64, rows: u64, maximum: u64, numbers: &mut [u64]) -> u64 {
+    unsafe { moq_ledger_start(part, rows, maximum, numbers.as_mut_ptr(), numbers.len()) }
+}
+
+/// Into `info` the bytes used and the rule.
+pub fn ledger_take(s: &[u8], numbers: &mut [u64], info: &mut [u64]) -> u64 {
+    unsafe {
+        moq_ledger_take(
+            s.as_ptr(),
+            s.len(),
+            numbers.as_mut_ptr(),
+            numbers.len(),
+            info.as_mut_ptr(),
+            info.len(),
+        )
+    }
+}
+
+pub fn ledger_malformed(numbers: &mut [u64]) -> u64 {
+    unsafe { moq_ledger_malformed(numbers.as_mut_ptr(), numbers.len()) }
+}
+
+pub fn ledger_arrival(alias: u64, group: u64, object: u64, numbers: &mut [u64]) -> u64 {
+    unsafe { moq_ledger_arrival(alias, group, object, numbers.as_mut_ptr(), numbers.len()) }
+}
+
+/// Into `answers` the number of each arrival.
+pub fn ledger_arrivals(run: &[u64], numbers: &mut [u64], answers: &mut [u8]) -> u64 {
+    unsafe {
+        moq_ledger_arrivals(
+            run.as_ptr(),
+            run.len(),
+            numbers.as_mut_ptr(),
+            numbers.len(),
+            answers.as_mut_ptr(),
+            answers.len(),
+        )
+    }
 }
