@@ -17,8 +17,8 @@ pub fn of(ledger: &Ledger) -> [u64; COUNT] {
     numbers
 }
 
-/// Puts the numbers of a ledger. One that has no number of its own here, an
-/// ID above all others, is put as the greatest number there is.
+/// Puts the numbers of a ledger. What isn't one could hold 2^64 - 1 as its
+/// highest ID, which no numbers name; it is put as the ID before it.
 pub fn put(ledger: &Ledger, numbers: &mut [u64; COUNT]) {
     let (first, rows) = numbers.split_at_mut(FIRST);
     first.copy_from_slice(&[

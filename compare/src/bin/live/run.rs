@@ -52,7 +52,7 @@ impl Run {
 
     pub fn print_kinds(&self) {
         for ((kind, call), count) in &self.kinds {
-            println!("{count:>9} {kind} {call}");
+            println!("{}", format!("{count:>9} {kind} {call}").trim_end());
         }
     }
 }
