@@ -7,6 +7,8 @@ mod clock;
 #[cfg(exports)]
 mod integer;
 #[cfg(exports)]
+mod ledger;
+#[cfg(exports)]
 mod ours;
 #[cfg(exports)]
 mod quinn;
@@ -22,6 +24,7 @@ fn main() -> ExitCode {
     clock::heading();
     integer::measure();
     rewrite::measure();
+    ledger::measure();
     trace::measure();
     ExitCode::SUCCESS
 }

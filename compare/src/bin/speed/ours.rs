@@ -61,6 +61,40 @@ extern "C" {
         info: *mut u64,
         info_len: usize,
     ) -> u64;
+    fn moq_ledger_arrival(
+        alias: u64,
+        group: u64,
+        object: u64,
+        numbers: *mut u64,
+        numbers_len: usize,
+    ) -> u64;
+    fn moq_ledger_arrivals(
+        run: *const u64,
+        run_len: usize,
+        numbers: *mut u64,
+        numbers_len: usize,
+        answers: *mut u8,
+        answers_len: usize,
+    ) -> u64;
+}
+
+/// An arrival at the ledger that the numbers are.
+pub fn arrival(alias: u64, group: u64, object: u64, numbers: &mut [u64]) -> u64 {
+    unsafe { moq_ledger_arrival(alias, group, object, numbers.as_mut_ptr(), numbers.len()) }
+}
+
+/// A run of arrivals, three numbers each; into `answers` the number of each.
+pub fn arrivals(run: &[u64], numbers: &mut [u64], answers: &mut [u8]) -> u64 {
+    unsafe {
+        moq_ledger_arrivals(
+            run.as_ptr(),
+            run.len(),
+            numbers.as_mut_ptr(),
+            numbers.len(),
+            answers.as_mut_ptr(),
+            answers.len(),
+        )
+    }
 }
 
 #[cfg(passes)]
