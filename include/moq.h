@@ -79,7 +79,7 @@ uint64_t moq_answers(const uint8_t *trace, size_t trace_len, uint8_t *out, size_
      0  part: 0 for the subscriber's end, 1 for the publisher's
      1  session: 0 while it is open, or 1 to 7, the rule that closed it
      2  capacity: how many rows may be in use
-     3  maximum: every Subscribe ID is below it
+     3  maximum: an ID that is not below it isn't accepted
      4  next: one more than the highest ID accepted, 0 for none
      5  used: how many rows are in use
 
@@ -115,9 +115,10 @@ uint64_t moq_answers(const uint8_t *trace, size_t trace_len, uint8_t *out, size_
     18  no row has the alias
     19  the row is pending
 
-   `numbers` are the next ledger's with 8, with 16, and with 13 where the peer broke the rule; with any other they stay as they are. */
+   `numbers` are the next ledger's with 8, with 16, with 13 where the peer broke the rule, and with the 0 of a run; with any other
+   number they stay as they are. */
 
-/* A new ledger with no row in use: 8. 5: part is neither 0 nor 1. 15: rows isn't 1 to 64, or the maximum is above
+/* A new ledger with no row in use: 5, 15, 7, 8. 5: part is neither 0 nor 1. 15: rows isn't 1 to 64, or the maximum is above
    4,611,686,018,427,387,903. 7: numbers has fewer than 710 values. What it held before isn't looked at. */
 uint64_t moq_ledger_start(uint64_t part, uint64_t rows, uint64_t maximum, uint64_t *numbers, size_t numbers_len);
 
@@ -132,9 +133,9 @@ uint64_t moq_ledger_malformed(uint64_t *numbers, size_t numbers_len);
 /* An arrival: 14, 5, 10, 18, 19, 17, 16. 5: one of its three numbers is above 4,611,686,018,427,387,903. */
 uint64_t moq_ledger_arrival(uint64_t alias, uint64_t group, uint64_t object, uint64_t *numbers, size_t numbers_len);
 
-/* Arrivals one after the other, each an alias, a group and an object in run; one or two values at its end are none. answers[i]: what
-   moq_ledger_arrival answers to the i-th, which is 14 for all of them where the numbers aren't a ledger's. Then 0, and numbers are the
-   ledger's behind the last. 7: answers has fewer bytes than there are arrivals; none of them is taken. */
+/* Arrivals one after the other, each an alias, a group and an object in run; one or two values at its end are none: 7, 0. answers[i]:
+   what moq_ledger_arrival answers to the i-th, which is 14 for all of them where the numbers aren't a ledger's, and these then stay.
+   7: answers has fewer bytes than there are arrivals, and none of them is taken. */
 uint64_t moq_ledger_arrivals(const uint64_t *run, size_t run_len, uint64_t *numbers, size_t numbers_len,
                              uint8_t *answers, size_t answers_len);
 
