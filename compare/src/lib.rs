@@ -1,6 +1,6 @@
 //! A collector core for Media over QUIC Transport, written from documents
-//! 01 (the scope and its rules) and 004 (the layouts and close codes) alone;
-//! the calls on a ledger's numbers from `include/moq.h`.
+//! 01 (the scope and its rules) and 004 (the layouts and close codes) alone,
+//! save that `numbers` and `calls` follow `include/moq.h`.
 //!
 //! In the comments, a sentence behind `01:` or `004:` is the document's own.
 
