@@ -12,6 +12,7 @@ use kinds::Naming;
 use kinds::Refusing;
 pub use reader::read;
 pub use writer::fields;
+pub use writer::number;
 
 pub struct Announce {
     pub namespace: Entries,

@@ -13,6 +13,17 @@ use field::Piece;
 use shortest::Fields;
 use shortest::places;
 
+// The number of its type.
+pub fn number(m: AnnounceMessage) -> u64
+    ensures { λ r. ⌜ r ≡ saidOf m .type ⌝ }
+{
+    match m {
+        AnnounceMessage::Named(k, _) => number_of(AnnounceKind::Named(k)),
+        AnnounceMessage::Asked(k, _) => number_of(AnnounceKind::Asked(k)),
+        AnnounceMessage::Refused(k, _) => number_of(AnnounceKind::Refused(k)),
+    }
+}
+
 pub fn fields(m: AnnounceMessage) -> Fields
     ensures { λ r. ⌜ typedOf r ≡ saidOf m ⌝ }
 {
@@ -46,7 +57,7 @@ pub fn fields(m: AnnounceMessage) -> Fields
     }
 }
 
-// The number of its type.
+// The number of a kind.
 fn number_of(kind: AnnounceKind) -> u64
     ensures { λ r. ⌜ r ≡ numberOf kind ⌝ }
 {

@@ -17,6 +17,7 @@ pub use rules::is_status;
 pub use rules::may_hold;
 pub use writer::fields;
 pub use writer::is_allowed;
+pub use writer::number;
 
 // Objects of a track, from one place to another.
 pub struct Standalone {

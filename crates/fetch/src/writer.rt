@@ -14,6 +14,20 @@ use field::Piece;
 use shortest::Fields;
 use shortest::places;
 
+// The number of its type.
+pub fn number(m: FetchMessage) -> u64
+    ensures { λ r. ⌜ r ≡ saidOf m .type ⌝ }
+{
+    match m {
+        FetchMessage::Fetch(_) => 0x16,
+        FetchMessage::FetchOk(_) => 0x18,
+        FetchMessage::FetchError(_) => 0x19,
+        FetchMessage::FetchCancel(_) => 0x17,
+        FetchMessage::TrackStatusRequest(_) => 0xD,
+        FetchMessage::TrackStatus(_) => 0xE,
+    }
+}
+
 pub fn fields(m: FetchMessage) -> Fields
     ensures { λ r. ⌜ typedOf r ≡ saidOf m ⌝ }
 {

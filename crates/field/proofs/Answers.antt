@@ -2,16 +2,18 @@
 -- Assumes nothing.
 use Prim.Native.Nat.{ℕ, _+_, _-_, _*_, _^_, _<_, _≤_}
 use mathlib.Core.Path.{_≡_, sym, ap, _∙_}
+use mathlib.Core.Bool.{Bool, true, false}
 use mathlib.Core.List.{List}
 use native.Mathlib.Omega.{arith}
 use lib.ListN.{length, drop}
 use mir.Syntax.{w64}
 use mir.Val.{Fits}
+use Rattle.integer.specs.Answer.{pick}
 use Rattle.integer.specs.Integer.{readOf, told, greatest}
 use Rattle.integer.specs.declared.Reading.{Reading}
 use Rattle.integer.specs.declared.Reading.the-variants.{Whole, More}
 use Rattle.field.specs.Outcome.{Outcome, whole, no, andThen}
-use Rattle.field.specs.Entries.{size, numberAt, textAt, numberedAt, entryAt}
+use Rattle.field.specs.Entries.{size, numberAt, textAt, numberedAt, hasNumber, hasBytes, entryAt}
 use Rattle.field.specs.Fields.{fieldAt, integer, bytes}
 use Rattle.field.specs.Told.{toldEntry}
 use Rattle.field.specs.declared.Fault.{Fault}
@@ -30,6 +32,10 @@ use Rattle.field.proofs.Unjudged.{apart, text-refused}
 abbrev pub Lent : List ℕ → Type 0
 Lent s = length s * 1 < 2 ^ 63
 
+-- the number that an entry begins with: 0 where it has none
+abbrev pub leadAt : Kind → List ℕ → ℕ → Outcome ℕ
+leadAt kind s at = pick (hasNumber kind) (numberAt s at) (whole 0 at)
+
 -- ---- no integer was read: what should have started there is cut
 
 module _ (s : List ℕ) (at : ℕ) {r : Reading} (read : r ≡ More) (said : told r ≡ readOf (drop at s)) where
@@ -47,15 +53,12 @@ module _ (s : List ℕ) (at : ℕ) {r : Reading} (read : r ≡ More) (said : tol
   unfolding numberedAt
   numbered-cut number most = rw (text-cut most s at read-more)
 
-  -- a parameter,
-  pub parameter-cut : (kind : Kind) (most : ℕ) → kind ≡ Parameters → no Cut ≡ entryAt kind most s at
+  -- an entry that begins with one
+  pub entry-cut : (kind : Kind) (most : ℕ) → hasNumber kind ≡ true → no Cut ≡ entryAt kind most s at
   unfolding entryAt
-  parameter-cut kind most k = rw (k, read-more)
-
-  -- a version
-  pub version-cut : (kind : Kind) (most : ℕ) → kind ≡ Versions → no Cut ≡ entryAt kind most s at
-  unfolding entryAt
-  version-cut kind most k = rw (k, read-more)
+  entry-cut Namespace most h = cc
+  entry-cut Parameters most h = rw read-more
+  entry-cut Versions most h = rw read-more
 
 -- ---- an integer was read
 
@@ -96,20 +99,30 @@ module _ (s : List ℕ) (at : ℕ) {r : Reading} {n used : ℕ} (read : r ≡ Wh
   pub numbered-fits : n ≤ length s - (at + used) → Lent s → Fits w64 (at + used + n)
   numbered-fits k h = omega (arith, read-within)
 
-  -- as a type it starts a parameter,
-  pub parameter-at : (kind : Kind) (most : ℕ) {o : Outcome Entry} → kind ≡ Parameters → o ≡ numberedAt n most s (at + used) → o ≡ entryAt kind most s at
-  unfolding entryAt
-  parameter-at kind most k e = rw (k, read-whole) e
+  -- as the number that an entry begins with
+  pub lead-read : (kind : Kind) → hasNumber kind ≡ true → leadAt kind s at ≡ whole n (at + used)
+  lead-read kind h = rw (h, read-whole)
 
-  -- and a version is nothing else
-  pub version-at : (kind : Kind) (most : ℕ) → kind ≡ Versions → whole (record { number = n; bytes = record { start = at + used; end = at + used } }) (at + used) ≡ entryAt kind most s at
-  unfolding entryAt
-  version-at kind most k = rw (k, read-whole)
+-- ---- the number that an entry begins with, and what stands behind it
 
--- a field of a namespace is a length and bytes
-pub field-at : (kind : Kind) (most : ℕ) (s : List ℕ) (at : ℕ) {o : Outcome Entry} → kind ≡ Namespace → o ≡ numberedAt 0 most s at → o ≡ entryAt kind most s at
-unfolding entryAt
-field-at kind most s at k e = rw k e
+module _ (s : List ℕ) (at : ℕ) where
+  -- where it has none it is 0
+  pub lead-none : (kind : Kind) → hasNumber kind ≡ false → leadAt kind s at ≡ whole 0 at
+  lead-none kind h = rw h
+
+  -- an entry that holds no bytes is its number,
+  pub entry-bare : (kind : Kind) (most : ℕ) {number next : ℕ} → hasBytes kind ≡ false → leadAt kind s at ≡ whole number next → whole (record { number = number; bytes = record { start = next; end = next } }) next ≡ entryAt kind most s at
+  unfolding entryAt
+  entry-bare Namespace most h lead = cc
+  entry-bare Parameters most h lead = cc
+  entry-bare Versions most h lead = rw lead
+
+  -- and another goes on with a length and bytes
+  pub entry-text : (kind : Kind) (most : ℕ) {number next : ℕ} {o : Outcome Entry} → hasBytes kind ≡ true → leadAt kind s at ≡ whole number next → o ≡ numberedAt number most s next → o ≡ entryAt kind most s at
+  unfolding entryAt
+  entry-text Namespace most {number} {next} h lead e = let n : number ≡ 0 = cc in let a : next ≡ at = cc in rw (n, a) at e
+  entry-text Parameters most h lead e = rw lead e
+  entry-text Versions most h lead e = cc
 
 -- ---- the text of an entry
 
@@ -134,15 +147,15 @@ numbered-fault number most s at {fault} = go (textAt most s at)
 
 -- a field of bytes is such a text, of any length
 
-module _ (s : List ℕ) (at : ℕ) {r : EntryRead} (said : toldEntry r ≡ numberedAt 0 greatest s at) where
+module _ (s : List ℕ) (at : ℕ) {r : EntryRead} (said : toldEntry r ≡ entryAt Namespace greatest s at) where
   -- it is there,
   pub bytes-whole : {e : Entry} → r ≡ WholeEntry e → whole (Bytes (e .bytes)) (e .bytes .end) ≡ fieldAt bytes s at
-  unfolding fieldAt
+  unfolding fieldAt entryAt
   bytes-whole f = rw (numbered-text 0 greatest s at (sym said ∙ ap toldEntry f))
 
   -- or it is cut
   pub bytes-no : {fault : Fault} → r ≡ NoEntry fault → no Cut ≡ fieldAt bytes s at
-  unfolding fieldAt
+  unfolding fieldAt entryAt
   bytes-no f =
       let h = numbered-fault 0 greatest s at (sym said ∙ ap toldEntry f) in
       rw (h, text-refused s at h)

@@ -9,7 +9,7 @@ use Rattle.integer.specs.Integer.{readOf, told}
 use Rattle.integer.specs.declared.Reading.{Reading}
 use Rattle.integer.specs.declared.Reading.the-variants.{Whole, More}
 use Rattle.field.specs.Outcome.{Outcome, whole, no, andThen}
-use Rattle.field.specs.Entries.{Listed, numberAt, numberedAt, entriesAt, few, mostOf, listAt}
+use Rattle.field.specs.Entries.{Listed, numberAt, entryAt, entriesAt, few, mostOf, listAt}
 use Rattle.field.specs.Fields.{fieldAt, list, track}
 use Rattle.field.specs.Value.{encItems, itemsOf, walkOf}
 use Rattle.field.specs.Told.{toldEntry, toldWalk, toldCounted}
@@ -90,15 +90,15 @@ module _ (s : List ℕ) (at : ℕ) {r : Counted} (said : toldCounted r ≡ listA
   unfolding fieldAt
   track-no f = rw (sym said ∙ ap toldCounted f)
 
-  module _ {l : Entries} {held most : ℕ} (namespace : r ≡ WholeCounted l held) (judged : most ≡ mostOf true Namespace held) {n : EntryRead} (name : toldEntry n ≡ numberedAt 0 most s (l .end)) where
+  module _ {l : Entries} {held most : ℕ} (namespace : r ≡ WholeCounted l held) (judged : most ≡ mostOf true Namespace held) {n : EntryRead} (name : toldEntry n ≡ entryAt Namespace most s (l .end)) where
     -- or its name is,
     pub track-stop : {fault : Fault} → n ≡ NoEntry fault → no fault ≡ fieldAt track s at
-    unfolding fieldAt
+    unfolding fieldAt entryAt
     track-stop f =
         rw (sym said ∙ ap toldCounted namespace, ← judged, numbered-fault 0 most s (l .end) (sym name ∙ ap toldEntry f))
 
     -- or both are there
     pub track-whole : {e : Entry} → n ≡ WholeEntry e → whole (Tracked (record { namespace = l; name = e .bytes })) (e .bytes .end) ≡ fieldAt track s at
-    unfolding fieldAt
+    unfolding fieldAt entryAt
     track-whole f =
         rw (sym said ∙ ap toldCounted namespace, ← judged, numbered-text 0 most s (l .end) (sym name ∙ ap toldEntry f))

@@ -42,6 +42,17 @@ entryAt Parameters most s at = andThen (numberAt s at) λ type next. numberedAt 
 entryAt Versions most s at =
     andThen (numberAt s at) λ version end. whole (record { number = version; bytes = record { start = end; end = end } }) end
 
+-- which entries begin with a number, and which hold bytes
+abbrev pub hasNumber : Kind → Bool
+hasNumber Namespace = false
+hasNumber Parameters = true
+hasNumber Versions = true
+
+abbrev pub hasBytes : Kind → Bool
+hasBytes Namespace = true
+hasBytes Parameters = true
+hasBytes Versions = false
+
 -- "namespace field bytes plus name bytes at most 4,096": how many are left when so many are held. Where sizes are not judged, and
 -- for other entries, a length may be anything
 unfoldable pub mostOf : Bool → Kind → ℕ → ℕ

@@ -15,8 +15,8 @@ use crate::NumberRead;
 use crate::Track;
 use crate::TrackRead;
 use crate::Walked;
+use crate::walking::entry_at;
 use crate::walking::most;
-use crate::walking::numbered;
 use crate::walking::walk;
 use integer::Reading;
 
@@ -42,7 +42,7 @@ pub fn read_byte(s: &[u8], at: usize) -> ByteRead
 pub fn read_bytes(s: &[u8], at: usize) -> BytesRead
     ensures { λ r. ⌜ toldBytes r ≡ fieldAt bytes (now (s .entry)) at ⌝ }
 {
-    let EntryRead::Whole(e) = numbered(s, 0, integer::GREATEST, at) else {
+    let EntryRead::Whole(e) = entry_at(s, Kind::Namespace, integer::GREATEST, at) else {
         return BytesRead::Cut;
     };
     let bytes = e.bytes;
@@ -103,7 +103,7 @@ pub fn read_track(s: &[u8], at: usize) -> TrackRead
         Counted::No(fault) => TrackRead::No(fault),
         Counted::Whole(namespace, held) => {
             let next = namespace.end;
-            match numbered(s, 0, most(true, Kind::Namespace, held), next) {
+            match entry_at(s, Kind::Namespace, most(true, Kind::Namespace, held), next) {
                 EntryRead::No(fault) => TrackRead::No(fault),
                 EntryRead::Whole(e) => {
                     let name = e.bytes;

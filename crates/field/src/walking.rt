@@ -2,7 +2,7 @@
 ghost use mathlib.Core.Path.{_≡_};
 ghost use Prim.Native.Nat.{_≤_};
 ghost use Rattle.integer.specs.Integer.{greatest};
-ghost use Rattle.field.specs.Entries.{numberedAt, entryAt, mostOf};
+ghost use Rattle.field.specs.Entries.{numberedAt, entryAt, hasNumber, hasBytes, mostOf};
 ghost use Rattle.field.specs.Value.{walkOf, itemSize};
 ghost use Rattle.field.specs.Told.{toldEntry, toldWalk};
 use crate::Entry;
@@ -16,7 +16,7 @@ use integer::Reading;
 
 // A length and as many bytes, of an entry that has a number. The length is judged before the bytes are looked for: over most
 // it is a size, though they may be missing.
-pub fn numbered(s: &[u8], number: u64, most: u64, at: usize) -> EntryRead
+fn numbered(s: &[u8], number: u64, most: u64, at: usize) -> EntryRead
     ensures { λ r. ⌜ toldEntry r ≡ numberedAt number most (now (s .entry)) at ⌝ }
 {
     let Reading::Whole(n, used) = integer::read_at(s, at) else {
@@ -39,26 +39,47 @@ pub fn numbered(s: &[u8], number: u64, most: u64, at: usize) -> EntryRead
 pub fn entry_at(s: &[u8], kind: Kind, most: u64, at: usize) -> EntryRead
     ensures { λ r. ⌜ toldEntry r ≡ entryAt kind most (now (s .entry)) at ⌝ }
 {
+    let mut number: u64 = 0;
+    let mut next = at;
+    if has_number(kind) {
+        let Reading::Whole(n, used) = integer::read_at(s, at) else {
+            return EntryRead::No(Fault::Cut);
+        };
+        number = n;
+        next = at + used;
+    }
+    if !has_bytes(kind) {
+        let bytes = Span {
+            start: next,
+            end: next,
+        };
+        return EntryRead::Whole(Entry { number, bytes });
+    }
+    // Taken apart, so that what is answered is made here and not copied.
+    match numbered(s, number, most, next) {
+        EntryRead::Whole(e) => EntryRead::Whole(e),
+        EntryRead::No(fault) => EntryRead::No(fault),
+    }
+}
+
+// Whether entries begin with a number, and whether they hold bytes.
+fn has_number(kind: Kind) -> bool
+    ensures { λ r. ⌜ r ≡ hasNumber kind ⌝ }
+{
     match kind {
-        Kind::Namespace => numbered(s, 0, most, at),
-        Kind::Parameters => {
-            let Reading::Whole(number, used) = integer::read_at(s, at) else {
-                return EntryRead::No(Fault::Cut);
-            };
-            let next = at + used;
-            numbered(s, number, most, next)
-        }
-        Kind::Versions => {
-            let Reading::Whole(number, used) = integer::read_at(s, at) else {
-                return EntryRead::No(Fault::Cut);
-            };
-            let next = at + used;
-            let bytes = Span {
-                start: next,
-                end: next,
-            };
-            EntryRead::Whole(Entry { number, bytes })
-        }
+        Kind::Namespace => false,
+        Kind::Parameters => true,
+        Kind::Versions => true,
+    }
+}
+
+fn has_bytes(kind: Kind) -> bool
+    ensures { λ r. ⌜ r ≡ hasBytes kind ⌝ }
+{
+    match kind {
+        Kind::Namespace => true,
+        Kind::Parameters => true,
+        Kind::Versions => false,
     }
 }
 

@@ -16,7 +16,17 @@ pub fn write(out: &mut [u8], bytes: &[u8], m: Message) -> Writing
     if !is_allowed(m) {
         return Writing::Forbidden;
     }
-    shortest::write_framed(out, bytes, fields(m), LONGEST)
+    match m {
+        Message::Subscription(x) => shortest::write_framed(
+            out,
+            bytes,
+            subscription::fields(x),
+            LONGEST,
+        ),
+        Message::Fetch(x) => shortest::write_framed(out, bytes, fetch::fields(x), LONGEST),
+        Message::Announce(x) => shortest::write_framed(out, bytes, announce::fields(x), LONGEST),
+        Message::Session(x) => shortest::write_framed(out, bytes, session::fields(x), LONGEST),
+    }
 }
 
 // The fields of a message.
@@ -35,8 +45,12 @@ pub fn fields(m: Message) -> Fields
 pub fn number(m: Message) -> u64
     ensures { λ r. ⌜ r ≡ saidOf m .type ⌝ }
 {
-    let f = fields(m);
-    f.kind
+    match m {
+        Message::Subscription(x) => subscription::number(x),
+        Message::Fetch(x) => fetch::number(x),
+        Message::Announce(x) => announce::number(x),
+        Message::Session(x) => session::number(x),
+    }
 }
 
 // Whether a message holds no forbidden value.

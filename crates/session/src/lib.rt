@@ -8,6 +8,7 @@ use field::Fault;
 use field::Span;
 pub use reader::read;
 pub use writer::fields;
+pub use writer::number;
 
 pub struct ClientSetup {
     pub versions: Entries,

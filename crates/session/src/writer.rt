@@ -8,6 +8,17 @@ use field::Piece;
 use shortest::Fields;
 use shortest::places;
 
+// The number of its type.
+pub fn number(m: SessionMessage) -> u64
+    ensures { λ r. ⌜ r ≡ saidOf m .type ⌝ }
+{
+    match m {
+        SessionMessage::ClientSetup(_) => 0x40,
+        SessionMessage::ServerSetup(_) => 0x41,
+        SessionMessage::GoAway(_) => 0x10,
+    }
+}
+
 pub fn fields(m: SessionMessage) -> Fields
     ensures { λ r. ⌜ typedOf r ≡ saidOf m ⌝ }
 {

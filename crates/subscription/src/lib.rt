@@ -17,6 +17,7 @@ pub use reader::read;
 pub use rules::ends_after;
 pub use writer::fields;
 pub use writer::is_allowed;
+pub use writer::number;
 
 // The end group is kept as it is sent: plus 1, and 0 for none.
 pub struct SubscribeUpdate {

@@ -15,6 +15,22 @@ use field::Piece;
 use shortest::Fields;
 use shortest::places;
 
+// The number of its type.
+pub fn number(m: SubscriptionMessage) -> u64
+    ensures { λ r. ⌜ r ≡ saidOf m .type ⌝ }
+{
+    match m {
+        SubscriptionMessage::SubscribeUpdate(_) => 0x2,
+        SubscriptionMessage::Subscribe(_) => 0x3,
+        SubscriptionMessage::SubscribeOk(_) => 0x4,
+        SubscriptionMessage::SubscribeError(_) => 0x5,
+        SubscriptionMessage::Unsubscribe(_) => 0xA,
+        SubscriptionMessage::SubscribeDone(_) => 0xB,
+        SubscriptionMessage::MaxSubscribeId(_) => 0x15,
+        SubscriptionMessage::SubscribesBlocked(_) => 0x1A,
+    }
+}
+
 pub fn fields(m: SubscriptionMessage) -> Fields
     ensures { λ r. ⌜ typedOf r ≡ saidOf m ⌝ }
 {

@@ -4,8 +4,8 @@ use Rattle.field.proofs.Answers.{bytes-no, bytes-whole}
 use Rattle.field.proofs.reader.read_bytes.Statement.{statement}
 use Rattle.field.proofs.reader.read_bytes.Tie as tie
 
-numbered-requires : tie.Need-numbered-requires
-numbered-requires c κs = search needs
+entry-at-requires : tie.Need-entry-at-requires
+entry-at-requires c κs = search needs
 
 enum-known-e : tie.Need-enum-known-e
 enum-known-e c = search needs
@@ -20,4 +20,4 @@ returns-2 : tie.Need-returns-2
 returns-2 c = search bytes-whole
 
 pub read-bytes-spec : {M : Type 1} → statement M
-read-bytes-spec = tie.close (tie.spec numbered-requires enum-known-e enum-told returns returns-2)
+read-bytes-spec = tie.close (tie.spec entry-at-requires enum-known-e enum-told returns returns-2)

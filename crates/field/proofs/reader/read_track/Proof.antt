@@ -16,7 +16,7 @@ known-2 c = search needs
 asks-2 : tie.Need-most-requires
 asks-2 c κs = search needs
 
-asks-3 : tie.Need-numbered-requires
+asks-3 : tie.Need-entry-at-requires
 asks-3 c κs = search needs
 
 known-3 : tie.Need-enum-known-fault-2

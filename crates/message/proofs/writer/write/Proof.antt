@@ -1,5 +1,7 @@
--- `write` meets its contract. Assumes nothing.
+-- `write` meets its contract: the fields of each family are framed. Assumes nothing.
 use borrow.Author.Needs.{needs}
+use Rattle.layout.proofs.Said.{told-of}
+use Rattle.message.specs.Types.{saidOf}
 use Rattle.message.proofs.Writes.{not-allowed, is-framed}
 use Rattle.message.proofs.writer.write.Statement.{statement}
 use Rattle.message.proofs.writer.write.Tie as tie
@@ -9,4 +11,11 @@ write-spec =
     tie.close
     (tie.spec
     (λ c κs. search needs) (λ c. search not-allowed)
-    (λ c κs. search needs) (λ c κs. search needs) (λ c. search needs) (λ c. search is-framed))
+    (λ c. search needs) (λ c κs. search needs) (λ c κs. search needs)
+    (λ c. search needs) (λ c κs. search needs) (λ c κs. search needs)
+    (λ c. search needs) (λ c κs. search needs) (λ c κs. search needs)
+    (λ c. search needs) (λ c κs. search needs) (λ c κs. search needs)
+    (λ c. search needs) (λ c. search (is-framed, told-of saidOf))
+    (λ c. search needs) (λ c. search (is-framed, told-of saidOf))
+    (λ c. search needs) (λ c. search (is-framed, told-of saidOf))
+    (λ c. search needs) (λ c. search (is-framed, told-of saidOf)))
