@@ -1,21 +1,21 @@
 -- A header that is written: its values are judged first, then its fields. Assumes nothing.
 use Prim.Native.Nat.{ℕ}
-use mathlib.Core.Path.{_≡_, refl, sym, ap, subst, _∙_}
-use mathlib.Core.List.{List, []}
+use mathlib.Core.Path.{_≡_, refl, sym, _∙_}
+use mathlib.Core.List.{List, [], _∷_}
 use mathlib.Core.Bool.{Bool, true, false, not}
 use borrow.Author.Tests.{not-true, not-false}
 use lib.Dec.{leb}
 use Rattle.integer.specs.Answer.{Answer, refused, Nothing, Leaves}
 use Rattle.integer.specs.Integer.{encOf, greatest}
-use Rattle.field.specs.Value.{mean}
+use Rattle.field.specs.Value.{mean, encField, encode}
 use Rattle.field.specs.declared.Piece.{Piece}
+use Rattle.field.specs.declared.Piece.the-variants.{Number}
 use Rattle.layout.specs.Typed.{Typed}
 use Rattle.shortest.specs.Judging.{right, sized}
-use Rattle.shortest.specs.Writing.{fieldsOf, typedOf, rightAll, sizedAll, encodeAll, writtenOf, plainOf, bareOf}
-use Rattle.shortest.specs.declared.Fields.{Fields}
+use Rattle.shortest.specs.Writing.{rightAll, sizedAll, encodeAll, writtenOf, bareOf}
 use Rattle.header.specs.Told.{datagramSaid, streamSaid, payloadPieces, subgroupObjectPieces, fetchObjectPieces}
-use Rattle.header.specs.Allowed.{datagramAllowed}
-use Rattle.header.specs.Writing.{headerWritten, datagramWritten, streamWritten}
+use Rattle.header.specs.Allowed.{datagramAllowed, payloadAllowed}
+use Rattle.header.specs.Writing.{headerWritten, datagramWritten, streamWritten, subgroupObjectWritten, fetchObjectWritten}
 use Rattle.header.specs.declared.Datagram.{Datagram}
 use Rattle.header.specs.declared.Datagram.the-variants.{Object, Status as WithStatus}
 use Rattle.header.specs.declared.StreamHeader.{StreamHeader}
@@ -69,30 +69,42 @@ module _ (s before : List ℕ) {a : Bool} (allowed : Bool) (judged : a ≡ allow
   unfolding headerWritten writtenOf
   not-allowed front ps h = let f : allowed ≡ false = sym judged ∙ not-true a h in record { says = rw f; holds = rw f }
 
-  module _ (f : Fields) {said : Answer Nothing} {after : List ℕ} (h : not a ≡ false) where
-    -- or none is, and the fields are written behind a type,
-    behind-type : (t : Typed) → Writable s t → typedOf f ≡ t → Leaves (plainOf s (f .kind) (fieldsOf f) before) said after → Leaves (headerWritten allowed (encOf (t .type)) s (t .pieces) before) said after
-    unfolding headerWritten plainOf
-    behind-type t w e l =
-        let g : allowed ≡ true = sym judged ∙ not-false a h in
-        let u : Writable s (typedOf f) = subst (Writable s) (sym e) w in
-        rw (g, ← e) (rw (u .0, u .1) at l)
-
-    -- or alone
-    pub alone : (ps : List Piece) → sizedAll s ps ≡ true → typedOf f ≡ record { type = 0; pieces = ps } → Leaves (bareOf s (fieldsOf f) before) said after → Leaves (headerWritten allowed [] s ps before) said after
+  module _ (ps : List Piece) {said : Answer Nothing} {after : List ℕ} (h : not a ≡ false) (sizes : sizedAll s ps ≡ true) where
+    -- or none is, and the fields are written alone,
+    alone : Leaves (bareOf s ps before) said after → Leaves (headerWritten allowed [] s ps before) said after
     unfolding headerWritten bareOf
-    alone ps w e l =
-        let g : allowed ≡ true = sym judged ∙ not-false a h in
-        let i : fieldsOf f ≡ ps = ap (λ (t : Typed). t .pieces) e in
-        rw g (rw (i, w) at l)
+    alone l = let g : allowed ≡ true = sym judged ∙ not-false a h in rw g (rw sizes at l)
+
+    -- or behind a type, which is one number more
+    behind-type : (type : ℕ) → leb type greatest ≡ true → Leaves (bareOf s (Number type ∷ ps) before) said after → Leaves (headerWritten allowed (encOf type) s ps before) said after
+    unfolding headerWritten bareOf rightAll right sizedAll sized encodeAll encode mean encField
+    behind-type type w l = let g : allowed ≡ true = sym judged ∙ not-false a h in rw g (rw (w, sizes) at l)
+
+-- the number of its type, and then its fields
+abbrev pub numbered : Typed → List Piece
+numbered t = Number (t .type) ∷ t .pieces
 
 -- a datagram,
-pub datagram-written : (s : List ℕ) (d : Datagram) (before : List ℕ) {a : Bool} (f : Fields) {said : Answer Nothing} {after : List ℕ} → a ≡ datagramAllowed d → not a ≡ false → typedOf f ≡ datagramSaid d → Leaves (plainOf s (f .kind) (fieldsOf f) before) said after → Leaves (datagramWritten s d before) said after
+pub datagram-written : (s : List ℕ) (d : Datagram) (before : List ℕ) {a : Bool} {said : Answer Nothing} {after : List ℕ} → a ≡ datagramAllowed d → not a ≡ false → Leaves (bareOf s (numbered (datagramSaid d)) before) said after → Leaves (datagramWritten s d before) said after
 unfolding datagramWritten
-datagram-written s d before f judged h e l =
-    behind-type s before (datagramAllowed d) judged f h (datagramSaid d) (datagram-writable s d) e l
+datagram-written s d before judged h l =
+    let w = datagram-writable s d in
+    behind-type s before (datagramAllowed d) judged (datagramSaid d .pieces) h (w .1) (datagramSaid d .type) (w .0) l
 
--- and the header of a stream, which holds nothing that could be forbidden
-pub stream-written : (h : StreamHeader) (before : List ℕ) (f : Fields) {said : Answer Nothing} {after : List ℕ} → typedOf f ≡ streamSaid h → Leaves (plainOf [] (f .kind) (fieldsOf f) before) said after → Leaves (streamWritten h before) said after
+-- the header of a stream, which holds nothing that could be forbidden,
+pub stream-written : (h : StreamHeader) (before : List ℕ) {said : Answer Nothing} {after : List ℕ} → Leaves (bareOf [] (numbered (streamSaid h)) before) said after → Leaves (streamWritten h before) said after
 unfolding streamWritten
-stream-written h before f e l = behind-type [] before true refl f refl (streamSaid h) (stream-writable [] h) e l
+stream-written h before l =
+    let w = stream-writable [] h in
+    behind-type [] before true refl (streamSaid h .pieces) refl (w .1) (streamSaid h .type) (w .0) l
+
+-- and the headers of objects, which have no type
+pub subgroup-object-written : (s : List ℕ) (o : SubgroupObject) (before : List ℕ) {a : Bool} {said : Answer Nothing} {after : List ℕ} → a ≡ payloadAllowed (o .payload) → not a ≡ false → Leaves (bareOf s (subgroupObjectPieces o) before) said after → Leaves (subgroupObjectWritten s o before) said after
+unfolding subgroupObjectWritten
+subgroup-object-written s o before judged h l =
+    alone s before (payloadAllowed (o .payload)) judged (subgroupObjectPieces o) h (subgroup-object-sized s o) l
+
+pub fetch-object-written : (s : List ℕ) (o : FetchObject) (before : List ℕ) {a : Bool} {said : Answer Nothing} {after : List ℕ} → a ≡ payloadAllowed (o .payload) → not a ≡ false → Leaves (bareOf s (fetchObjectPieces o) before) said after → Leaves (fetchObjectWritten s o before) said after
+unfolding fetchObjectWritten
+fetch-object-written s o before judged h l =
+    alone s before (payloadAllowed (o .payload)) judged (fetchObjectPieces o) h (fetch-object-sized s o) l

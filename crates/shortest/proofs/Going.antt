@@ -40,6 +40,19 @@ module _ {all before out : List ℕ} {at : ℕ} {left : List ℕ} (g : Going all
       let e : g .done ≡ all = sym (append-nil (g .done)) ∙ ap (λ (y : List ℕ). g .done ++ y) (sym n) ∙ g .joins in
       rw (← e) (g .put)
 
+  -- what is left has room behind it
+  pub left-fits : length left ≤ length (lent at out)
+  left-fits = second-fits room (g .put)
+
+  module _ {n : ℕ} {t : List ℕ} (q : Put left (lent at out) n t) where
+    -- where it ends within the buffer,
+    pub last-sum : at + n ≤ length before
+    last-sum = both-fit room (g .put) q
+
+    -- and then all was put
+    pub going-last : Put all before (at + n) (given at out t)
+    going-last = put-both room (g .put) q
+
   module _ {x others : List ℕ} (next : Next x others left) where
     -- what was put, the next, and the others are all
     regrouped : g .done ++ x ++ others ≡ all

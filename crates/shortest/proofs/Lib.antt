@@ -13,8 +13,11 @@ pub mod Pieces
 pub mod Single
 pub mod Rows
 pub mod SoFar
+pub mod Joins
 pub mod AllSmall
 pub mod Filling
+pub mod Middles
+pub mod Headings
 pub mod Written
 pub mod Once
 pub mod Good

@@ -38,6 +38,11 @@ module _ (s : List ℕ) {p : Piece} (room : ℕ) where
   unfolding measureOf right sized mean encField
   number-fits {n} e h f = rw e (judged-fit {isSized = true} _ (le-leb n greatest h) refl (omega (arith, length-enc n)))
 
+  -- which is judged the same over any bytes
+  pub number-judged : {n : ℕ} → p ≡ Number n → measureOf [] (Number n) room ≡ measureOf s p room
+  unfolding measureOf right sized mean encField
+  number-judged e = rw e
+
   -- a byte
   pub byte-fits : {b : ℕ} → p ≡ Byte b → fit (1 + 0) room ≡ measureOf s p room
   unfolding measureOf right sized mean encField

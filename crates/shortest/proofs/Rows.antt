@@ -1,4 +1,4 @@
--- The fields in their places, from the i-th on. Assumes nothing.
+-- Fields one after the other, from the i-th on: those in their places, and numbers. Assumes nothing.
 use Prim.Native.Nat.{ℕ, _+_, _≤_, _<_}
 use mathlib.Core.Path.{_≡_, refl}
 use mathlib.Core.List.{List, [], _∷_, map}
@@ -10,9 +10,17 @@ use lib.ListN.{length, getD, take, drop, drop-of-length-le}
 use lib.Seq.{take-all, drop-cons, getD-take, length-take-le}
 use Rattle.integer.proofs.Cases.{pick-by}
 use Rattle.field.specs.declared.Piece.{Piece}
+use Rattle.field.specs.declared.Piece.the-variants.{Number}
 use Rattle.shortest.specs.Writing.{slot, fieldsOf, tenOf}
 use Rattle.shortest.specs.declared.Slot.{Slot}
 use Rattle.shortest.specs.declared.Fields.{Fields}
+
+-- so many fields, by those from the i-th on: the i-th and those behind it, and behind the last none
+pub record Row (from : ℕ → List Piece) (count : ℕ) (field : ℕ → Piece) : Type 0 where
+  pub next : (i : ℕ) → i < count → from i ≡ field i ∷ from (i + 1)
+  pub last : (i : ℕ) → count ≤ i → from i ≡ []
+
+-- ---- in their places
 
 -- those from the i-th on
 pub fieldsFrom : Fields → ℕ → List Piece
@@ -51,3 +59,24 @@ module _ (f : Fields) (i : ℕ) (l : length (f .at) ≡ 10) where
   pub from-last : tenOf (f .used) ≤ i → fieldsFrom f i ≡ []
   unfolding fieldsFrom
   from-last h = rw (drop-of-length-le (take (f .used) (f .at)) {i = i} (omega (arith, ten-are f l)))
+
+-- so they are a row
+pub fields-row : (f : Fields) (d : Slot) → length (f .at) ≡ 10 → Row (fieldsFrom f) (tenOf (f .used)) (λ i. slot (getD (f .at) i d))
+fields-row f d l = record { next = λ i h. from-next f i l d h; last = λ i h. from-last f i l h }
+
+-- ---- numbers
+
+-- those from the i-th on
+pub numbersFrom : List ℕ → ℕ → List Piece
+numbersFrom ns i = map Number (drop i ns)
+
+-- from the first on, they are all
+pub numbers-first : (ns : List ℕ) → numbersFrom ns 0 ≡ map Number ns
+unfolding numbersFrom
+numbers-first ns = refl
+
+-- and they are a row
+pub numbers-row : (ns : List ℕ) → Row (numbersFrom ns) (length ns) (λ i. Number (getD ns i 0))
+unfolding numbersFrom
+numbers-row ns =
+    record { next = λ i h. rw (add-one i, drop-cons ns i 0 h); last = λ i h. rw (drop-of-length-le ns {i = i} h) }

@@ -5,19 +5,17 @@ use mathlib.Core.Bool.{Bool, true}
 use mathlib.Core.List.{List, [], _∷_, map}
 use native.Mathlib.Nat.{add-zero}
 use native.Mathlib.Omega.{arith}
-use lib.ListN.{length, getD, length-append}
+use lib.ListN.{length, length-append}
 use Rattle.field.specs.Outcome.{both}
 use Rattle.field.specs.Value.{mean, encField, encode}
 use Rattle.field.specs.declared.Piece.{Piece}
 use Rattle.shortest.specs.Judging.{right, sized, judged, joined, measureOf}
-use Rattle.shortest.specs.Writing.{slot, fieldsOf, tenOf, rightAll, sizedAll, encodeAll, measureAll}
+use Rattle.shortest.specs.Writing.{rightAll, sizedAll, encodeAll, measureAll}
 use Rattle.shortest.specs.declared.Measured.{Measured}
 use Rattle.shortest.specs.declared.Measured.the-variants.{Takes}
-use Rattle.shortest.specs.declared.Slot.{Slot}
-use Rattle.shortest.specs.declared.Fields.{Fields}
 use Rattle.shortest.proofs.Tests.{both-true, both-joined}
 use Rattle.shortest.proofs.Judges.{fit-within, judged-joined}
-use Rattle.shortest.proofs.Rows.{fieldsFrom, from-first, from-next, from-last}
+use Rattle.shortest.proofs.Rows.{Row}
 
 -- the judgement found is of the fields before, which with those that are left are all
 pub record SoFar (s : List ℕ) (all left : List Piece) (room : ℕ) (found : Measured) : Type 0 where
@@ -31,11 +29,10 @@ pub record SoFar (s : List ℕ) (all left : List Piece) (room : ℕ) (found : Me
 
 module _ (s : List ℕ) (room : ℕ) where
   -- no field takes no bytes
-  pub none-judged : (f : Fields) → SoFar s (fieldsOf f) (fieldsFrom f 0) room (Takes 0)
+  pub none-judged : (all : List Piece) → SoFar s all all room (Takes 0)
   unfolding judged
-  none-judged f =
-      rw (from-first f)
-      (record { isRight = true; isSized = true; n = 0; says = fit-within 0 room (omega arith); rights = refl; sizes = refl; lengths = omega arith })
+  none-judged all =
+      record { isRight = true; isSized = true; n = 0; says = fit-within 0 room (omega arith); rights = refl; sizes = refl; lengths = omega arith }
 
   -- one field more
   more-judged : {all left : List Piece} {p : Piece} {found one next : Measured} → SoFar s all (p ∷ left) room found → one ≡ measureOf s p room → next ≡ joined found one room → SoFar s all left room next
@@ -56,11 +53,11 @@ module _ (s : List ℕ) (room : ℕ) where
   unfolding measureAll rightAll sizedAll encodeAll encode
   all-judged a = a .says ∙ rw (← a .rights, ← a .sizes, ← a .lengths, both-true (a .isRight), both-true (a .isSized), add-zero)
 
-  module _ (f : Fields) (i : ℕ) (l : length (f .at) ≡ 10) {found : Measured} (a : SoFar s (fieldsOf f) (fieldsFrom f i) room found) where
+  module _ {from : ℕ → List Piece} {count : ℕ} {piece : ℕ → Piece} (r : Row from count piece) {all : List Piece} {i : ℕ} {found : Measured} (a : SoFar s all (from i) room found) where
     -- a turn of the loop
-    pub judged-next : {one next : Measured} (d : Slot) → i < tenOf (f .used) → one ≡ measureOf s (slot (getD (f .at) i d)) room → next ≡ joined found one room → SoFar s (fieldsOf f) (fieldsFrom f (i + 1)) room next
-    judged-next d h = more-judged (rw (from-next f i l d h) at a)
+    pub judged-next : {one next : Measured} → i < count → one ≡ measureOf s (piece i) room → next ≡ joined found one room → SoFar s all (from (i + 1)) room next
+    judged-next h = more-judged (rw (r .next i h) at a)
 
     -- and after the last
-    pub judged-all : tenOf (f .used) ≤ i → found ≡ measureAll s (fieldsOf f) room
-    judged-all h = all-judged (rw (from-last f i l h) at a)
+    pub judged-all : count ≤ i → found ≡ measureAll s all room
+    judged-all h = all-judged (rw (r .last i h) at a)

@@ -1,5 +1,5 @@
 -- What writing a message or a header comes to, answer by answer: 5, 6, 3, 7, and then it is done. Assumes nothing.
-use Prim.Native.Nat.{ℕ, _+_, _-_, _≤_, _<_}
+use Prim.Native.Nat.{ℕ, _+_, _≤_, _<_}
 use mathlib.Core.Path.{_≡_, refl, sym, ap, _∙_}
 use mathlib.Core.Bool.{Bool, true, false}
 use mathlib.Core.List.{List, _++_, append-assoc}
@@ -14,7 +14,7 @@ use Rattle.field.specs.Outcome.{both}
 use Rattle.field.specs.declared.Piece.{Piece}
 use Rattle.shortest.specs.Judging.{judged}
 use Rattle.shortest.specs.Putting.{Put}
-use Rattle.shortest.specs.Writing.{rightAll, sizedAll, encodeAll, measureAll, writtenOf, frame, plainOf, bareOf, framedOf}
+use Rattle.shortest.specs.Writing.{rightAll, sizedAll, encodeAll, measureAll, writtenOf, frame, bareOf, framedOf}
 use Rattle.shortest.specs.declared.Measured.{Measured}
 use Rattle.shortest.specs.declared.Measured.the-variants.{Takes, TooLong, Oversize, Forbidden}
 use Rattle.shortest.proofs.Judges.{Taken, judged-takes, judged-wrong, judged-great, judged-long}
@@ -88,39 +88,7 @@ module _ (s : List ℕ) (ps : List Piece) (room : ℕ) {r : Measured} (said : r 
   unfolding measureAll
   too-long e = judged-long (rightAll s ps) (sizedAll s ps) (length (encodeAll s ps)) room (sym said ∙ e)
 
--- ---- a header: its type, and its fields
-
--- which were checked
-pub record Header (s : List ℕ) (kind : ℕ) (ps : List Piece) (before : List ℕ) : Type 0 where
-  pub ready : Ready kind (rightAll s ps) (sizedAll s ps) true (encOf kind ++ encodeAll s ps) before
-
--- there is room for both
-pub header-room : {s : List ℕ} {kind : ℕ} {ps : List Piece} {before : List ℕ} → Header s kind ps before → Room (encOf kind) (encodeAll s ps) (encOf kind ++ encodeAll s ps) before
-header-room h = record { joins = refl; fits = h .ready .fits }
-
-module _ (s : List ℕ) {kind : ℕ} (ps : List Piece) (before : List ℕ) (small : kind ≤ greatest) {r : Measured} (said : r ≡ measureAll s ps (length before)) where
-  -- 7: the fields alone are longer than the output,
-  pub header-over : r ≡ TooLong → Leaves (plainOf s kind ps before) (refused 7) before
-  unfolding plainOf
-  header-over e =
-      let t = too-long s ps (length before) said e in
-      output-short _ _ _ _ _ small (t .0 .0) (t .0 .1) refl (omega (arith, t .1, length-append (encOf kind) (encodeAll s ps)))
-
-  module _ {n head : ℕ} (e : r ≡ Takes n) (h : head ≡ sizeOf kind) where
-    -- or they are with the type
-    pub header-short : length before - n < head → Leaves (plainOf s kind ps before) (refused 7) before
-    unfolding plainOf
-    header-short k =
-        let t = taken s ps (length before) said e in
-        output-short _ _ _ _ _ small (t .is-right) (t .is-sized) refl (omega (arith, length-enc kind, length-append (encOf kind) (encodeAll s ps)))
-
-    -- all was checked
-    pub header : head ≤ length before - n → Header s kind ps before
-    header k =
-        let t = taken s ps (length before) said e in
-        record { ready = record { small = small; is-right = t .is-right; is-sized = t .is-sized; is-short = refl; fits = omega (arith, length-enc kind, length-append (encOf kind) (encodeAll s ps)) } }
-
--- ---- the header of an object, which has no type: its fields alone
+-- ---- a header: its fields alone
 
 module _ (s : List ℕ) (ps : List Piece) (before : List ℕ) {r : Measured} (said : r ≡ measureAll s ps (length before)) where
   -- 5: one of them can't be written,

@@ -9,11 +9,14 @@ use Rattle.integer.specs.Integer.{encOf, greatest, over}
 use Rattle.field.specs.Outcome.{both}
 use Rattle.field.specs.Value.{mean, encode}
 use Rattle.field.specs.declared.Piece.{Piece}
+use Rattle.field.specs.declared.Piece.the-variants.{Number, Byte, Bytes}
 use Rattle.layout.specs.Typed.{Typed}
 use Rattle.shortest.specs.Judging.{right, sized, judged}
 use Rattle.shortest.specs.declared.Measured.{Measured}
 use Rattle.shortest.specs.declared.Slot.{Slot}
 use Rattle.shortest.specs.declared.Fields.{Fields}
+use Rattle.shortest.specs.declared.Middle.{Middle}
+use Rattle.shortest.specs.declared.Middle.the-variants.{Nothing as NoMiddle, Byte as OneByte, Bytes as SomeBytes, Both as ByteAndBytes}
 use Rattle.shortest.specs.declared.Writing.{Writing}
 use Rattle.shortest.specs.declared.Writing.the-variants.{Done, Forbidden, Oversize, TooLong, TooShort}
 
@@ -31,6 +34,17 @@ typedOf f = record { type = f .kind; pieces = fieldsOf f }
 
 unfoldable pub tenOf : ℕ → ℕ
 tenOf n = pick (ltb n 10) n 10
+
+-- ---- the fields of a header: numbers, what stands between them, and numbers
+
+abbrev pub middlePieces : Middle → List Piece
+middlePieces NoMiddle = []
+middlePieces (OneByte b) = Byte b ∷ []
+middlePieces (SomeBytes p) = Bytes p ∷ []
+middlePieces (ByteAndBytes b p) = Byte b ∷ Bytes p ∷ []
+
+unfoldable pub headed : List ℕ → Middle → List ℕ → List Piece
+headed front middle back = map Number front ++ (middlePieces middle ++ map Number back)
 
 -- ---- each check over all of them
 
@@ -68,12 +82,7 @@ writtenOf isRight isSized isShort bytes before =
 unfoldable pub frame : ℕ → List ℕ → List ℕ
 frame kind body = encOf kind ++ (encOf (length body) ++ body)
 
--- A HEADER: its type and its fields
-unfoldable pub plainOf : List ℕ → ℕ → List Piece → List ℕ → Written
-plainOf s kind ps before =
-    writtenOf (both (leb kind greatest) (rightAll s ps)) (sizedAll s ps) true (encOf kind ++ encodeAll s ps) before
-
--- THE HEADER OF AN OBJECT, which has no type: its fields alone
+-- A HEADER: its fields alone, of which the number of its type, where it has one, is the first
 unfoldable pub bareOf : List ℕ → List Piece → List ℕ → Written
 bareOf s ps before = writtenOf (rightAll s ps) (sizedAll s ps) true (encodeAll s ps) before
 

@@ -1,6 +1,8 @@
 // A field is judged whole: what is forbidden goes before what is over a size, and that before what is too long.
 ghost use mathlib.Core.Path.{_≡_};
+ghost use mathlib.Core.List.{[]};
 ghost use Prim.Native.Nat.{_+_};
+ghost use Rattle.field.specs.declared.Piece.the-variants.{Number};
 ghost use Rattle.layout.specs.Permitted.{within};
 ghost use Rattle.shortest.specs.Judging.{fit, joined, measureSpan, measureList, measureOf};
 use crate::Measured;
@@ -11,7 +13,7 @@ use field::Span;
 use field::Walked;
 
 // a bytes and b more, of the room there is.
-fn add(a: usize, b: usize, room: usize) -> Measured
+pub fn add(a: usize, b: usize, room: usize) -> Measured
     ensures { λ r. ⌜ r ≡ fit (a + b) room ⌝ }
 {
     if a > room {
@@ -66,8 +68,18 @@ fn is_within(kind: Kind, held: usize, also: usize) -> bool
     }
 }
 
+// An integer, which points into no bytes.
+pub fn measure_number(n: u64, room: usize) -> Measured
+    ensures { λ r. ⌜ r ≡ measureOf [] (Number n) room ⌝ }
+{
+    if n > integer::GREATEST {
+        return Measured::Forbidden;
+    }
+    add(integer::size(n), 0, room)
+}
+
 // A length and the bytes of a part.
-fn measure_span(bytes: &[u8], p: Span, room: usize) -> Measured
+pub fn measure_span(bytes: &[u8], p: Span, room: usize) -> Measured
     ensures { λ r. ⌜ r ≡ measureSpan (now (bytes .entry)) p room ⌝ }
 {
     let start = p.start;
@@ -121,12 +133,7 @@ pub fn measure(bytes: &[u8], p: Piece, room: usize) -> Measured
     ensures { λ r. ⌜ r ≡ measureOf (now (bytes .entry)) p room ⌝ }
 {
     match p {
-        Piece::Number(n) => {
-            if n > integer::GREATEST {
-                return Measured::Forbidden;
-            }
-            add(integer::size(n), 0, room)
-        }
+        Piece::Number(n) => measure_number(n, room),
         Piece::Byte(_) => add(1, 0, room),
         Piece::Bytes(b) => measure_span(bytes, b, room),
         Piece::List(kind, l) => measure_list(bytes, kind, l, 0, room),

@@ -40,7 +40,7 @@ fn copy(out: &mut [u8], bytes: &[u8], start: usize, end: usize)
 }
 
 // A length and the bytes of a part.
-fn put_text(out: &mut [u8], bytes: &[u8], p: Span) -> usize
+pub fn put_text(out: &mut [u8], bytes: &[u8], p: Span) -> usize
     requires { ⌜ rightSpan (now bytes) p ≡ true ⌝ }
     requires { ⌜ length (encText (part (now bytes) p)) ≤ length (now out) ⌝ }
     ensures { λ r. ⌜ Put (encText (part (now (bytes .entry)) p)) (now (out .entry)) r (now (out .exit)) ⌝ }

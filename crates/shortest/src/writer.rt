@@ -1,4 +1,4 @@
-// All fields of a message or a header, one behind the other. Each check is made over all of them before the next, and only then
+// All fields of a message, one behind the other. Each check is made over all of them before the next, and only then
 // is a byte written.
 ghost use mathlib.Core.Path.{_≡_};
 ghost use mathlib.Core.Bool.{true};
@@ -6,7 +6,7 @@ ghost use Prim.Native.Nat.{_≤_};
 ghost use lib.ListN.{length};
 ghost use Rattle.integer.specs.Answer.{Leaves};
 ghost use Rattle.shortest.specs.Putting.{Put};
-ghost use Rattle.shortest.specs.Writing.{tenOf, fieldsOf, rightAll, encodeAll, measureAll, plainOf, bareOf, framedOf, answering};
+ghost use Rattle.shortest.specs.Writing.{tenOf, fieldsOf, rightAll, encodeAll, measureAll, framedOf, answering};
 use crate::Fields;
 use crate::Measured;
 use crate::Writing;
@@ -55,43 +55,6 @@ fn put_all(out: &mut [u8], bytes: &[u8], f: Fields) -> usize
         i += 1;
     }
     at
-}
-
-// A header: its type and its fields. 5, then 6, then 7; a refusal writes nothing.
-pub fn write(out: &mut [u8], bytes: &[u8], f: Fields) -> Writing
-    ensures { λ r. ⌜ Leaves (plainOf (now (bytes .entry)) (f .kind) (fieldsOf f) (now (out .entry))) (answering r) (now (out .exit)) ⌝ }
-{
-    let kind = f.kind;
-    if kind > integer::GREATEST {
-        return Writing::Forbidden;
-    }
-    let room = out.len();
-    match measure_all(bytes, f, room) {
-        Measured::Forbidden => Writing::Forbidden,
-        Measured::Oversize => Writing::Oversize,
-        Measured::TooLong => Writing::TooShort,
-        Measured::Takes(n) => {
-            if integer::size(kind) > room - n {
-                return Writing::TooShort;
-            }
-            let a = put_number(out, kind);
-            let b = put_all(&mut out[a..], bytes, f);
-            Writing::Done(a + b)
-        }
-    }
-}
-
-// The header of an object, which has no type: its fields alone. 5, then 6, then 7; a refusal writes nothing.
-pub fn write_bare(out: &mut [u8], bytes: &[u8], f: Fields) -> Writing
-    ensures { λ r. ⌜ Leaves (bareOf (now (bytes .entry)) (fieldsOf f) (now (out .entry))) (answering r) (now (out .exit)) ⌝ }
-{
-    let room = out.len();
-    match measure_all(bytes, f, room) {
-        Measured::Forbidden => Writing::Forbidden,
-        Measured::Oversize => Writing::Oversize,
-        Measured::TooLong => Writing::TooShort,
-        Measured::Takes(_) => Writing::Done(put_all(out, bytes, f)),
-    }
 }
 
 // A message: its type, the length of its body, and the body, which may take longest bytes. 5, 6, 3 and 7 in this order; a

@@ -5,8 +5,9 @@ use mathlib.Core.Path.{_≡_, sym, _∙_}
 use native.Mathlib.Omega.{arith}
 use borrow.Author.Needs.{needs}
 use lib.ListN.{length, length-map}
+use Rattle.field.specs.declared.Piece.the-variants.{Byte}
 use Rattle.shortest.specs.Writing.{fieldsOf}
-use Rattle.shortest.proofs.Rows.{ten-most, fieldsFrom}
+use Rattle.shortest.proofs.Rows.{ten-most, fieldsFrom, from-first, fields-row}
 use Rattle.shortest.proofs.SoFar.{SoFar, none-judged, judged-next, judged-all}
 use Rattle.shortest.proofs.writer.measure_all.Statement.{statement}
 use Rattle.shortest.proofs.writer.measure_all.Tie as tie
@@ -29,15 +30,15 @@ element-copy-out-slot c = omega (arith, ten-most (c .before .before .before .bef
 
 loop-again : tie.Need-loop-again Inv-loop μ-loop
 loop-again c =
-    judged-next _ _ _ _ (places (c .before .before .before .before .before .before .before)) (c .before .before .before .before .loop .inv) _ (omega arith) (c .before .measure .ensures) (c .join .ensures)
+    judged-next _ _ (fields-row _ _ (places (c .before .before .before .before .before .before .before))) (c .before .before .before .before .loop .inv) (omega arith) (c .before .measure .ensures) (c .join .ensures)
 
 returns : tie.Need-returns Inv-loop μ-loop
-returns c = judged-all _ _ _ _ (places (c .before .before .before .before)) (c .before .loop .inv) (omega arith)
+returns c = judged-all _ _ (fields-row _ (record { piece = Byte 0 }) (places (c .before .before .before .before))) (c .before .loop .inv) (omega arith)
 
 pub measure-all-spec : {M : Type 1} → statement M
 measure-all-spec =
     tie.close
     (tie.spec
     Inv-loop μ-loop
-    (λ c κs. search needs) (λ c. search none-judged) mul-slot element-copy-out-slot (λ c κs. search needs) (λ c κs. search needs) (λ c. search needs) (λ c. search needs)
+    (λ c κs. search needs) (λ c. rw (from-first (c .before .before .args .t2)) (none-judged _ _ _)) mul-slot element-copy-out-slot (λ c κs. search needs) (λ c κs. search needs) (λ c. search needs) (λ c. search needs)
     loop-again returns)
