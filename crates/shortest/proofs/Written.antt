@@ -18,7 +18,8 @@ use Rattle.shortest.specs.Writing.{rightAll, sizedAll, encodeAll, measur
 use Rattle.shortest.specs.declared.Measured.{Measured}
 use Rattle.shortest.specs.declared.Measured.the-variants.{Takes, TooLong, Oversize, Forbidden}
 use Rattle.shortest.proofs.Judges.{Taken, judged-takes, judged-wrong, judged-great, judged-long}
-use Rattle.shortest.proofs.Puts.{lent, given, Room, first-fits, put-both}
+use Rattle.shortest.proofs.Puts.{Room}
+use Rattle.shortest.proofs.Filling.{Filling}
 
 -- ---- every answer, for a header and for a message
 
@@ -141,13 +142,10 @@ module _ {longest : ℕ} {s : List ℕ} {kind : ℕ} {ps : List Piece} {before :
   message-room =
       record { joins = append-assoc (encOf kind) (encOf n) (encodeAll s ps) ∙ rw (m .counts); fits = m .ready .fits }
 
-  -- and of those for one and the other
-  pub front-room : Room (encOf kind) (encOf n) (encOf kind ++ encOf n) before
-  front-room = record { joins = refl; fits = first-fits message-room }
-
-  -- which then stand there
-  pub front-put : {a b : ℕ} {after t : List ℕ} → Put (encOf kind) before a after → Put (encOf n) (lent a after) b t → Put (encOf kind ++ encOf n) before (a + b) (given a after t)
-  front-put p q = put-both front-room p q
+  -- which are left to be put behind those
+  pub message-filling : {at : ℕ} {after : List ℕ} → Put (encOf kind ++ encOf n) before at after → Filling s (frame kind (encodeAll s ps)) before after at ps
+  message-filling p =
+      record { going = record { done = encOf kind ++ encOf n; put = p; joins = message-room .joins }; rights = m .ready .is-right }
 
 module _ (longest : ℕ) (s : List ℕ) {kind : ℕ} (ps : List Piece) (before : List ℕ) (small : kind ≤ greatest) {r : Measured} (said : r ≡ measureAll s ps longest) where
   -- 3: the body is longer than it may be

@@ -1,12 +1,13 @@
 // All fields of a message, one behind the other. Each check is made over all of them before the next, and only then
 // is a byte written.
 ghost use mathlib.Core.Path.{_≡_};
-ghost use mathlib.Core.Bool.{true};
+ghost use mathlib.Core.List.{_++_};
 ghost use Prim.Native.Nat.{_≤_};
 ghost use lib.ListN.{length};
 ghost use Rattle.integer.specs.Answer.{Leaves};
+ghost use Rattle.integer.specs.Integer.{encOf, greatest};
 ghost use Rattle.shortest.specs.Putting.{Put};
-ghost use Rattle.shortest.specs.Writing.{tenOf, fieldsOf, rightAll, encodeAll, measureAll, framedOf, answering};
+ghost use Rattle.shortest.specs.Writing.{tenOf, fieldsOf, framedOf, answering};
 use crate::Fields;
 use crate::Measured;
 use crate::Writing;
@@ -22,43 +23,19 @@ pub fn ten(used: usize) -> usize
     if used < 10 { used } else { 10 }
 }
 
-// How many bytes all fields take, which may be room at most.
-fn measure_all(bytes: &[u8], f: Fields, room: usize) -> Measured
-    ensures { λ r. ⌜ r ≡ measureAll (now (bytes .entry)) (fieldsOf f) room ⌝ }
+// Type and Length; behind them the body begins.
+fn put_front(out: &mut [u8], kind: u64, n: u64) -> usize
+    requires { ⌜ (kind ≤ greatest) × (n ≤ greatest) ⌝ }
+    requires { ⌜ length (encOf kind ++ encOf n) ≤ length (now out) ⌝ }
+    ensures { λ r. ⌜ Put (encOf kind ++ encOf n) (now (out .entry)) r (now (out .exit)) ⌝ }
 {
-    let n = ten(f.used);
-    let mut found = Measured::Takes(0);
-    let mut i: usize = 0;
-    while i < n {
-        let slot = f.at[i];
-        let p = slot.piece;
-        found = join(found, measure(bytes, p, room), room);
-        i += 1;
-    }
-    found
-}
-
-// Each field into what is left of the output.
-fn put_all(out: &mut [u8], bytes: &[u8], f: Fields) -> usize
-    requires { ⌜ rightAll (now bytes) (fieldsOf f) ≡ true ⌝ }
-    requires { ⌜ length (encodeAll (now bytes) (fieldsOf f)) ≤ length (now out) ⌝ }
-    ensures { λ r. ⌜ Put (encodeAll (now (bytes .entry)) (fieldsOf f)) (now (out .entry)) r (now (out .exit)) ⌝ }
-{
-    let n = ten(f.used);
-    let mut at: usize = 0;
-    let mut i: usize = 0;
-    while i < n {
-        let slot = f.at[i];
-        let p = slot.piece;
-        let k = put_piece(&mut out[at..], bytes, p);
-        at = at + k;
-        i += 1;
-    }
-    at
+    let a = put_number(out, kind);
+    let b = put_number(&mut out[a..], n);
+    a + b
 }
 
 // A message: its type, the length of its body, and the body, which may take longest bytes. 5, 6, 3 and 7 in this order; a
-// refusal writes nothing.
+// refusal writes nothing. (Both loops stand here, since fields that are handed on are copied.)
 pub fn write_framed(out: &mut [u8], bytes: &[u8], f: Fields, longest: u32) -> Writing
     ensures { λ r. ⌜ Leaves (framedOf longest (now (bytes .entry)) (f .kind) (fieldsOf f) (now (out .entry))) (answering r) (now (out .exit)) ⌝ }
 {
@@ -66,7 +43,17 @@ pub fn write_framed(out: &mut [u8], bytes: &[u8], f: Fields, longest: u32) -> Wr
     if kind > integer::GREATEST {
         return Writing::Forbidden;
     }
-    match measure_all(bytes, f, longest as usize) {
+    let room = longest as usize;
+    let count = ten(f.used);
+    let mut found = Measured::Takes(0);
+    let mut i: usize = 0;
+    while i < count {
+        let slot = f.at[i];
+        let p = slot.piece;
+        found = join(found, measure(bytes, p, room), room);
+        i += 1;
+    }
+    match found {
         Measured::Forbidden => Writing::Forbidden,
         Measured::Oversize => Writing::Oversize,
         Measured::TooLong => Writing::TooLong,
@@ -75,12 +62,16 @@ pub fn write_framed(out: &mut [u8], bytes: &[u8], f: Fields, longest: u32) -> Wr
             if out.len() < head + n {
                 return Writing::TooShort;
             }
-            // The part behind Type and Length is lent to the body.
-            let a = put_number(out, kind);
-            let b = put_number(&mut out[a..], n as u64);
-            let at = a + b;
-            let c = put_all(&mut out[at..], bytes, f);
-            Writing::Done(at + c)
+            let mut at = put_front(out, kind, n as u64);
+            let mut j: usize = 0;
+            while j < count {
+                let slot = f.at[j];
+                let p = slot.piece;
+                let k = put_piece(&mut out[at..], bytes, p);
+                at = at + k;
+                j += 1;
+            }
+            Writing::Done(at)
         }
     }
 }
