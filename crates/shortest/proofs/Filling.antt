@@ -59,21 +59,6 @@ module _ {from : ℕ → List Piece} {count : ℕ} {piece : ℕ → Piece} (r : 
       field-next =
           record { going = going-next (g .going) fits next q; rights = both-second (right s (piece i)) _ next-right }
 
--- ---- a loop that goes on with what was begun
-
--- whatever was being put where it began, is being put still
-pub record Onward (s out₀ : List ℕ) (at₀ : ℕ) (first : List Piece) (out : List ℕ) (at : ℕ) (left : List Piece) : Type 0 where
-  pub onward : {all before : List ℕ} → length all ≤ length before → Filling s all before out₀ at₀ first → Filling s all before out at left
-
-module _ {s out₀ : List ℕ} {at₀ : ℕ} {first : List Piece} where
-  -- at its start
-  pub onward-start : Onward s out₀ at₀ first out₀ at₀ first
-  onward-start = record { onward = λ fits g. g }
-
-  -- and after a turn
-  pub onward-next : {from : ℕ → List Piece} {count : ℕ} {piece : ℕ → Piece} → Row from count piece → {out : List ℕ} {at i n : ℕ} {t : List ℕ} → Onward s out₀ at₀ first out at (from i) → i < count → Put (encField (mean s (piece i))) (lent at out) n t → Onward s out₀ at₀ first (given at out t) (at + n) (from (i + 1))
-  onward-next r o h q = record { onward = λ fits g. field-next r (o .onward fits g) fits h q }
-
 -- ---- several at a time
 
 -- what the writer of several asks

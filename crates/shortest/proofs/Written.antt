@@ -19,7 +19,6 @@ use Rattle.shortest.specs.declared.Measured.{Measured}
 use Rattle.shortest.specs.declared.Measured.the-variants.{Takes, TooLong, Oversize, Forbidden}
 use Rattle.shortest.proofs.Judges.{Taken, judged-takes, judged-wrong, judged-great, judged-long}
 use Rattle.shortest.proofs.Puts.{Room}
-use Rattle.shortest.proofs.Filling.{Filling}
 
 -- ---- every answer, for a header and for a message
 
@@ -141,11 +140,6 @@ module _ {longest : ℕ} {s : List ℕ} {kind : ℕ} {ps : List Piece} {before :
   unfolding frame
   message-room =
       record { joins = append-assoc (encOf kind) (encOf n) (encodeAll s ps) ∙ rw (m .counts); fits = m .ready .fits }
-
-  -- which are left to be put behind those
-  pub message-filling : {at : ℕ} {after : List ℕ} → Put (encOf kind ++ encOf n) before at after → Filling s (frame kind (encodeAll s ps)) before after at ps
-  message-filling p =
-      record { going = record { done = encOf kind ++ encOf n; put = p; joins = message-room .joins }; rights = m .ready .is-right }
 
 module _ (longest : ℕ) (s : List ℕ) {kind : ℕ} (ps : List Piece) (before : List ℕ) (small : kind ≤ greatest) {r : Measured} (said : r ≡ measureAll s ps longest) where
   -- 3: the body is longer than it may be

@@ -1,13 +1,14 @@
 // All fields of a message, one behind the other. Each check is made over all of them before the next, and only then
 // is a byte written.
 ghost use mathlib.Core.Path.{_≡_};
+ghost use mathlib.Core.Bool.{true};
 ghost use mathlib.Core.List.{_++_};
 ghost use Prim.Native.Nat.{_≤_};
 ghost use lib.ListN.{length};
 ghost use Rattle.integer.specs.Answer.{Leaves};
 ghost use Rattle.integer.specs.Integer.{encOf, greatest};
 ghost use Rattle.shortest.specs.Putting.{Put};
-ghost use Rattle.shortest.specs.Writing.{tenOf, fieldsOf, framedOf, answering};
+ghost use Rattle.shortest.specs.Writing.{tenOf, fieldsOf, rightAll, encodeAll, framedOf, answering};
 use crate::Fields;
 use crate::Measured;
 use crate::Writing;
@@ -34,8 +35,27 @@ fn put_front(out: &mut [u8], kind: u64, n: u64) -> usize
     a + b
 }
 
+// The body: each field into what is left of what is lent to it.
+fn put_all(out: &mut [u8], bytes: &[u8], f: Fields) -> usize
+    requires { ⌜ rightAll (now bytes) (fieldsOf f) ≡ true ⌝ }
+    requires { ⌜ length (encodeAll (now bytes) (fieldsOf f)) ≤ length (now out) ⌝ }
+    ensures { λ r. ⌜ Put (encodeAll (now (bytes .entry)) (fieldsOf f)) (now (out .entry)) r (now (out .exit)) ⌝ }
+{
+    let n = ten(f.used);
+    let mut at: usize = 0;
+    let mut i: usize = 0;
+    while i < n {
+        let slot = f.at[i];
+        let p = slot.piece;
+        let k = put_piece(&mut out[at..], bytes, p);
+        at = at + k;
+        i += 1;
+    }
+    at
+}
+
 // A message: its type, the length of its body, and the body, which may take longest bytes. 5, 6, 3 and 7 in this order; a
-// refusal writes nothing. (Both loops stand here, since fields that are handed on are copied.)
+// refusal writes nothing. (The fields are judged here, since they would be copied where they are handed on.)
 pub fn write_framed(out: &mut [u8], bytes: &[u8], f: Fields, longest: u32) -> Writing
     ensures { λ r. ⌜ Leaves (framedOf longest (now (bytes .entry)) (f .kind) (fieldsOf f) (now (out .entry))) (answering r) (now (out .exit)) ⌝ }
 {
@@ -62,16 +82,10 @@ pub fn write_framed(out: &mut [u8], bytes: &[u8], f: Fields, longest: u32) -> Wr
             if out.len() < head + n {
                 return Writing::TooShort;
             }
-            let mut at = put_front(out, kind, n as u64);
-            let mut j: usize = 0;
-            while j < count {
-                let slot = f.at[j];
-                let p = slot.piece;
-                let k = put_piece(&mut out[at..], bytes, p);
-                at = at + k;
-                j += 1;
-            }
-            Writing::Done(at)
+            // The part behind Type and Length is lent to the body.
+            let at = put_front(out, kind, n as u64);
+            let c = put_all(&mut out[at..], bytes, f);
+            Writing::Done(at + c)
         }
     }
 }
