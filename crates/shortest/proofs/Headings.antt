@@ -3,15 +3,14 @@ use Prim.Native.Nat.{ℕ, _+_, _≤_}
 use mathlib.Core.Path.{_≡_, _∙_}
 use mathlib.Core.List.{List, [], _++_, map}
 use lib.ListN.{length}
-use Rattle.field.specs.declared.Piece.{Piece}
 use Rattle.field.specs.declared.Piece.the-variants.{Number}
 use Rattle.shortest.specs.Judging.{joined}
 use Rattle.shortest.specs.Putting.{Put}
-use Rattle.shortest.specs.Writing.{rightAll, encodeAll, measureAll, middlePieces, headed}
+use Rattle.shortest.specs.Writing.{encodeAll, measureAll, middlePieces, headed}
 use Rattle.shortest.specs.declared.Measured.{Measured}
 use Rattle.shortest.specs.declared.Middle.{Middle}
 use Rattle.shortest.proofs.Puts.{lent, given}
-use Rattle.shortest.proofs.Going.{going-length, going-within, left-fits, last-sum, going-last}
+use Rattle.shortest.proofs.Going.{going-within, left-fits, last-sum, going-last}
 use Rattle.shortest.proofs.Joins.{measure-joined, numbers-right, numbers-encode, numbers-judged}
 use Rattle.shortest.proofs.Filling.{Filling, AllAsk, first-asks, first-filled, several-ask, several-sum, several-filled}
 

@@ -1,7 +1,6 @@
 -- Fields before others: each check over both is the checks over each, and so is their judgement. Assumes nothing.
 use Prim.Native.Nat.{ℕ}
 use mathlib.Core.Path.{_≡_, refl, sym, ap, _∙_}
-use mathlib.Core.Bool.{Bool}
 use mathlib.Core.List.{List, [], _∷_, _++_, map, append-assoc, append-nil}
 use lib.Dec.{leb}
 use lib.ListN.{length, length-append}
