@@ -6,21 +6,11 @@ use Rattle.header.proofs.Writes.{not-allowed, fetch-object-written}
 use Rattle.header.proofs.writer.write_fetch_object.Statement.{statement}
 use Rattle.header.proofs.writer.write_fetch_object.Tie as tie
 
-forbidden : tie.Need-returns
-unfolding fetchObjectWritten
-forbidden c = search not-allowed
-
-length : tie.Need-returns-2
-unfolding headed
-length c = fetch-object-written _ _ _ (c .before .before .before .before .before .before .before .before .before .before .before .is-payload-allowed .ensures) (c .before .before .before .before .before .before .before .before .before .before .if1 .left) (rw (c .before .before .before .before .before .before .before .payload .given .1) (c .before .before .write-header .ensures))
-
-status : tie.Need-returns-3
-unfolding headed
-status c = fetch-object-written _ _ _ (c .before .before .before .before .before .before .before .before .before .before .before .is-payload-allowed .ensures) (c .before .before .before .before .before .before .before .before .before .before .if1 .left) (rw (c .before .before .before .before .before .before .before .payload2 .given .1) (c .before .before .write-header2 .ensures))
-
 pub write-fetch-object-spec : {M : Type 1} → statement M
+unfolding fetchObjectWritten headed
 write-fetch-object-spec =
     tie.close
     (tie.spec
-    (λ c κs. search needs) forbidden (λ c. search needs) (λ c. search needs) (λ c. search needs) (λ c κs. search needs) (λ c. search needs) (λ c. search needs) (λ c. search needs) (λ c κs. search needs)
-    (λ c. search needs) length (λ c. search needs) status)
+    (λ c κs. search needs) (λ c. search not-allowed) (λ c. search needs) (λ c. search needs) (λ c. search needs) (λ c κs. search needs) (λ c. search needs) (λ c. search needs) (λ c. search needs) (λ c κs. search needs)
+    (λ c. search needs) (λ c. fetch-object-written _ _ _ (c .before .before .before .before .before .before .before .before .before .before .before .is-payload-allowed .ensures) (c .before .before .before .before .before .before .before .before .before .before .if1 .left) (rw (c .before .before .before .before .before .before .before .payload .given .1) (c .before .before .write-header .ensures)))
+    (λ c. search needs) (λ c. fetch-object-written _ _ _ (c .before .before .before .before .before .before .before .before .before .before .before .is-payload-allowed .ensures) (c .before .before .before .before .before .before .before .before .before .before .if1 .left) (rw (c .before .before .before .before .before .before .before .payload2 .given .1) (c .before .before .write-header2 .ensures))))
