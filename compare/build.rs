@@ -1,26 +1,24 @@
-//! Links the archives of proved code that the speed program measures: each is
-//! named by a variable, and what is not named is not measured.
+//! Links the archive of the proved code, which a variable names; what stands on
+//! it is not built where none is named.
 
 use std::env;
 use std::path::PathBuf;
 
-/// A variable that names an archive, and the flag that is set where it does.
-const ARCHIVES: [(&str, &str); 2] = [("MOQ_EXPORTS", "exports"), ("MOQ_PASSES", "passes")];
+/// The variable that names the archive.
+const ARCHIVE: &str = "MOQ_EXPORTS";
 
 fn main() {
-    for (variable, flag) in ARCHIVES {
-        println!("cargo::rerun-if-env-changed={variable}");
-        println!("cargo::rustc-check-cfg=cfg({flag})");
-        let Some(path) = env::var_os(variable).map(PathBuf::from) else {
-            continue;
-        };
-        let path = path
-            .canonicalize()
-            .unwrap_or_else(|error| panic!("{variable}: {}: {error}", path.display()));
-        println!("cargo::rerun-if-changed={}", path.display());
-        for bin in ["speed", "live"] {
-            println!("cargo::rustc-link-arg-bin={bin}={}", path.display());
-        }
-        println!("cargo::rustc-cfg={flag}");
+    println!("cargo::rerun-if-env-changed={ARCHIVE}");
+    println!("cargo::rustc-check-cfg=cfg(exports)");
+    let Some(path) = env::var_os(ARCHIVE).map(PathBuf::from) else {
+        return;
+    };
+    let path = path
+        .canonicalize()
+        .unwrap_or_else(|error| panic!("{ARCHIVE}: {}: {error}", path.display()));
+    println!("cargo::rerun-if-changed={}", path.display());
+    for bin in ["speed", "live"] {
+        println!("cargo::rustc-link-arg-bin={bin}={}", path.display());
     }
+    println!("cargo::rustc-cfg=exports");
 }

@@ -1,5 +1,5 @@
 //! Integers, by the size of their shortest form and mixed: each a call across
-//! the C boundary, and all in one pass that the compiler sees whole.
+//! the C boundary.
 
 use std::hint::black_box;
 
@@ -25,11 +25,6 @@ pub fn measure() {
         let bytes = written(&numbers);
         read_calls(name, &bytes);
         write_calls(name, &numbers, bytes.len());
-        #[cfg(passes)]
-        {
-            read_pass(name, &bytes);
-            write_pass(name, &numbers, bytes.len());
-        }
     }
 }
 
@@ -111,30 +106,5 @@ fn write_calls(name: &str, numbers: &[u64], len: usize) {
         || pass(quinn::write, &mut other),
     );
     clock::compare(&format!("integer write call {name}"), COUNT, ours, theirs);
-    assert!(mine == other, "what is written differs");
-}
-
-#[cfg(passes)]
-fn read_pass(name: &str, bytes: &[u8]) {
-    let ours = || unsafe { ours::pass_read(bytes.as_ptr(), bytes.len()) };
-    clock::compare(&format!("integer read pass {name}"), COUNT, ours, || {
-        quinn::pass_read(bytes)
-    });
-}
-
-#[cfg(passes)]
-fn write_pass(name: &str, numbers: &[u64], len: usize) {
-    let (mut mine, mut other) = (vec![0; len], vec![0; len]);
-    let ours = || unsafe {
-        ours::pass_write(
-            numbers.as_ptr(),
-            numbers.len(),
-            mine.as_mut_ptr(),
-            mine.len(),
-        )
-    };
-    clock::compare(&format!("integer write pass {name}"), COUNT, ours, || {
-        quinn::pass_write(numbers, &mut other)
-    });
     assert!(mine == other, "what is written differs");
 }

@@ -96,11 +96,3 @@ pub fn arrivals(run: &[u64], numbers: &mut [u64], answers: &mut [u8]) -> u64 {
         )
     }
 }
-
-#[cfg(passes)]
-extern "C" {
-    /// The integers of a slice, one behind the other, joined by exclusive or.
-    pub fn pass_read(s: *const u8, len: usize) -> u64;
-    /// Numbers written one behind the other: the bytes used.
-    pub fn pass_write(ns: *const u64, count: usize, out: *mut u8, out_len: usize) -> usize;
-}

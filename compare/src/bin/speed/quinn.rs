@@ -95,32 +95,3 @@ pub unsafe extern "C" fn write(
         Err(number) => number,
     }
 }
-
-/// As `ours::pass_read`.
-#[cfg(passes)]
-#[inline(never)]
-pub fn pass_read(s: &[u8]) -> u64 {
-    let (mut at, mut all) = (0, 0);
-    while at < s.len() {
-        let Some((n, used)) = decode(&s[at..]) else {
-            break;
-        };
-        all ^= n;
-        at += used;
-    }
-    all
-}
-
-/// As `ours::pass_write`.
-#[cfg(passes)]
-#[inline(never)]
-pub fn pass_write(ns: &[u64], out: &mut [u8]) -> usize {
-    let mut at = 0;
-    for &n in ns {
-        let Ok(used) = encode(n, &mut out[at..]) else {
-            break;
-        };
-        at += used;
-    }
-    at
-}
