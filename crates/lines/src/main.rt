@@ -1,6 +1,6 @@
 // Answers cases: each line of the file `cases` is the name of a reader and bytes in hexadecimal. For each a line is printed: the number
 // that is answered, and behind a 0 the bytes used and the shortest form; for an integer its number and the bytes used; for a
-// trace its report, with ` /` for each newline.
+// trace its report, or what each field is answered, with ` /` for each newline.
 ghost use mathlib.Core.Path.{_≡_};
 ghost use Prim.Native.Nat.{_≤_};
 ghost use lib.ListN.{length};
@@ -161,11 +161,25 @@ fn say_text(text: &[u8]) {
     say(b"\n");
 }
 
+// What was put at the front of out.
+fn say_put(out: &[u8], putting: Putting) {
+    if let Putting::Done(n) = putting {
+        if n <= out.len() {
+            say_text(&out[..n]);
+        }
+    }
+}
+
 fn say_report(s: &[u8]) {
     let mut out = [0u8; 16384];
-    if let Putting::Done(n) = report::of_trace(s, &mut out) {
-        say_text(&out[..n]);
-    }
+    let putting = report::of_trace(s, &mut out);
+    say_put(&out, putting);
+}
+
+fn say_answers(s: &[u8]) {
+    let mut out = [0u8; 65536];
+    let putting = answers::of_trace(s, &mut out);
+    say_put(&out, putting);
 }
 
 // ---- cases
@@ -227,6 +241,9 @@ fn answer(word: &[u8], s: &[u8]) {
     }
     if is_same(word, b"trace") {
         say_report(s);
+    }
+    if is_same(word, b"answers") {
+        say_answers(s);
     }
 }
 
