@@ -31,7 +31,7 @@ pub run-exchanged : {l : Ledger} {es fs : List Event} → Exchanged l es fs → 
 unfolding run
 run-exchanged Exchanged.same = refl
 run-exchanged (Exchanged.arrivals {l} {a} {b} {es}) = run-either (arrivals-either l a b) es
-run-exchanged (Exchanged.messages {l} {es = es} m n other opened) = run-either (messages-either l m n other opened) es
+run-exchanged (Exchanged.messages {l} {es = es} apart opened) = run-either (messages-either l apart opened) es
 run-exchanged (Exchanged.after x) = run-exchanged x
 run-exchanged (Exchanged.then x y) = run-exchanged x ∙ run-exchanged y
 
@@ -39,7 +39,7 @@ pub told-exchanged : {l : Ledger} {es fs : List Event} → Exchanged l es fs →
 unfolding run told
 told-exchanged Exchanged.same = Reordered.same
 told-exchanged (Exchanged.arrivals {l} {a} {b} {es}) = told-either (arrivals-either l a b) es
-told-exchanged (Exchanged.messages {l} {es = es} m n other opened) = told-either (messages-either l m n other opened) es
+told-exchanged (Exchanged.messages {l} {es = es} apart opened) = told-either (messages-either l apart opened) es
 told-exchanged (Exchanged.after x) = Reordered.after (told-exchanged x)
 told-exchanged (Exchanged.then x y) = Reordered.then (told-exchanged x) (told-exchanged y)
 

@@ -20,7 +20,7 @@ use Rattle.ledger.specs.declared.Part.{Part}
 use Rattle.ledger.proofs.Facts.{parts}
 use Rattle.ledger.proofs.Keeps.{starts}
 use Rattle.history.specs.Events.{Event, message, arrival, run, told}
-use Rattle.history.specs.Orders.{Reordered, Names, EitherOrder, Exchanged}
+use Rattle.history.specs.Orders.{Reordered, Apart, EitherOrder, Exchanged}
 use Rattle.history.specs.Counts.{counted, greatestOf, Shows, Each, Among}
 use Rattle.history.specs.Closings.{anyBroken, firstBroken, kept}
 use Rattle.history.specs.Takings.{NoneTaken}
@@ -44,14 +44,14 @@ arrivals-keep-their-answers l earlier later r = told-exchanged (between l earlie
 pub arrivals-answered-as-if-first : (l : Ledger) (xs : List Arrival) → told l (map arrival xs) ≡ map (λ a. record { event = arrival a; says = arrivalOf l a .says }) xs
 arrivals-answered-as-if-first = told-alone
 
--- 2. Two neighbouring messages that name different subscriptions, neither being SUBSCRIBE, may change places where the session is
--- open after both: the ledger is the same, and each keeps its own answer.
-pub messages-in-either-order : (l : Ledger) {m n : Message} {i j : ℕ} → Names m i → Names n j → (i ≡ j → ⊥) → isOpen (run l (message m ∷ message n ∷ []) .session) ≡ true → EitherOrder l (message m) (message n)
+-- 2. Two neighbouring messages that name different subscriptions, neither being SUBSCRIBE, or of which the ledger doesn't keep one,
+-- may change places where the session is open after both: the ledger is the same, and each keeps its own answer.
+pub messages-in-either-order : (l : Ledger) {m n : Message} → Apart m n → isOpen (run l (message m ∷ message n ∷ []) .session) ≡ true → EitherOrder l (message m) (message n)
 unfolding run
 messages-in-either-order = messages-either
 
 -- Then the session is open after both in the other order too.
-pub open-in-either-order : (l : Ledger) {m n : Message} {i j : ℕ} → Names m i → Names n j → (i ≡ j → ⊥) → isOpen (run l (message m ∷ message n ∷ []) .session) ≡ true → isOpen (run l (message n ∷ message m ∷ []) .session) ≡ true
+pub open-in-either-order : (l : Ledger) {m n : Message} → Apart m n → isOpen (run l (message m ∷ message n ∷ []) .session) ≡ true → isOpen (run l (message n ∷ message m ∷ []) .session) ≡ true
 unfolding run
 open-in-either-order = open-either
 
