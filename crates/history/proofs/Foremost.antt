@@ -12,7 +12,8 @@ use Rattle.row.specs.Places.{before}
 use Rattle.row.specs.Rows.{greater}
 use Rattle.row.specs.declared.Greatest.{Greatest}
 use Rattle.row.specs.declared.Greatest.the-variants.{Nowhere, At}
-use Rattle.history.specs.Counts.{greatestOf, Each, Among}
+use Rattle.history.specs.Rows.{greatestOf}
+use Rattle.history.specs.Lists.{Each, Among}
 
 -- nowhere exactly where there are none
 pub nowhere-only : (ps : List Place) → greatestOf ps ≡ Nowhere → ps ≡ []

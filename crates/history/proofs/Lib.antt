@@ -6,7 +6,9 @@ pub mod Acting
 pub mod Touching
 pub mod Exchanging
 pub mod AnyOrder
-pub mod Meaning
+pub mod Telling
+pub mod Doing
+pub mod Whole
 pub mod Foremost
 pub mod Promise
 pub mod Theorems

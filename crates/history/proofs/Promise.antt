@@ -5,9 +5,8 @@ use mathlib.Core.Bool.{Bool, true, false}
 use mathlib.Core.List.{List, [], _∷_}
 use native.Mathlib.Omega.{arith}
 use borrow.Author.Tests.{ltb-false, leb-false, le-ltb, lt-leb}
-use lib.Dec.{eqb, leb, ltb}
+use lib.Dec.{leb, ltb}
 use Rattle.integer.proofs.Cases.{pick-by}
-use Rattle.field.specs.Outcome.{both}
 use Rattle.field.specs.declared.Place.{Place}
 use Rattle.subscription.specs.declared.Subscribe.{Subscribe}
 use Rattle.subscription.specs.declared.SubscriptionMessage.the-variants.{Subscribe as ASubscribe}
@@ -19,12 +18,13 @@ use Rattle.ledger.specs.Answers.{Said, Came, only, breaks}
 use Rattle.ledger.specs.Steps.{idOf, aliasOf, withMaximum, subscribeStep, takeOf}
 use Rattle.ledger.specs.declared.Ledger.{Ledger}
 use Rattle.ledger.specs.declared.Rule.{Rule}
-use Rattle.ledger.proofs.Turning.{Change, gone, now, turn, Known, has-turn}
-use Rattle.ledger.proofs.Replies.{Becomes, Still, counting}
+use Rattle.ledger.proofs.Turning.{Change, turn, Known, has-turn}
+use Rattle.ledger.proofs.Replies.{Becomes, counting}
 use Rattle.history.specs.Events.{Event, message, comes, run, told}
-use Rattle.history.specs.Takings.{isSubscribe, NoneTaken}
+use Rattle.history.specs.Deeds.{Deed, deedIn}
+use Rattle.history.specs.Takings.{NoneTaken}
 use Rattle.history.proofs.Gate.{Refusal, not-a-ledger, forbidden, closed, isSound, comes-by, passed}
-use Rattle.history.proofs.Moves.{Moves, stayed, broken, counted, turned, taken, raised, moves}
+use Rattle.history.proofs.Moves.{Turns, opens, frees, Moves, stayed, broken, counted, turned, taken, raised, moves}
 use Rattle.history.proofs.Keeping.{comes-keeps}
 
 -- nothing but the rows in use stands against a SUBSCRIBE
@@ -94,20 +94,20 @@ module _ (l : Ledger) (m : Subscribe) where
   unfolding countedRow
   counted-alias place r = refl
 
-  still-alias : (r : Row) (c : Change) → Still r c → Known aliasOf r c
-  still-alias r gone s = tt
-  still-alias r (now x) s = s .alias
+  turns-alias : {d : Deed} {id : ℕ} {f : Row → Change} → Turns d id f → (r : Row) → Known aliasOf r (f r)
+  turns-alias opens r = refl
+  turns-alias frees r = tt
 
   raised-waits : (id : ℕ) → l .maximum < id → isLedger (withMaximum l id) ≡ true → Waits m l → Waits m (withMaximum l id)
   unfolding held
   raised-waits id more k w = record { ledger = k; new = w .new; below = omega (arith, w .below); fresh = w .fresh }
 
-  waits-on : {e : Event} {c : Came} → Moves l e c → isLedger (c .next) ≡ true → both (eqb (c .says .number) 8) (isSubscribe e) ≡ false → Waits m l → Waits m (c .next)
+  waits-on : {e : Event} {c : Came} → Moves l e c → isLedger (c .next) ≡ true → ((x : Subscribe) → deedIn e (c .says .number) ≡ Deed.asked x → ⊥) → Waits m l → Waits m (c .next)
   waits-on (stayed q) k none w = w
   waits-on (broken own rule p) k none w = broken-waits own rule k w
   waits-on (counted {a} v b) k none w = turned-waits aliasOf (a .alias) (counting (a .place)) (counted-alias (a .place)) b k w
-  waits-on (turned id f not-asking still b) k none w = turned-waits idOf id f (λ r. still-alias r (f r) (still r)) b k w
-  waits-on (taken fresh b) k none w = absurd (let z : _≡_ {A = ℕ} 0 1 = cc in omega arith)
+  waits-on (turned id f v is b) k none w = turned-waits idOf id f (turns-alias is) b k w
+  waits-on (taken {m = x} fresh b) k none w = absurd (none x refl)
   waits-on (raised {id} more) k none w = raised-waits id more k w
 
 waits-after : (m : Subscribe) (l : Ledger) (es : List Event) → NoneTaken (told l es) → Waits m l → Waits m (run l es)

@@ -19,16 +19,18 @@ use Rattle.ledger.specs.declared.Ledger.{Ledger}
 use Rattle.ledger.specs.declared.Part.{Part}
 use Rattle.ledger.proofs.Facts.{parts}
 use Rattle.ledger.proofs.Keeps.{starts}
-use Rattle.history.specs.Events.{Event, message, arrival, run, told}
+use Rattle.history.specs.Events.{Event, message, arrival, run, Told, told}
+use Rattle.history.specs.Lists.{Each, Among}
 use Rattle.history.specs.Orders.{Reordered, Apart, EitherOrder, Exchanged}
-use Rattle.history.specs.Counts.{counted, greatestOf, Shows, Each, Among}
+use Rattle.history.specs.Rows.{greatestOf, rowsOf}
 use Rattle.history.specs.Closings.{anyBroken, firstBroken, kept}
+use Rattle.history.specs.Ledgers.{ToldBy}
 use Rattle.history.specs.Takings.{NoneTaken}
 use Rattle.history.proofs.Keeping.{run-keeps}
 use Rattle.history.proofs.Closing.{closed-later, open-after, kept-after}
 use Rattle.history.proofs.Exchanging.{messages-either, open-either}
 use Rattle.history.proofs.AnyOrder.{run-exchanged, told-exchanged, between, told-alone}
-use Rattle.history.proofs.Meaning.{shown-from-start}
+use Rattle.history.proofs.Whole.{told-from-start, told-once}
 use Rattle.history.proofs.Foremost.{nowhere-only, none-nowhere, among, none-after}
 use Rattle.history.proofs.Promise.{promised}
 
@@ -63,10 +65,19 @@ exchanged-histories-agree = run-exchanged
 pub exchanged-histories-keep-their-answers : {l : Ledger} {es fs : List Event} → Exchanged l es fs → Reordered (told l es) (told l fs)
 exchanged-histories-keep-their-answers = told-exchanged
 
--- 3. After any history, a row's count is the number of 16s answered for its alias since its SUBSCRIBE was accepted, up to
--- 4,294,967,295, and its place is the greatest of their places.
-pub rows-tell-their-history : (part : Part) (capacity maximum : ℕ) (es : List Event) → let l = startOf part capacity maximum .next in Each (λ r. Shows r (counted (r .alias) [] (told l es))) (held (run l es))
-rows-tell-their-history = shown-from-start
+-- 3. After any history, the rows held are those of the SUBSCRIBEs that were accepted and not ended since, in their order. A row is
+-- active exactly when a SUBSCRIBE_OK was accepted for it, which settled its range; its count is the number of 16s answered for its
+-- alias since its SUBSCRIBE was accepted, up to 4,294,967,295, and its place is the greatest of their places.
+pub rows-told-by-their-history : (part : Part) (capacity maximum : ℕ) (es : List Event) → let l = startOf part capacity maximum .next in held (run l es) ≡ rowsOf (told l es)
+rows-told-by-their-history part capacity maximum es = told-from-start part capacity maximum es .rows
+
+-- So is every other part of the ledger told by its events and their answers.
+pub ledger-told-by-its-history : (part : Part) (capacity maximum : ℕ) (es : List Event) → let l = startOf part capacity maximum .next in ToldBy l (told l es) (run l es)
+ledger-told-by-its-history = told-from-start
+
+-- No other ledger is told so: the same events and answers lead to the same ledger.
+pub same-answers-same-ledger : {l x y : Ledger} {ts : List Told} → isLedger x ≡ true → isLedger y ≡ true → ToldBy l ts x → ToldBy l ts y → x ≡ y
+same-answers-same-ledger = told-once
 
 -- Places have no greatest exactly when there are none.
 pub no-greatest-of-none : (ps : List Place) → (greatestOf ps ≡ Nowhere) ↔ (ps ≡ [])

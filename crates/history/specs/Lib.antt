@@ -1,5 +1,8 @@
+pub mod Lists
 pub mod Events
 pub mod Orders
-pub mod Counts
+pub mod Deeds
+pub mod Rows
 pub mod Closings
+pub mod Ledgers
 pub mod Takings

@@ -41,8 +41,8 @@ pub data NotKept : Message → Type 0 where
   announce : {m : AnnounceMessage} → NotKept (Announce m)
   session : {m : SessionMessage} → NotKept (Session m)
 
--- two messages that may change places: they name different subscriptions, neither being SUBSCRIBE; or the ledger doesn't keep one
--- of them
+-- two messages that may change places: they name different subscriptions, neither being SUBSCRIBE; or the ledger doesn't
+-- keep one of them
 pub data Apart : Message → Message → Type 0 where
   different : {m n : Message} {i j : ℕ} → Names m i → Names n j → (i ≡ j → ⊥) → Apart m n
   first-not-kept : {m n : Message} → NotKept m → Apart m n
@@ -54,8 +54,8 @@ pub record EitherOrder (l : Ledger) (e f : Event) : Type 0 where
   pub first : comes (comes l f .next) e .says ≡ comes l e .says
   pub second : comes (comes l e .next) f .says ≡ comes l f .says
 
--- histories that differ by exchanges of neighbours: two arrivals; or two messages that may change places, the session open after
--- both
+-- histories that differ by exchanges of neighbours: two arrivals; or two messages that may change places, the session
+-- open after both
 pub data Exchanged : Ledger → List Event → List Event → Type 0 where
   same : {l : Ledger} {es : List Event} → Exchanged l es es
   arrivals : {l : Ledger} {a b : Arrival} {es : List Event} → Exchanged l (arrival a ∷ arrival b ∷ es) (arrival b ∷ arrival a ∷ es)

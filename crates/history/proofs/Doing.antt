@@ -1,0 +1,168 @@
+-- What an event does to a ledger is what its deed tells. Assumes nothing.
+use Prim.Native.Nat.{ℕ, _+_, _≤_}
+use mathlib.Core.Path.{_≡_, refl, sym, ap, subst, _∙_}
+use mathlib.Core.Bool.{Bool, true, false, not}
+use mathlib.Core.List.{List, [], _∷_, _++_, append-nil}
+use native.Mathlib.Omega.{arith}
+use borrow.Author.Tests.{eqb-true, ne-eqb, not-true, leb-true}
+use lib.Dec.{eqb, leb, ltb}
+use Rattle.integer.specs.Answer.{pick}
+use Rattle.layout.proofs.Back.{both-true}
+use Rattle.message.specs.declared.Message.the-variants.{Subscription, Fetch, Announce, Session}
+use Rattle.row.specs.Rows.{isRow}
+use Rattle.row.specs.declared.Row.{Row}
+use Rattle.ledger.specs.Ledgers.{held, hasAlias, distinct, rising}
+use Rattle.ledger.specs.Answers.{Came, breaks}
+use Rattle.ledger.specs.Steps.{idOf, aliasOf, withMaximum}
+use Rattle.ledger.specs.declared.Ledger.{Ledger}
+use Rattle.ledger.specs.declared.Rule.{Rule}
+use Rattle.ledger.proofs.Facts.{parts}
+use Rattle.ledger.proofs.Keyed.{editBy}
+use Rattle.ledger.proofs.Turning.{Change, now, put, turn, has-not}
+use Rattle.ledger.proofs.Asking.{newRow}
+use Rattle.ledger.proofs.Replies.{Becomes, Quiet, counting}
+use Rattle.history.specs.Lists.{Each}
+use Rattle.history.specs.Events.{Event, message, malformed, arrival}
+use Rattle.history.specs.Deeds.{Deed, nothing, deedIn}
+use Rattle.history.specs.Ledgers.{nextBy, maximumBy}
+use Rattle.history.proofs.Moves.{Turns, opens, frees, Moves, stayed, broken, turned, taken, raised, quiet}
+use Rattle.history.proofs.Telling.{made, every, new}
+
+-- ---- no two rows have one number
+
+abbrev Others : (Row → ℕ) → ℕ → List Row → Type 0
+Others key n = Each (λ (r : Row). eqb (key r) n ≡ false)
+
+abbrev Lone : (Row → ℕ) → List Row → Type 0
+Lone key [] = Unit {0}
+Lone key (r ∷ rs) = Others key (key r) rs × Lone key rs
+
+alias-others : (alias : ℕ) (rs : List Row) → hasAlias alias rs ≡ false → Others aliasOf alias rs
+alias-others alias [] e = tt
+alias-others alias (r ∷ rs) e = let (here, more) = has-not alias r rs e in (here, alias-others alias rs more)
+
+alias-lone : (rs : List Row) → distinct rs ≡ true → Lone aliasOf rs
+unfolding distinct
+alias-lone [] e = tt
+alias-lone (r ∷ rs) e =
+    let (fresh, more) = both-true (not (hasAlias (r .alias) rs)) (distinct rs) e in
+    (alias-others (r .alias) rs (not-true (hasAlias (r .alias) rs) fresh), alias-lone rs more)
+
+-- the first of rows that rise, and those behind it
+rising-first : (low next : ℕ) (r : Row) (rs : List Row) → rising low next (r ∷ rs) ≡ true → (low ≤ r .id) × (rising (r .id + 1) next rs ≡ true)
+unfolding rising
+rising-first low next r rs e =
+    let (above, e₁) = both-true (leb low (r .id)) _ e in
+    let (_, e₂) = both-true (ltb (r .id) next) _ e₁ in
+    let (_, more) = both-true (isRow r) _ e₂ in
+    (leb-true low (r .id) above, more)
+
+id-others : (n low next : ℕ) (rs : List Row) → n + 1 ≤ low → rising low next rs ≡ true → Others idOf n rs
+id-others n low next [] h e = tt
+id-others n low next (r ∷ rs) h e =
+    let (above, more) = rising-first low next r rs e in
+    (ne-eqb (r .id) n (λ s. omega arith), id-others n (r .id + 1) next rs (omega arith) more)
+
+id-lone : (low next : ℕ) (rs : List Row) → rising low next rs ≡ true → Lone idOf rs
+id-lone low next [] e = tt
+id-lone low next (r ∷ rs) e =
+    let (_, more) = rising-first low next r rs e in
+    (id-others (r .id) (r .id + 1) next rs (omega arith) more, id-lone (r .id + 1) next rs more)
+
+-- so to turn the first row that has a number is to turn each that has it
+module _ (key : Row → ℕ) (n : ℕ) (f : Row → Change) where
+  abbrev at : Row → Change
+  at r = pick (eqb (key r) n) (f r) (now r)
+
+  every-other : (rs : List Row) → Others key n rs → every at rs ≡ rs
+  unfolding every
+  every-other [] h = refl
+  every-other (r ∷ rs) h = rw (h .0) (ap (λ (xs : List Row). r ∷ xs) (every-other rs (h .1)))
+
+  turn-every : (rs : List Row) → Lone key rs → turn key n f rs ≡ every at rs
+  unfolding editBy every
+  turn-every [] h = refl
+  turn-every (r ∷ rs) h = go (eqb (key r) n) refl (turn-every rs (h .1))
+    where
+      go : (b : Bool) → eqb (key r) n ≡ b → turn key n f rs ≡ every at rs → pick b (put (f r) rs) (r ∷ turn key n f rs) ≡ put (pick b (f r) (now r)) (every at rs)
+      go true e ih =
+          ap (put (f r)) (sym (every-other rs (subst (λ (k : ℕ). Others key k rs) (eqb-true (key r) n e) (h .0))))
+      go false e ih = ap (λ (xs : List Row). r ∷ xs) ih
+
+every-now : (rs : List Row) → every now rs ≡ rs
+unfolding every
+every-now [] = refl
+every-now (r ∷ rs) = ap (λ (xs : List Row). r ∷ xs) (every-now rs)
+
+-- ---- one event
+
+-- every part of the ledger but the session
+pub record Did (l : Ledger) (d : Deed) (after : Ledger) : Type 0 where
+  pub part : after .part ≡ l .part
+  pub capacity : after .capacity ≡ l .capacity
+  pub rows : held after ≡ every (made d) (held l) ++ new d
+  pub next : after .next ≡ nextBy (l .next) d
+  pub maximum : after .maximum ≡ maximumBy (l .maximum) d
+
+-- what changes nothing, and what breaks a rule, does nothing
+quiet-deed : {n : ℕ} → Quiet n → (e : Event) → deedIn e n ≡ nothing
+quiet-deed q (message (Subscription m)) = rw (quiet q .0)
+quiet-deed q (message (Fetch m)) = refl
+quiet-deed q (message (Announce m)) = refl
+quiet-deed q (message (Session m)) = refl
+quiet-deed q malformed = refl
+quiet-deed q (arrival a) = rw (quiet q .2)
+
+broken-deed : (e : Event) → deedIn e 13 ≡ nothing
+broken-deed (message (Subscription m)) = refl
+broken-deed (message (Fetch m)) = refl
+broken-deed (message (Announce m)) = refl
+broken-deed (message (Session m)) = refl
+broken-deed malformed = refl
+broken-deed (arrival a) = refl
+
+module _ (l : Ledger) where
+  rows-stay : held l ≡ every now (held l) ++ []
+  rows-stay = sym (append-nil (every now (held l)) ∙ every-now (held l))
+
+  did-nothing : Did l nothing l
+  did-nothing = record { part = refl; capacity = refl; rows = rows-stay; next = refl; maximum = refl }
+
+  did-broken : (own : Bool) (rule : Rule) → Did l nothing (breaks l own rule .next)
+  unfolding breaks held
+  did-broken true rule = did-nothing
+  did-broken false rule = record { part = refl; capacity = refl; rows = rows-stay; next = refl; maximum = refl }
+
+  did-raised : (id : ℕ) → Did l (Deed.raised id) (withMaximum l id)
+  unfolding held
+  did-raised id = record { part = refl; capacity = refl; rows = rows-stay; next = refl; maximum = refl }
+
+  -- the rows are others
+  did-rows : {d : Deed} {above : ℕ} {hs : List Row} {after : Ledger} → Becomes l above hs after → hs ≡ every (made d) (held l) ++ new d → above ≡ nextBy (l .next) d → l .maximum ≡ maximumBy (l .maximum) d → Did l d after
+  did-rows b rows next maximum =
+      record {
+        part = b .part;
+        capacity = b .capacity;
+        rows = b .rows ∙ rows;
+        next = b .next ∙ next;
+        maximum = b .maximum ∙ maximum;
+      }
+
+  -- one row is turned
+  turned-rows : (key : Row → ℕ) (n : ℕ) (f : Row → Change) → Lone key (held l) → turn key n f (held l) ≡ every (at key n f) (held l) ++ []
+  turned-rows key n f lone = turn-every key n f (held l) lone ∙ sym (append-nil (every (at key n f) (held l)))
+
+  did-turned : {d : Deed} {id : ℕ} {f : Row → Change} {after : Ledger} → Lone idOf (held l) → Turns d id f → Becomes l (l .next) (turn idOf id f (held l)) after → Did l d after
+  did-turned {id = id} {f = f} lone opens b = did-rows b (turned-rows idOf id f lone) refl refl
+  did-turned {id = id} {f = f} lone frees b = did-rows b (turned-rows idOf id f lone) refl refl
+
+  pub did : {e : Event} {c : Came} → Moves l e c → Did l (deedIn e (c .says .number)) (c .next)
+  unfolding breaks
+  did (stayed {e} q) = rw (quiet-deed q e) did-nothing
+  did (broken {e} own rule p) = rw (broken-deed e) (did-broken own rule)
+  did (Moves.counted {a} w b) =
+      did-rows b (turned-rows aliasOf (a .alias) (counting (a .place)) (alias-lone (held l) (parts l w .apart))) refl refl
+  did (turned id f w is b) = did-turned (id-lone 0 (l .next) (held l) (parts l w .rises)) is b
+  did (taken {m} fresh b) =
+      did-rows b (ap (λ (rs : List Row). rs ++ (newRow m ∷ [])) (sym (every-now (held l)))) refl refl
+  did (raised {id} more) = did-raised id
