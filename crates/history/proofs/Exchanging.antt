@@ -7,35 +7,21 @@ use mathlib.Core.List.{List}
 use native.Mathlib.Omega.{arith}
 use borrow.Author.Tests.{eqb-true, eqb-false}
 use lib.Dec.{eqb}
-use Rattle.integer.specs.Answer.{pick}
 use Rattle.field.specs.declared.Arrival.{Arrival}
-use Rattle.subscription.specs.declared.SubscriptionMessage.the-variants.{SubscribeUpdate as ASubscribeUpdate, SubscribesBlocked as ASubscribesBlocked}
 use Rattle.message.specs.declared.Message.{Message}
-use Rattle.message.specs.declared.Message.the-variants.{Subscription, Fetch, Announce, Session}
 use Rattle.row.specs.declared.Row.{Row}
 use Rattle.ledger.specs.Ledgers.{held, isLedger, isOpen}
-use Rattle.ledger.specs.Answers.{Came, only, same}
 use Rattle.ledger.specs.Steps.{idOf, aliasOf}
 use Rattle.ledger.specs.declared.Ledger.{Ledger}
 use Rattle.ledger.proofs.Turning.{Looked, none, one, look, Change, now, turn, turn-found, look-other, turn-other, seen, look-turned, turn-twice}
 use Rattle.ledger.proofs.Replies.{Becomes, becomes-one, becomes-then, Reply}
 use Rattle.history.specs.Events.{Event, message, arrival, comes}
-use Rattle.history.specs.Orders.{NotKept, blocked, fetch, announce, session, Apart, different, first-not-kept, second-not-kept, EitherOrder}
-use Rattle.history.proofs.Gate.{isSound, stepOf, comes-by, no-ledger, refused, passed}
+use Rattle.history.specs.Orders.{Apart, different, first-not-kept, second-not-kept, EitherOrder}
 use Rattle.history.proofs.Keeping.{comes-keeps}
 use Rattle.history.proofs.Closing.{closed-next}
+use Rattle.history.proofs.Idle.{neither-changes, by-standing, idle-either, turned-about, not-kept-idle}
 use Rattle.history.proofs.Acting.{saysBy, shutsBy, doing, Acted, Acts, arrival-acts, arrival-goes, Named, named}
 use Rattle.history.proofs.Touching.{touch, touches, touch-alias, touch-reply, touch-either}
-
--- ---- where neither changes anything
-
-idle : (l : Ledger) (e f : Event) → comes l e .next ≡ l → comes l f .next ≡ l → EitherOrder l e f
-idle l e f a b =
-    record {
-      next = ap (λ (x : Ledger). comes x f .next) a ∙ b ∙ sym a ∙ ap (λ (x : Ledger). comes x e .next) (sym b);
-      first = ap (λ (x : Ledger). comes x e .says) b;
-      second = ap (λ (x : Ledger). comes x f .says) a;
-    }
 
 -- ---- where each looks one row up
 
@@ -150,15 +136,6 @@ module _ (a b : Arrival) (next : ℕ) (rs : List Row) where
       (λ other. turn-other aliasOf (b .alias) (a .alias) (λ e. other (sym e)) (touching a) (touch-alias a) (touching b) (touch-alias b) rs)
       ∙ sym (turn-touching a next (turn aliasOf (b .alias) (touching b) rs)))
 
--- a ledger that is one and open, or one that stays as it is
-by-standing : (l : Ledger) (P : Type 0) → (isLedger l ≡ true → isOpen (l .session) ≡ true → P) → (((e : Event) → comes l e .next ≡ l) → P) → P
-by-standing l P goes stays = go (isLedger l) refl (isOpen (l .session)) refl
-  where
-    go : (b : Bool) → isLedger l ≡ b → (c : Bool) → isOpen (l .session) ≡ c → P
-    go true w true o = goes w o
-    go true w false o = stays (λ e. closed-next l e o)
-    go false w o h = stays (λ e. ap (λ (c : Came). c .next) (no-ledger l e w))
-
 goes-on : (l : Ledger) (w : isLedger l ≡ true) (o : isOpen (l .session) ≡ true) (a : Arrival) → Goes l w o (arrival-acts a)
 unfolding Goes
 goes-on l w o a = arrival-goes a (l .part) (arrival-acts a .reply (l .next) (look aliasOf (a .alias) (held l)))
@@ -171,7 +148,7 @@ arrivals-either l a b =
     (λ w o.
     either-goes l w o (arrival-acts a) (arrival-acts b) (arrival-unmoved a b) (arrival-unmoved b a) (arrival-turns a b)
     (goes-on l w o a) (goes-on l w o b))
-    (λ stays. idle l (arrival a) (arrival b) (stays (arrival a)) (stays (arrival b)))
+    (λ stays. neither-changes l (arrival a) (arrival b) (stays (arrival a)) (stays (arrival b)))
 
 -- ---- two messages
 
@@ -198,46 +175,6 @@ module _ (l : Ledger) (w : isLedger l ≡ true) (o : isOpen (l .session) ≡ tru
       (λ next. turn-other idOf j i (λ e. other (sym e)) (doing (x .acting .reply next)) (x .knows next) (doing (y .acting .reply next)) (y .knows next))
       first-goes (second-goes l w o (x .acting) (y .acting) (named-unmoved x y other) first-goes opened)
 
--- ---- a message that the ledger doesn't keep
-
--- it leaves every ledger as it is, and every ledger whose session is open answers it alike
-record Idle (e : Event) : Type 0 where
-  stays : (l : Ledger) → comes l e .next ≡ l
-  alike : (l k : Ledger) → isLedger l ≡ true → isOpen (l .session) ≡ true → isLedger k ≡ true → isOpen (k .session) ≡ true → comes l e .says ≡ comes k e .says
-
--- so it may change places with any event behind which the session is open
-idle-either : (l : Ledger) {e f : Event} → Idle e → isOpen (comes l f .next .session) ≡ true → EitherOrder l e f
-idle-either l {e} {f} x opened =
-    record {
-      next = ap (λ (k : Ledger). comes k f .next) (x .stays l) ∙ sym (x .stays (comes l f .next));
-      first =
-          by-standing l (comes (comes l f .next) e .says ≡ comes l e .says)
-          (λ w o. x .alike (comes l f .next) l (comes-keeps l f w) opened w o) (λ stays. ap (λ (k : Ledger). comes k e .says) (stays f));
-      second = ap (λ (k : Ledger). comes k f .says) (x .stays l);
-    }
-
-turned-about : {l : Ledger} {e f : Event} → EitherOrder l e f → EitherOrder l f e
-turned-about x = record { next = sym (x .next); first = x .second; second = x .first }
-
-module _ (e : Event) (nine : (l : Ledger) → stepOf l e ≡ same l 9) where
-  nine-idle : Idle e
-  nine-idle =
-      record {
-        stays = λ l. comes-by l e (λ (c : Came). c .next ≡ l) (λ _. ap (λ (c : Came). c .next) (nine l)) (λ _ _. refl);
-        alike = λ l k v o w p. says-so l v o (isSound e) refl ∙ sym (says-so k w p (isSound e) refl);
-      }
-    where
-      says-so : (l : Ledger) → isLedger l ≡ true → isOpen (l .session) ≡ true → (b : Bool) → isSound e ≡ b → comes l e .says ≡ only (pick b 9 5)
-      says-so l w o true s = ap (λ (c : Came). c .says) (passed l e w s o ∙ nine l)
-      says-so l w o false s = ap (λ (c : Came). c .says) (refused l e w s)
-
-not-kept-idle : {m : Message} → NotKept m → Idle (message m)
-not-kept-idle (NotKept.updated {m}) = nine-idle (message (Subscription (ASubscribeUpdate m))) (λ _. refl)
-not-kept-idle (blocked {id}) = nine-idle (message (Subscription (ASubscribesBlocked id))) (λ _. refl)
-not-kept-idle (fetch {m}) = nine-idle (message (Fetch m)) (λ _. refl)
-not-kept-idle (announce {m}) = nine-idle (message (Announce m)) (λ _. refl)
-not-kept-idle (session {m}) = nine-idle (message (Session m)) (λ _. refl)
-
 -- ---- two messages that may change places
 
 -- where the session is open after both
@@ -245,7 +182,7 @@ module _ (l : Ledger) {m n : Message} where
   pub messages-either : Apart m n → isOpen (comes (comes l (message m) .next) (message n) .next .session) ≡ true → EitherOrder l (message m) (message n)
   messages-either (different x y other) opened =
       by-standing l (EitherOrder l (message m) (message n)) (λ w o. both-either l w o (named x) (named y) other opened)
-      (λ stays. idle l (message m) (message n) (stays (message m)) (stays (message n)))
+      (λ stays. neither-changes l (message m) (message n) (stays (message m)) (stays (message n)))
   messages-either (first-not-kept x) opened =
       let idle = not-kept-idle x in
       idle-either l idle (subst (λ (k : Ledger). isOpen (comes k (message n) .next .session) ≡ true) (idle .stays l) opened)

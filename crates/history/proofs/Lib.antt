@@ -2,6 +2,7 @@ pub mod Gate
 pub mod Keeping
 pub mod Moves
 pub mod Closing
+pub mod Idle
 pub mod Acting
 pub mod Touching
 pub mod Exchanging

@@ -51,11 +51,12 @@ counts alias nothing = []
 
 -- ---- what a history is to it
 
+-- whether one of its deeds ended the row of this ID,
 unfoldable pub isEnded : ℕ → List Told → Bool
 isEnded id [] = false
 isEnded id (t ∷ ts) = pick (ends id (deedOf t)) true (isEnded id ts)
 
--- what its deeds give, the earliest first
+-- and what they give, the earliest first
 unfoldable pub given : {A : Type 0} → (Deed → List A) → List Told → List A
 given by [] = []
 given by (t ∷ ts) = by (deedOf t) ++ given by ts
