@@ -123,8 +123,8 @@ uint64_t moq_answers(const uint8_t *trace, size_t trace_len, uint8_t *out, size_
 uint64_t moq_ledger_start(uint64_t part, uint64_t rows, uint64_t maximum, uint64_t *numbers, size_t numbers_len);
 
 /* The control message at the front of s is taken; its type tells who sent it. info[0]: the bytes used; info[1]: the rule with 13, else
-   0; both are told with every number from 8 on. The numbers of reading are answered first: 1, 2, 3, 4, 5, 6. 7: info has fewer than 2
-   values. Then 14, 10, and then 9, 13, 12, 11 or 8. */
+   0; both are told with every number from 8 to 13. The numbers of reading are answered first: 1, 2, 3, 4, 5, 6. Then 14; 7: info has
+   fewer than 2 values; then 10, and then 9, 13, 12, 11 or 8. */
 uint64_t moq_ledger_take(const uint8_t *s, size_t s_len, uint64_t *numbers, size_t numbers_len, uint64_t *info, size_t info_len);
 
 /* Control bytes of the peer's could not be read, with 2, 3, 4, 5 or 6: 14, 10, or else 13, which is rule 1. */
@@ -133,9 +133,9 @@ uint64_t moq_ledger_malformed(uint64_t *numbers, size_t numbers_len);
 /* An arrival: 14, 5, 10, 18, 19, 17, 16. 5: one of its three numbers is above 4,611,686,018,427,387,903. */
 uint64_t moq_ledger_arrival(uint64_t alias, uint64_t group, uint64_t object, uint64_t *numbers, size_t numbers_len);
 
-/* Arrivals one after the other, each an alias, a group and an object in run; one or two values at its end are none: 7, 0. answers[i]:
-   what moq_ledger_arrival answers to the i-th, which is 14 for all of them where the numbers aren't a ledger's, and these then stay.
-   7: answers has fewer bytes than there are arrivals, and none of them is taken. */
+/* Arrivals one after the other, each an alias, a group and an object in run; one or two values at its end are none: 14, 7, 0.
+   answers[i]: what moq_ledger_arrival answers to the i-th, which is never 14. 7: answers has fewer bytes than there are arrivals, and
+   none of them is taken. */
 uint64_t moq_ledger_arrivals(const uint64_t *run, size_t run_len, uint64_t *numbers, size_t numbers_len,
                              uint8_t *answers, size_t answers_len);
 

@@ -31,12 +31,16 @@ pub fn take(s: &[u8], numbers: &mut [u64], info: &mut [u64]) -> u8 {
         Ok(read) => read,
         Err(number) => return number,
     };
+    let Some((mut ledger, numbers)) = checked(numbers) else {
+        return NOT_A_LEDGER;
+    };
     let Some([used_told, rule_told]) = info.first_chunk_mut() else {
         return SHORT;
     };
-    let answer = step(numbers, |ledger| ledger.step_message(&message));
+    let answer = ledger.step_message(&message);
     *used_told = used as u64;
     *rule_told = answer.rule.map_or(0, u64::from);
+    numbers::put(&ledger, numbers);
     answer.number
 }
 
@@ -52,12 +56,11 @@ pub fn arrival(alias: u64, group: u64, object: u64, numbers: &mut [u64]) -> u8 {
 
 /// Arrivals, three numbers of `run` each. Into `answers` the number of each.
 pub fn arrivals(run: &[u64], numbers: &mut [u64], answers: &mut [u8]) -> u8 {
+    let Some((mut ledger, numbers)) = checked(numbers) else {
+        return NOT_A_LEDGER;
+    };
     let Some(room) = answers.get_mut(..run.len() / 3) else {
         return SHORT;
-    };
-    let Some((mut ledger, numbers)) = checked(numbers) else {
-        room.fill(NOT_A_LEDGER);
-        return WHOLE;
     };
     for (each, answer) in run.chunks_exact(3).zip(room) {
         *answer = ledger.step_arrival(each[0], each[1], each[2]).number;

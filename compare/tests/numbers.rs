@@ -200,7 +200,9 @@ fn every_answer_is_reached() {
         let word = case.call.word();
         let (answer, numbers, info, answers) = put(&case);
         seen.insert((word, answer, if info[0] == 99 { 0 } else { info[1] }));
-        seen.extend(answers.iter().map(|answer| ("each", *answer, 0)));
+        if answer == 0 {
+            seen.extend(answers.iter().map(|answer| ("each", *answer, 0)));
+        }
         let was = ledger_of(&case.numbers).is_some();
         assert_eq!(numbers.get(COUNT..), case.numbers.get(COUNT..));
         if was || answer == 8 {
@@ -209,11 +211,10 @@ fn every_answer_is_reached() {
             assert_eq!(numbers, case.numbers);
         }
     }
-    let arrived = "5 10 14 16 17 18 19";
     let expected = [
-        ("arrival", arrived),
-        ("arrivals", "0"),
-        ("each", arrived),
+        ("arrival", "5 10 14 16 17 18 19"),
+        ("arrivals", "0 14"),
+        ("each", "5 10 16 17 18 19"),
         ("malformed", "10 13 14"),
         ("start", "5 7 8 15"),
         (
@@ -253,8 +254,8 @@ fn every_session_is_reached() {
     assert!(rows.contains(&0) && rows.contains(&63) && rows.contains(&64));
 }
 
-/// Too few numbers answer 14, and 7 at a start; too little room is 7, before
-/// the numbers are looked at.
+/// Too few numbers answer 14, and 7 at a start; a ledger answers 7 where there
+/// is too little room. Neither changes anything.
 #[test]
 fn rooms() {
     let mut short = [0; COUNT - 1];
@@ -265,15 +266,20 @@ fn rooms() {
     assert_eq!(calls::arrival(u64::MAX, 0, 0, &mut short), 14);
     let cancel = bytes("17 01 05 FF");
     let mut info = [99; 3];
-    assert_eq!(calls::take(&cancel, &mut short, &mut info[..1]), 7);
+    assert_eq!(calls::take(&cancel, &mut short, &mut info[..1]), 14);
     assert_eq!(calls::take(&cancel[..2], &mut short, &mut info[..1]), 1);
-    assert_eq!(info, [99; 3]);
     assert_eq!(calls::take(&cancel, &mut short, &mut info), 14);
-    assert_eq!(info, [3, 0, 99]);
     let mut answers = [99; 2];
-    assert_eq!(calls::arrivals(&[0; 9], &mut short, &mut answers), 7);
-    assert_eq!(answers, [99; 2]);
-    assert_eq!(calls::arrivals(&[0; 5], &mut short, &mut answers), 0);
-    assert_eq!(answers, [14, 99]);
+    assert_eq!(calls::arrivals(&[0; 9], &mut short, &mut answers), 14);
+    assert_eq!(calls::arrivals(&[0; 5], &mut short, &mut answers), 14);
     assert_eq!(short, [0; COUNT - 1]);
+
+    let ledger = beginning(&[0, 0, 64, 10]);
+    let mut numbers = ledger;
+    assert_eq!(calls::take(&cancel, &mut numbers, &mut info[..1]), 7);
+    assert_eq!(calls::arrivals(&[0; 9], &mut numbers, &mut answers), 7);
+    assert_eq!((numbers, info, answers), (ledger, [99; 3], [99; 2]));
+    assert_eq!(calls::take(&cancel, &mut numbers, &mut info), 9);
+    assert_eq!(calls::arrivals(&[0; 5], &mut numbers, &mut answers), 0);
+    assert_eq!((info, answers), ([3, 0, 99], [18, 99]));
 }

@@ -2,9 +2,11 @@
 use Prim.Native.Nat.{ℕ, _≤_, _<_}
 use mathlib.Core.Path.{_≡_, refl, sym, ap, _∙_}
 use mathlib.Core.Bool.{Bool, true, false}
-use mathlib.Core.List.{List, []}
+use mathlib.Core.List.{List, [], _∷_}
 use native.Mathlib.Omega.{arith}
 use borrow.Author.Tests.{leb-true, le-leb, lt-leb, eq-eqb, ne-eqb}
+use denote.Enum.Declared.{tagOf}
+use types.Run.{OneOf, miss}
 use lib.ListN.{length, set}
 use lib.Dec.{leb}
 use Rattle.integer.specs.Answer.{pick, number}
@@ -15,6 +17,8 @@ use Rattle.message.specs.Reading.{readOf, told as toldReading}
 use Rattle.message.specs.Made.{answerOf}
 use Rattle.message.specs.declared.Message.{Message}
 use Rattle.message.specs.declared.Reading.{Reading}
+use Rattle.message.specs.declared.Reading.the-variants.{Whole, More, Unknown, TooLong, Unfilled, Forbidden, Oversize}
+use Rattle.message.proofs.Reading.{the-type}
 use Rattle.message.proofs.Once.{answer-back}
 use Rattle.ledger.specs.Ledgers.{emptyLedger}
 use Rattle.ledger.specs.Answers.{Came, said, told, done}
@@ -112,13 +116,21 @@ module _ (before : List ℕ) {l : Ledger} (e : l ≡ unpackOf before) (t : Taken
   pub stepped : (step : Ledger → Came) → told t ≡ step l → Does (answered (step (unpackOf before)) before) n after []
   stepped step s = rw (← e, ← s) (record { says = says; leaves = keeps; tells = refl })
 
-  -- a message, with what is told beside
-  pub taken : (m : Message) (used : ℕ) {rule : ℕ} (info : List ℕ) → told t ≡ takeOf l m → rule ≡ said (t .answer) .rule → 2 ≤ length info → Does (telling (takeOf (unpackOf before) m) used before info) n after (set (set info 0 used) 1 rule)
-  taken m used {rule} info s f h =
-      rw (← e, ← s, le-leb 2 (length info) h) (record { says = says; leaves = keeps; tells = rw (← f) (two info used rule h) })
+-- a message, by what it is answered
+module _ (before info : List ℕ) (m : Message) (used : ℕ) {l : Ledger} (e : l ≡ unpackOf before) (t : Taken) (s : told t ≡ takeOf l m) {n : ℕ} (says : n ≡ said (t .answer) .number) where
+  pub no-ledger : n ≡ 14 → Does (telling (takeOf (unpackOf before) m) used before info) 14 before info
+  no-ledger h = rw (← e, ← s, ← says, h) (record { says = refl; leaves = refl; tells = refl })
 
-pub not-told : (c : Came) (used : ℕ) (before info : List ℕ) → length info < 2 → Does (telling c used before info) 7 before info
-not-told c used before info h = rw (lt-leb 2 (length info) h) (record { says = refl; leaves = refl; tells = refl })
+  module _ (h : n ≡ 14 → ⊥) where
+    pub not-told : length info < 2 → Does (telling (takeOf (unpackOf before) m) used before info) 7 before info
+    not-told k =
+        rw (← e, ← s, ← says, ne-eqb n 14 h, lt-leb 2 (length info) k) (record { says = refl; leaves = refl; tells = refl })
+
+    -- with what is told beside
+    pub taken : {rule : ℕ} {after : List ℕ} → after ≡ keptIn before (t .ledger) → rule ≡ said (t .answer) .rule → 2 ≤ length info → Does (telling (takeOf (unpackOf before) m) used before info) n after (set (set info 0 used) 1 rule)
+    taken {rule} keeps f k =
+        rw (← e, ← s, ← says, ne-eqb n 14 h, le-leb 2 (length info) k)
+        (record { says = refl; leaves = keeps; tells = rw (← f) (two info used rule k) })
 
 -- a reading decides
 pub read-as : (s before info : List ℕ) {r v : Reading} {n : ℕ} {out inf : List ℕ} → toldReading r ≡ readOf s → r ≡ v → Does (takenBy v before info) n out inf → Does (messageIn s before info) n out inf
@@ -126,6 +138,20 @@ unfolding messageIn
 read-as s before info {r} {v} f h d =
     let e : answerOf (readOf s) ≡ v = ap answerOf (sym f) ∙ answer-back r ∙ h in
     rw e d
+
+-- "every other reading ends there", by the place of its variant
+not-whole : (r : Reading) (before info : List ℕ) → OneOf (1 ∷ 2 ∷ 3 ∷ 4 ∷ 5 ∷ 6 ∷ []) (tagOf the-type r) → Does (takenBy r before info) (number (toldReading r)) before info
+unfolding number
+not-whole (Whole m used) before info h = absurd (miss (1 ∷ 2 ∷ 3 ∷ 4 ∷ 5 ∷ 6 ∷ []) 0 tt h)
+not-whole More before info h = record { says = refl; leaves = refl; tells = refl }
+not-whole Unknown before info h = record { says = refl; leaves = refl; tells = refl }
+not-whole TooLong before info h = record { says = refl; leaves = refl; tells = refl }
+not-whole Unfilled before info h = record { says = refl; leaves = refl; tells = refl }
+not-whole Forbidden before info h = record { says = refl; leaves = refl; tells = refl }
+not-whole Oversize before info h = record { says = refl; leaves = refl; tells = refl }
+
+pub read-else : (s before info : List ℕ) (r : Reading) {n : ℕ} → toldReading r ≡ readOf s → OneOf (1 ∷ 2 ∷ 3 ∷ 4 ∷ 5 ∷ 6 ∷ []) (tagOf the-type r) → n ≡ number (toldReading r) → Does (messageIn s before info) n before info
+read-else s before info r f h says = read-as s before info {r = r} f refl (rw says (not-whole r before info h))
 
 -- ---- a run of arrivals
 

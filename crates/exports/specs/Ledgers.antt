@@ -43,12 +43,14 @@ malformedIn before = answered (malformedOf (unpackOf before)) before
 unfoldable pub arrivalIn : Arrival → List ℕ → Doing
 arrivalIn a before = answered (arrivalOf (unpackOf before) a) before
 
--- a message read from the front of bytes: "info[0] bytes used, info[1] the rule", 0 where none is broken
+-- a message read from the front of bytes: "info[0] bytes used, info[1] the rule", 0 where none is broken; 14 goes before 7, and
+-- neither changes anything
 abbrev pub telling : Came → ℕ → List ℕ → List ℕ → Doing
 telling c used before info =
-    pick (leb 2 (length info))
+    pick (eqb (c .says .number) 14) (refusing 14 before info)
+    (pick (leb 2 (length info))
     (record { says = c .says .number; out = keptIn before (c .next); info = over (used ∷ c .says .rule ∷ []) info })
-    (refusing 7 before info)
+    (refusing 7 before info))
 
 -- "Only a whole message reaches the ledger; every other reading ends there"
 abbrev pub takenBy : Reading → List ℕ → List ℕ → Doing
@@ -63,7 +65,7 @@ takenBy Oversize before info = refusing 6 before info
 unfoldable pub messageIn : List ℕ → List ℕ → List ℕ → Doing
 messageIn s before info = takenBy (answerOf (readOf s)) before info
 
--- a run of arrivals, and 01's number of each; 7 where there is no room for these
+-- a run of arrivals, and 01's number of each; 14, and 7 where there is no room for these
 unfoldable pub arrivalsIn : List ℕ → List ℕ → List ℕ → Doing
 arrivalsIn run before answers =
     let w = runOf (unpackOf before) run answers in

@@ -1,5 +1,8 @@
 // A ledger, which the caller holds as numbers (the crate packed says which). What is no ledger answers 14, and stays as it is.
+ghost use mathlib.Core.Path.{_≡_};
 ghost use mathlib.Core.List.{[]};
+ghost use Rattle.integer.specs.Answer.{number};
+ghost use Rattle.message.specs.Reading.{told};
 ghost use Rattle.rewrite.specs.Rewriting.{Does};
 ghost use Rattle.exports.specs.Ledgers.{started, malformedIn, arrivalIn, messageIn, arrivalsIn};
 use field::Arrival;
@@ -34,30 +37,44 @@ pub extern "C" fn moq_ledger_start(part: u64, rows: u64, maximum: u64, numbers: 
     8
 }
 
-// The control message at the front of s: into `info` the bytes used, and the rule that it breaks.
+// The control message at the front of s: into `info` the bytes used, and the rule that it breaks. Only a whole message reaches
+// the ledger; every other reading ends here.
 #[no_mangle]
 pub extern "C" fn moq_ledger_take(s: &[u8], numbers: &mut [u64], info: &mut [u64]) -> u64
     ensures { λ r. ⌜ Does (messageIn (now (s .entry)) (now (numbers .entry)) (now (info .entry))) r (now (numbers .exit)) (now (info .exit)) ⌝ }
 {
-    match message::read(s) {
+    let reading = message::read(s);
+    let Reading::Whole(m, used) = reading else {
+        return refusal(reading);
+    };
+    let l = packed::unpack(numbers);
+    let t = l.take(m);
+    let answer = t.answer;
+    let said = ledger::number(answer) as u64;
+    if said == 14 {
+        return 14;
+    }
+    if info.len() < 2 {
+        return 7;
+    }
+    info[0] = used as u64;
+    info[1] = ledger::broken(answer) as u64;
+    packed::keep(numbers, t.ledger);
+    said
+}
+
+// Document 01's number of a reading.
+fn refusal(reading: Reading) -> u64
+    ensures { λ r. ⌜ r ≡ number (told reading) ⌝ }
+{
+    match reading {
+        Reading::Whole(_, _) => 0,
         Reading::More => 1,
         Reading::Unknown => 2,
         Reading::TooLong => 3,
         Reading::Unfilled => 4,
         Reading::Forbidden => 5,
         Reading::Oversize => 6,
-        Reading::Whole(m, used) => {
-            if info.len() < 2 {
-                return 7;
-            }
-            let l = packed::unpack(numbers);
-            let t = l.take(m);
-            let answer = t.answer;
-            info[0] = used as u64;
-            info[1] = ledger::broken(answer) as u64;
-            packed::keep(numbers, t.ledger);
-            ledger::number(answer) as u64
-        }
     }
 }
 
@@ -102,6 +119,7 @@ pub extern "C" fn moq_ledger_arrivals(run: &[u64], numbers: &mut [u64], answers:
     packed::keep(numbers, t.ledger);
     match answer {
         Filled::Done(_) => 0,
+        Filled::NotALedger => 14,
         Filled::TooShort => 7,
     }
 }

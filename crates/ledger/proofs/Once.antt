@@ -12,7 +12,7 @@ use Rattle.ledger.specs.declared.Answer.{Answer}
 use Rattle.ledger.specs.declared.Answer.the-variants.{Forbidden, Done, NotKept, AlreadyClosed, Full, Stale, Breaks, NotALedger, StartRefused, Counted, Outside, NoRow, StillPending}
 use Rattle.ledger.specs.declared.Taken.{Taken}
 use Rattle.ledger.specs.declared.Filled.{Filled}
-use Rattle.ledger.specs.declared.Filled.the-variants.{Done as Enough, TooShort}
+use Rattle.ledger.specs.declared.Filled.the-variants.{Done as Enough, NotALedger as NoLedger, TooShort}
 use Rattle.ledger.specs.declared.Ran.{Ran}
 use Rattle.ledger.specs.Runs.{Run, saying, Runs}
 
@@ -75,11 +75,12 @@ told-once a b e =
 
 filledOf : AnswerOf Nothing → Filled
 filledOf (whole n used) = Enough used
-filledOf (refused n) = TooShort
+filledOf (refused n) = pick (eqb n 14) NoLedger TooShort
 
 filled-back : (f : Filled) → filledOf (saying f) ≡ f
 unfolding filledOf
 filled-back (Enough count) = refl
+filled-back NoLedger = refl
 filled-back TooShort = refl
 
 -- two runs that do the same are the same

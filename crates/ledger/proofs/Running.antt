@@ -25,12 +25,11 @@ use Rattle.ledger.specs.Answers.{Came, same, stops, gateOf, gated}
 use Rattle.ledger.specs.Steps.{find, aliasOf, rowAt, changed, arriveAt, arrivedAt, arrivalStep, arrivalOf, smallArrival}
 use Rattle.ledger.specs.Runs.{arrivalsIn, arrivedNumber, itself, behind, numbersOf, Run, runOf, saying, Runs}
 use Rattle.ledger.specs.declared.Ledger.{Ledger}
-use Rattle.ledger.specs.declared.Filled.the-variants.{Done, TooShort}
+use Rattle.ledger.specs.declared.Filled.the-variants.{Done, NotALedger, TooShort}
 use Rattle.ledger.specs.declared.Ran.{Ran}
 use Rattle.ledger.specs.declared.Found.{Found}
 use Rattle.ledger.specs.declared.Found.the-variants.{At, Missing}
 use Rattle.ledger.proofs.Facts.{parts, ledger-used}
-use Rattle.ledger.proofs.Gates.{gate-passed}
 use Rattle.ledger.proofs.Finds.{found-used}
 use Rattle.ledger.proofs.Naming.{take-map, find-map}
 use Rattle.ledger.proofs.Behind.{arrived-is, same-row}
@@ -110,22 +109,20 @@ module _ (l : Ledger) (a : Arrival) where
   unfolding arrivalOf gated
   arrival-went e = rw e
 
-  no-ledger : isLedger l ≡ false → gateOf l (smallArrival a) ≡ 14
+  -- what is no ledger stays what it is
+  no-ledger : isLedger l ≡ false → arrivalOf l a .next ≡ l
   unfolding gateOf stops
-  no-ledger e = rw e
+  no-ledger e = ap (λ (c : Came). c .next) (arrival-stopped 14 (rw e) (λ z. omega arith))
 
-  -- a ledger stays one, and what is none stays what it is
-  arrival-ledger : isLedger (arrivalOf l a .next) ≡ isLedger l
-  arrival-ledger = go (isLedger l) refl
-    where
-      go : (b : Bool) → isLedger l ≡ b → isLedger (arrivalOf l a .next) ≡ b
-      go true e = keeps-arrival l e a
-      go false e = ap (λ (c : Came). isLedger (c .next)) (arrival-stopped 14 (no-ledger e) (λ z. omega arith)) ∙ e
+none-behind : (l : Ledger) (came : List Arrival) → isLedger l ≡ false → behind l came ≡ l
+unfolding behind
+none-behind l [] e = refl
+none-behind l (a ∷ came) e = rw (no-ledger l a e) (none-behind l came e)
 
 -- ---- along a run
 
-pub record Along (start : Ledger) (run before names : List ℕ) (valid opened : Bool) (used : ℕ) (answers : List ℕ) (l : Ledger) (k : ℕ) : Type 0 where
-  pub is : valid ≡ isLedger l
+pub record Along (start : Ledger) (run before names : List ℕ) (opened : Bool) (used : ℕ) (answers : List ℕ) (l : Ledger) (k : ℕ) : Type 0 where
+  pub is : isLedger l ≡ true
   pub goes : opened ≡ isOpen (l .session)
   pub uses : used ≡ l .used
   pub named : names ≡ map aliasOf (l .rows)
@@ -136,19 +133,19 @@ pub record Along (start : Ledger) (run before names : List ℕ) (valid opened : 
   pub more : told ++ numbersOf l (arrivalsIn (drop (3 * k) run)) ≡ numbersOf start (arrivalsIn run)
 
 -- before the first
-pub begins : (l : Ledger) (run before names : List ℕ) {valid opened : Bool} → valid ≡ isLedger l → opened ≡ isOpen (l .session) → names ≡ map aliasOf (l .rows) → Along l run before names valid opened (l .used) before l 0
+pub begins : (l : Ledger) (run before names : List ℕ) {opened : Bool} → isLedger l ≡ true → opened ≡ isOpen (l .session) → names ≡ map aliasOf (l .rows) → Along l run before names opened (l .used) before l 0
 begins l run before names v o n =
     record { is = v; goes = o; uses = refl; named = n; rest = refl; told = []; so-far = refl; holds = refl; more = refl }
 
-module _ {start : Ledger} {run before names : List ℕ} {valid opened : Bool} {used : ℕ} {answers : List ℕ} {l : Ledger} {k : ℕ} (g : Along start run before names valid opened used answers l k) where
+module _ {start : Ledger} {run before names : List ℕ} {opened : Bool} {used : ℕ} {answers : List ℕ} {l : Ledger} {k : ℕ} (g : Along start run before names opened used answers l k) where
   module _ (h : 3 * k + 2 < length run) (room : k < length before) where
     -- one turn: the next ledger and the number are those of the arrival
-    turn : {n : ℕ} {next : Ledger} → next ≡ arrivalOf l (arrivalAt run (3 * k)) .next → n ≡ arrivalOf l (arrivalAt run (3 * k)) .says .number → Along start run before names valid opened used (set answers k n) next (k + 1)
+    turn : {n : ℕ} {next : Ledger} → next ≡ arrivalOf l (arrivalAt run (3 * k)) .next → n ≡ arrivalOf l (arrivalAt run (3 * k)) .says .number → Along start run before names opened used (set answers k n) next (k + 1)
     unfolding behind numbersOf
     turn {n} {next} to says =
         let a = arrivalAt run (3 * k) in
         record {
-          is = rw to (g .is ∙ sym (arrival-ledger l a));
+          is = rw to (keeps-arrival l (g .is) a);
           goes = rw to (g .goes ∙ ap isOpen (sym (arrival-session l a)));
           uses = rw to (g .uses ∙ sym (arrival-used l a));
           named = rw to (g .named ∙ sym (arrival-names l a));
@@ -161,25 +158,22 @@ module _ {start : Ledger} {run before names : List ℕ} {valid opened : Bool} {u
           more = rw (to, says) (append-snoc (g .told) _ _ ∙ (rw (three run k h) at (g .more)));
         }
 
-    module _ {n : ℕ} (first : n ≡ stops valid (smallArrival (arrivalAt run (3 * k))) opened) where
+    module _ {n : ℕ} (first : n ≡ stops true (smallArrival (arrivalAt run (3 * k))) opened) where
       gate : n ≡ gateOf l (smallArrival (arrivalAt run (3 * k)))
       unfolding gateOf
       gate = first ∙ rw (g .is, g .goes)
 
-      pub stopped-turn : (n ≡ 0 → ⊥) → Along start run before names valid opened used (set answers k n) l (k + 1)
+      pub stopped-turn : (n ≡ 0 → ⊥) → Along start run before names opened used (set answers k n) l (k + 1)
       stopped-turn z =
           let e = arrival-stopped l (arrivalAt run (3 * k)) n (sym gate) z in
           turn (sym (ap (λ (c : Came). c .next) e)) (sym (ap (λ (c : Came). c .says .number) e))
 
       module _ (z : n ≡ 0) where
-        is-ledger : isLedger l ≡ true
-        is-ledger = gate-passed l (smallArrival (arrivalAt run (3 * k))) (sym gate ∙ z) .0
-
         -- the names in use fit
         pub fits : (used ≤ 64) × (used ≤ length names)
         fits =
-            let few = ledger-used l is-ledger in
-            let long : length names ≡ 64 = ap length (g .named) ∙ length-map (l .rows) aliasOf ∙ parts l is-ledger .long in
+            let few = ledger-used l (g .is) in
+            let long : length names ≡ 64 = ap length (g .named) ∙ length-map (l .rows) aliasOf ∙ parts l (g .is) .long in
             (omega (arith, g .uses), omega (arith, g .uses))
 
         module _ {f : Found} (found : f ≡ find itself (getD run (3 * k) 0) 0 (take used names)) where
@@ -191,16 +185,16 @@ module _ {start : Ledger} {run before names : List ℕ} {valid opened : Bool} {u
           unfolding arrivalStep
           step = arrival-went l (arrivalAt run (3 * k)) (sym gate ∙ z) ∙ rw by-alias
 
-          pub missed-turn : f ≡ Missing → Along start run before names valid opened used (set answers k 18) l (k + 1)
+          pub missed-turn : f ≡ Missing → Along start run before names opened used (set answers k 18) l (k + 1)
           missed-turn e =
               let s = step ∙ ap (λ (x : Found). arriveAt l x (arrivalAt run (3 * k) .place)) e in
               turn (sym (ap (λ (c : Came). c .next) s)) (sym (ap (λ (c : Came). c .says .number) s))
 
           module _ {i : ℕ} (at : f ≡ At i) where
             pub inside : i < 64
-            inside = omega (arith, found-used aliasOf (getD run (3 * k) 0) l by-alias at, ledger-used l is-ledger)
+            inside = omega (arith, found-used aliasOf (getD run (3 * k) 0) l by-alias at, ledger-used l (g .is))
 
-            pub counted-turn : {w : Arriving} {r : Row} {m : ℕ} → w ≡ arriveOf (rowAt l i) (arrivalAt run (3 * k) .place) → r ≡ leftBy w (rowAt l i) → m ≡ arrivedNumber w → Along start run before names valid opened used (set answers k m) (changed l i r) (k + 1)
+            pub counted-turn : {w : Arriving} {r : Row} {m : ℕ} → w ≡ arriveOf (rowAt l i) (arrivalAt run (3 * k) .place) → r ≡ leftBy w (rowAt l i) → m ≡ arrivedNumber w → Along start run before names opened used (set answers k m) (changed l i r) (k + 1)
             counted-turn {w} {r} {m} came left number =
                 let s = step ∙ ap (λ (x : Found). arriveAt l x (arrivalAt run (3 * k) .place)) at ∙ ap (arrivedAt l i) (sym came) in
                 turn (rw left (sym (ap (λ (c : Came). c .next) s ∙ next-is w))) (number ∙ sym (ap (λ (c : Came). c .says .number) s ∙ number-is w))
@@ -230,20 +224,20 @@ module _ {start : Ledger} {run before names : List ℕ} {valid opened : Bool} {u
     unfolding behind
     all-behind = rw over-all at (g .rest)
 
-    pub ends : count ≤ length before → Runs (runOf start run before) (record { answer = Done count; ledger = l }) answers
+    pub ends : isLedger start ≡ true → count ≤ length before → Runs (runOf start run before) (record { answer = Done count; ledger = l }) answers
     unfolding runOf
-    ends room =
+    ends valid room =
         let counts : count ≡ length (arrivalsIn run) = e ∙ sym (thirds run) in
         let fits = le-leb (length (arrivalsIn run)) (length before) (omega arith) in
         let told : k ≡ length (numbersOf start (arrivalsIn run)) = sym (g .so-far) ∙ ap length all-told in
         record {
-          says = rw fits (ap wrote counts);
-          next = rw fits all-behind;
-          holds = rw fits (g .holds ∙ (λ i. all-told i ++ drop (told i) before));
+          says = rw (valid, fits) (ap wrote counts);
+          next = rw (valid, fits) all-behind;
+          holds = rw (valid, fits) (g .holds ∙ (λ i. all-told i ++ drop (told i) before));
         }
 
 -- the buffer stays as long as it was
-pub same-long : {start : Ledger} {run before names : List ℕ} {valid opened : Bool} {used : ℕ} {answers : List ℕ} {l : Ledger} {k : ℕ} → Along start run before names valid opened used answers l k → k ≤ length before → length answers ≡ length before
+pub same-long : {start : Ledger} {run before names : List ℕ} {opened : Bool} {used : ℕ} {answers : List ℕ} {l : Ledger} {k : ℕ} → Along start run before names opened used answers l k → k ≤ length before → length answers ≡ length before
 same-long {before = before} {k = k} g h =
     ap length (g .holds) ∙ length-append (g .told) (drop k before) ∙ rw (g .so-far, length-drop k before) (omega arith)
 
@@ -251,9 +245,26 @@ same-long {before = before} {k = k} g h =
 pub within : (n k : ℕ) → k < n / 3 → 3 * k + 2 < n
 within n k h = omega (arith, div-mul-le-self n 3)
 
--- no room for the numbers
-pub no-room : (l : Ledger) (run before : List ℕ) {count : ℕ} → count ≡ length run / 3 → length before < count → Runs (runOf l run before) (record { answer = TooShort; ledger = l }) before
+-- what is no ledger takes none
+pub not-one : (l : Ledger) (run before : List ℕ) → isLedger l ≡ false → Runs (runOf l run before) (record { answer = NotALedger; ledger = l }) before
 unfolding runOf
-no-room l run before e h =
+not-one l run before e = record { says = rw e; next = rw e; holds = rw e }
+
+-- no room for the numbers
+pub no-room : (l : Ledger) (run before : List ℕ) {count : ℕ} → isLedger l ≡ true → count ≡ length run / 3 → length before < count → Runs (runOf l run before) (record { answer = TooShort; ledger = l }) before
+unfolding runOf
+no-room l run before valid e h =
     let short = lt-leb (length (arrivalsIn run)) (length before) (omega (arith, thirds run)) in
-    record { says = rw short; next = rw short; holds = rw short }
+    record { says = rw (valid, short); next = rw (valid, short); holds = rw (valid, short) }
+
+-- where there is room, the ledger behind a run is that behind its arrivals, also of what is no ledger
+pub run-behind : (l : Ledger) (run before : List ℕ) → length (arrivalsIn run) ≤ length before → runOf l run before .next ≡ behind l (arrivalsIn run)
+unfolding runOf
+run-behind l run before room = go (isLedger l) refl
+  where
+    fits : leb (length (arrivalsIn run)) (length before) ≡ true
+    fits = le-leb (length (arrivalsIn run)) (length before) room
+
+    go : (b : Bool) → isLedger l ≡ b → runOf l run before .next ≡ behind l (arrivalsIn run)
+    go true e = rw (e, fits)
+    go false e = rw e (sym (none-behind l (arrivalsIn run) e))

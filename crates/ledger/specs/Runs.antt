@@ -9,10 +9,11 @@ use Rattle.integer.specs.Integer.{over}
 use Rattle.field.specs.declared.Arrival.{Arrival}
 use Rattle.row.specs.declared.Arriving.{Arriving}
 use Rattle.row.specs.declared.Arriving.the-variants.{Waiting, Outside, Counted}
+use Rattle.ledger.specs.Ledgers.{isLedger}
 use Rattle.ledger.specs.Steps.{arrivalOf}
 use Rattle.ledger.specs.declared.Ledger.{Ledger}
 use Rattle.ledger.specs.declared.Filled.{Filled}
-use Rattle.ledger.specs.declared.Filled.the-variants.{Done, TooShort}
+use Rattle.ledger.specs.declared.Filled.the-variants.{Done, NotALedger, TooShort}
 use Rattle.ledger.specs.declared.Ran.{Ran}
 
 -- "An arrival is alias, group, object"; one or two numbers at the end are none
@@ -49,16 +50,24 @@ pub record Run : Type 0 where
   pub next : Ledger
   pub holds : List ℕ
 
--- 7 where there is no room for a number for each arrival, and then nothing is changed
+-- a refusal changes nothing
+abbrev pub noRun : Ledger → List ℕ → ℕ → Run
+noRun l before number = record { says = refused number; next = l; holds = before }
+
+-- "Order: 14, 5, 10, then the rest": 14 is of the call, and goes before 7, where there is no room for a number for each arrival;
+-- 5 and 10 are of an arrival
 unfoldable pub runOf : Ledger → List ℕ → List ℕ → Run
 runOf l run before =
     let came = arrivalsIn run in
-    pick (leb (length came) (length before))
+    pick (isLedger l)
+    (pick (leb (length came) (length before))
     (record { says = wrote (length came); next = behind l came; holds = over (numbersOf l came) before })
-    (record { says = refused 7; next = l; holds = before })
+    (noRun l before 7))
+    (noRun l before 14)
 
 abbrev pub saying : Filled → Answer Nothing
 saying (Done count) = wrote count
+saying NotALedger = refused 14
 saying TooShort = refused 7
 
 pub record Runs (w : Run) (r : Ran) (after : List ℕ) : Type 0 where

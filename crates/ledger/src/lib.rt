@@ -76,9 +76,10 @@ pub struct Taken {
     pub ledger: Ledger,
 }
 
-// What a run of arrivals answers: how many there were, or that there is no room for their answers.
+// What a run of arrivals answers: how many there were; that it is no ledger; or that there is no room for their answers.
 pub enum Filled {
     Done(usize),
+    NotALedger,
     TooShort,
 }
 

@@ -1,5 +1,6 @@
-// A run of arrivals in one call: what every call looks at first is looked at once, and the ledger stays in its place.
+// A run of arrivals in one call: whether it is a ledger, and open, is looked at once, and the ledger stays in its place.
 ghost use mathlib.Core.Path.{_≡_};
+ghost use mathlib.Core.Bool.{true};
 ghost use mathlib.Core.List.{map};
 ghost use Prim.Native.Nat.{_≤_};
 ghost use lib.ListN.{length, take};
@@ -22,10 +23,16 @@ use row::Row;
 
 impl Ledger {
     // The run holds three numbers for each arrival: alias, group, object. Document 01's number for each is put at the front of
-    // answers.
+    // answers. What is no ledger takes none of them.
     pub fn arrivals(self, run: &[u64], answers: &mut [u8]) -> Ran
         ensures { λ r. ⌜ Runs (runOf self (now (run .entry)) (now (answers .entry))) r (now (answers .exit)) ⌝ }
     {
+        if !is_ledger(self) {
+            return Ran {
+                answer: Filled::NotALedger,
+                ledger: self,
+            };
+        }
         let count = run.len() / 3;
         if answers.len() < count {
             return Ran {
@@ -34,7 +41,6 @@ impl Ledger {
             };
         }
         let session = self.session;
-        let valid = is_ledger(self);
         let opened = is_open(session);
         let used = self.used;
         let names = aliases(self);
@@ -46,7 +52,7 @@ impl Ledger {
             let group = run[at + 1];
             let object = run[at + 2];
             let place = Place { group, object };
-            let mut n = first(valid, opened, Arrival { alias, place });
+            let mut n = first(opened, Arrival { alias, place });
             if n == 0 {
                 n = 18;
                 if let Found::At(i) = find_name(&names, used, alias) {
@@ -73,13 +79,10 @@ fn is_open(session: Session) -> bool
     }
 }
 
-// 14, 5, 10 in this order, or 0 where the arrival is looked at.
-fn first(valid: bool, opened: bool, a: Arrival) -> u8
-    ensures { λ r. ⌜ r ≡ stops valid (smallArrival a) opened ⌝ }
+// An arrival at a ledger: 5, 10 in this order, or 0 where it is looked at.
+fn first(opened: bool, a: Arrival) -> u8
+    ensures { λ r. ⌜ r ≡ stops true (smallArrival a) opened ⌝ }
 {
-    if !valid {
-        return 14;
-    }
     if !is_small(a) {
         return 5;
     }

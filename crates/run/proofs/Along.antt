@@ -5,7 +5,7 @@ use mathlib.Core.Bool.{Bool, true, false}
 use mathlib.Core.List.{List, [], _∷_, _++_, append-assoc}
 use native.Mathlib.Nat.{mod-add-mod, mod-eq-of-lt, div-mul-le-self}
 use native.Mathlib.Omega.{arith}
-use borrow.Author.Tests.{le-leb, eqb-true}
+use borrow.Author.Tests.{eqb-true}
 use lib.Dec.{eqb}
 use lib.ListN.{length, take, drop, set, length-drop, length-set}
 use lib.Seq.{length-take-le, drop-drop, getD-take, take-suc-set}
@@ -13,7 +13,7 @@ use Rattle.field.specs.declared.Arrival.{Arrival}
 use Rattle.ledger.specs.Steps.{arrivalOf}
 use Rattle.ledger.specs.Runs.{arrivalsIn, behind, runOf}
 use Rattle.ledger.specs.declared.Ledger.{Ledger}
-use Rattle.ledger.proofs.Running.{thirds}
+use Rattle.ledger.proofs.Running.{thirds, run-behind}
 use Rattle.trace.specs.Fields.{tagOf, valueOf, sizeOf, isWhole, fieldOf}
 use Rattle.trace.specs.Feeding.{Held, feed}
 use Rattle.trace.specs.declared.Field.{Field}
@@ -46,10 +46,9 @@ stepped p e size d h s o =
 
 -- arrivals that fit are all taken
 pub taken-all : (p : Progress) (run before : List ℕ) (size : ℕ) {l : Ledger} {offset : ℕ} → length run ≤ 3 * length before → l ≡ runOf (p .ledger) run before .next → offset ≡ (p .offset + size) % 2 ^ 64 → record { ledger = l; stage = p .stage; offset = offset } ≡ arrivedAll p run size
-unfolding arrivedAll offsetOf runOf
+unfolding arrivedAll offsetOf
 taken-all p run before size h k o =
-    let few = le-leb (length (arrivalsIn run)) (length before) (omega (arith, thirds run, div-mul-le-self (length run) 3)) in
-    let all = rw few at k in
+    let all = k ∙ run-behind (p .ledger) run before (omega (arith, thirds run, div-mul-le-self (length run) 3)) in
     λ i. record { ledger = all i; stage = p .stage; offset = o i }
 
 -- ---- a field at an offset

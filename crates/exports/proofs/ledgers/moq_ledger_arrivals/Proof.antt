@@ -16,10 +16,16 @@ unfolding number
 returns-2 c =
     ran _ _ _ (c .before .before .before .before .before .before .before .before .before .before .unpack .ensures) (c .before .before .before .before .before .before .before .before .arrivals .ensures) (c .before .before .before .before .keep .ensures) (c .enum-told2 .given .1) refl
 
+returns-3 : tie.Need-returns-3
+unfolding number
+returns-3 c =
+    ran _ _ _ (c .before .before .before .before .before .before .before .before .before .before .unpack .ensures) (c .before .before .before .before .before .before .before .before .arrivals .ensures) (c .before .before .before .before .keep .ensures) (c .enum-told3 .given .1) refl
+
 pub moq-ledger-arrivals-spec : {M : Type 1} → statement M
 moq-ledger-arrivals-spec =
     tie.close
     (tie.spec
-    (λ c κs. search needs) (λ c κs. search needs) (λ c κs. search needs) (λ c. search needs) (λ c. search needs)
+    (λ c κs. search needs) (λ c κs. search needs) (λ c κs. search needs) (λ c. search needs) (λ c. search needs) (λ c. search needs)
     (λ c. search needs) (λ c. search needs) returns
-    (λ c. search needs) (λ c. search needs) returns-2)
+    (λ c. search needs) (λ c. search needs) returns-2
+    (λ c. search needs) (λ c. search needs) returns-3)

@@ -6,25 +6,26 @@ use mathlib.Core.Logic.{⊎-elim}
 use native.Mathlib.Omega.{arith}
 use borrow.Author.Needs.{needs}
 use lib.ListN.{length}
+use Rattle.layout.proofs.Steps.{kept, broken}
 use Rattle.ledger.specs.Steps.{changed}
-use Rattle.ledger.proofs.Running.{Along, begins, within, stopped-turn, missed-turn, counted-turn, fits, inside, ends, same-long, no-room}
+use Rattle.ledger.proofs.Running.{Along, begins, within, stopped-turn, missed-turn, counted-turn, fits, inside, ends, same-long, not-one, no-room}
 use Rattle.ledger.proofs.Ledger.arrivals.Statement.{statement}
 use Rattle.ledger.proofs.Ledger.arrivals.Tie as tie
 
 abbrev Inv-loop : tie.InvT-loop
-Inv-loop run answers₀ count valid opened used names l₀ k₀ answers l k =
-    (count ≡ length run / 3) × (count ≤ length answers₀) × (k ≤ count) × Along l₀ run answers₀ names valid opened used answers l k
+Inv-loop run answers₀ count opened used names l₀ k₀ answers l k =
+    (count ≡ length run / 3) × (count ≤ length answers₀) × (k ≤ count) × Along l₀ run answers₀ names opened used answers l k
 
 abbrev μ-loop : tie.MeasureT-loop
-μ-loop run answers₀ count valid opened used names l₀ k₀ answers l k = count - k
+μ-loop run answers₀ count opened used names l₀ k₀ answers l k = count - k
 
 -- the numbers of the next arrival are there
-there : (c : tie.In-loop Inv-loop μ-loop) → 3 * c .before .loop .k + 2 < length (c .before .before .before .before .before .before .before .before .args .run .now)
+there : (c : tie.In-loop Inv-loop μ-loop) → 3 * c .before .loop .k + 2 < length (c .before .before .before .before .before .before .before .before .before .args .run .now)
 there c = within _ _ (omega arith)
 
 -- where a row is found, it is one of the ledger's
 spotted : (c : tie.After-known-told Inv-loop μ-loop) → c .before .i .given .0 .0 < 64
-spotted c = inside (c .before .before .before .before .before .before .before .before .before .before .before .loop .inv .3) (there (c .before .before .before .before .before .before .before .before .before .before)) (omega arith) (c .before .before .before .before .before .before .first .ensures) (c .before .before .before .before .before .if2 .taken) (c .before .before .before .find-name .ensures) (c .before .i .given .1)
+spotted c = inside (c .before .before .before .before .before .before .before .before .before .before .before .loop .inv .3) (there (c .before .before .before .before .before .before .before .before .before .before)) (omega arith) (c .before .before .before .before .before .before .first .ensures) (c .before .before .before .before .before .if3 .taken) (c .before .before .before .find-name .ensures) (c .before .i .given .1)
 
 loop-again : tie.Need-loop-again Inv-loop μ-loop
 unfolding changed
@@ -40,7 +41,7 @@ loop-again c =
           (⊎-elim
           (λ w. rw (w .5, w .6) (missed-turn g h (omega arith) first (w .0 .taken) (w .2 .ensures) (w .4 .given .1)))
           (λ w. rw (w .1, w .2) (stopped-turn g h (omega arith) first (w .0 .left))))
-          (c .if2 .came),
+          (c .if3 .came),
     )
 
 pub arrivals-spec : {M : Type 1} → statement M
@@ -48,12 +49,14 @@ arrivals-spec =
     tie.close
     (tie.spec
     Inv-loop μ-loop
-    (λ c. no-room _ _ _ refl (omega arith))
-    (λ c κs. search needs) (λ c κs. search needs) (λ c κs. search needs)
-    (λ c. (refl, omega arith, omega arith, begins _ _ _ _ (c .before .before .is-ledger .ensures) (c .before .is-open .ensures) (c .aliases .ensures)))
+    (λ c κs. search needs)
+    (λ c. not-one _ _ _ (broken (c .before .is-ledger .ensures) (c .if1 .taken)))
+    (λ c. no-room _ _ _ (kept (c .before .before .is-ledger .ensures) (c .before .if1 .left)) refl (omega arith))
+    (λ c κs. search needs) (λ c κs. search needs)
+    (λ c. (refl, omega arith, omega arith, begins _ _ _ _ (kept (c .before .before .before .before .is-ledger .ensures) (c .before .before .before .if1 .left)) (c .before .is-open .ensures) (c .aliases .ensures)))
     (λ c. omega (arith, there c)) (λ c. omega (arith, there c)) (λ c. omega (arith, there (c .before))) (λ c. omega (arith, there (c .before))) (λ c. omega (arith, there (c .before))) (λ c. omega (arith, there (c .before .before))) (λ c. omega (arith, there (c .before .before))) (λ c. omega (arith, there (c .before .before))) (λ c. omega (arith, there (c .before .before .before)))
     (λ c κs. search needs)
-    (λ c κs. fits (c .before .before .before .before .before .before .before .loop .inv .3) (there (c .before .before .before .before .before .before)) (omega arith) (c .before .before .first .ensures) (c .before .if2 .taken))
+    (λ c κs. fits (c .before .before .before .before .before .before .before .loop .inv .3) (there (c .before .before .before .before .before .before)) (omega arith) (c .before .before .first .ensures) (c .before .if3 .taken))
     (λ c. search needs) (λ c. omega (arith, spotted c)) (λ c. spotted c)
     (λ c κs. search needs) (λ c κs. search needs) (λ c. omega (arith, spotted (c .before .before .before))) (λ c. spotted (c .before .before .before))
     (λ c κs. search needs) (λ c. search needs)
@@ -61,4 +64,4 @@ arrivals-spec =
     (λ c. search needs) (λ c. search needs)
     loop-again
     (λ c. same-long (c .before .loop .inv .3) (omega arith))
-    (λ c. ends (c .before .loop .inv .3) refl (omega arith) (omega arith) (omega arith)))
+    (λ c. ends (c .before .loop .inv .3) refl (omega arith) (omega arith) (kept (c .before .before .before .before .before .before .is-ledger .ensures) (c .before .before .before .before .before .if1 .left)) (omega arith)))

@@ -1,0 +1,13 @@
+-- `refusal` meets its contract. Assumes nothing.
+use borrow.Author.Needs.{needs}
+use Rattle.integer.specs.Answer.{number}
+use Rattle.exports.proofs.ledgers.refusal.Statement.{statement}
+use Rattle.exports.proofs.ledgers.refusal.Tie as tie
+
+pub refusal-spec : {M : Type 1} → statement M
+unfolding number
+refusal-spec =
+    tie.close
+    (tie.spec
+    (λ c. search needs) (λ c. search needs) (λ c. search needs) (λ c. search needs) (λ c. search needs) (λ c. search needs) (λ c. search needs)
+    (λ c. search needs) (λ c. search needs) (λ c. search needs) (λ c. search needs) (λ c. search needs) (λ c. search needs) (λ c. search needs))
