@@ -18,7 +18,7 @@ use Rattle.row.specs.declared.Ending.{Ending}
 use Rattle.row.specs.declared.Ending.the-variants.{SubscribeError as Erring, SubscribeDone as Ended, Unsubscribe as Leaving}
 use Rattle.ledger.specs.Ledgers.{held, isLedger, isOpen}
 use Rattle.ledger.specs.Answers.{Said, Came, only, breaks, ruleNumber, isOwn}
-use Rattle.ledger.specs.Steps.{idOf, aliasOf, senderOf, endStep, smallArrival}
+use Rattle.ledger.specs.Steps.{idOf, aliasOf, endStep, smallArrival}
 use Rattle.ledger.specs.declared.Ledger.{Ledger}
 use Rattle.ledger.specs.declared.Part.{Part}
 use Rattle.ledger.specs.declared.Part.the-variants.{Publisher}
@@ -125,7 +125,7 @@ module _ {also : Row → Change → Type 0} (e : Event) (key : Row → ℕ) (n :
 pub arrival-acts : (a : Arrival) → Acts (arrival a) aliasOf (a .alias)
 arrival-acts a =
     acts-judged (arrival a) aliasOf (a .alias) (λ _. true) 16 (λ _. arrivalReply (a .place))
-    (λ l _. arrival-does l a)
+    (λ l _. arrival-does l true a)
 
 pub arrival-reply : (a : Arrival) (next : ℕ) (looked : Looked) → arrival-acts a .reply next looked ≡ judged (smallArrival a) (λ _. arrivalReply (a .place)) next looked
 unfolding arrival-acts acts-judged
@@ -161,18 +161,18 @@ module _ (m : Message) (id : ℕ) (own : Part → Bool) (reply : ℕ → Looked 
       go next r true = knows next r
       go next r false = refl
 
-ends : (m : Message) (ending : Ending) (id : ℕ) → ((l : Ledger) → stepOf l (message m) ≡ endStep l ending id) → Named m id
-ends m ending id is =
-    named-judged m id (λ part. isOwn part (senderOf ending)) (endReply ending id)
-    (λ l w. rw (is l) (end-does l (parts l w) ending id))
+ends : (m : Message) (by : Part) (ending : Ending) (id : ℕ) → ((l : Ledger) → stepOf l (message m) ≡ endStep l by ending id) → Named m id
+ends m by ending id is =
+    named-judged m id (λ part. isOwn part by) (endReply ending id)
+    (λ l w. rw (is l) (end-does l (parts l w) by ending id))
     (λ next r. pick-by (λ (x : Reply). Known idOf r (changeBy x r)) (mayEnd ending (r .state)) (λ _. tt) (λ _. refl))
 
 pub named : {m : Message} {id : ℕ} → Names m id → Named m id
 named (ok {m}) =
     named-judged (Subscription (ASubscribeOk m)) (m .id) (λ part. isOwn part Publisher) (okReply m)
     (λ l _. ok-does l m) (λ next r. opened-knows (r .state) (m .content) r)
-named (error {m}) = ends (Subscription (ASubscribeError m)) Erring (m .id) (λ _. refl)
-named (finished {m}) = ends (Subscription (ASubscribeDone m)) Ended (m .id) (λ _. refl)
-named (left {id}) = ends (Subscription (AUnsubscribe id)) Leaving id (λ _. refl)
+named (error {m}) = ends (Subscription (ASubscribeError m)) _ Erring (m .id) (λ _. refl)
+named (finished {m}) = ends (Subscription (ASubscribeDone m)) _ Ended (m .id) (λ _. refl)
+named (left {id}) = ends (Subscription (AUnsubscribe id)) _ Leaving id (λ _. refl)
 named (updated {m}) =
     named-judged (Subscription (ASubscribeUpdate m)) (m .id) (λ _. true) (λ _ _. stays not-kept) (λ _ _. stayed) (λ _ _. refl)

@@ -22,9 +22,10 @@ use Rattle.row.specs.declared.State.the-variants.{Pending, Active}
 use Rattle.row.specs.declared.Ending.{Ending}
 use Rattle.row.specs.declared.Ending.the-variants.{SubscribeError as Erring, SubscribeDone as Ended, Unsubscribe as Leaving}
 use Rattle.ledger.specs.Ledgers.{held, hasAlias, isLedger}
-use Rattle.ledger.specs.Answers.{Came, only, same, done, breaks}
+use Rattle.ledger.specs.Answers.{Came, only, same, done, isOwn, breaks}
 use Rattle.ledger.specs.Steps.{idOf, aliasOf, withMaximum, subscriptionStep}
 use Rattle.ledger.specs.declared.Ledger.{Ledger}
+use Rattle.ledger.specs.declared.Part.the-variants.{Publisher}
 use Rattle.ledger.specs.declared.Rule.{Rule}
 use Rattle.ledger.specs.declared.Rule.the-variants.{R1, R5, R6, R7}
 use Rattle.ledger.proofs.Facts.{parts}
@@ -86,9 +87,9 @@ module _ (l : Ledger) (w : isLedger l ≡ true) where
   message-moves {own = own} p is (brokenBy {rule}) = broken own rule p
   message-moves {id = id} p is (turnedBy {f} still b) = turned id f w (is f refl) b
 
-  arrival-moves : (a : Arrival) {r : Reply} {c : Came} → Does l true 16 (Counting (a .place)) aliasOf (a .alias) r c → Moves l (arrival a) c
+  arrival-moves : (a : Arrival) {r : Reply} {c : Came} → Does l (isOwn (l .part) Publisher) 16 (Counting (a .place)) aliasOf (a .alias) r c → Moves l (arrival a) c
   arrival-moves a (stayedBy {q = q}) = stayed q
-  arrival-moves a (brokenBy {rule}) = broken true rule refl
+  arrival-moves a (brokenBy {rule}) = broken _ rule refl
   arrival-moves a (turnedBy {f} is b) =
       let f-is = turn-found aliasOf (a .alias) f (counting (a .place)) (held l) (λ r _. is r) in
       counted {a = a} w (rw f-is at b)
@@ -110,9 +111,9 @@ module _ (l : Ledger) (w : isLedger l ≡ true) where
   subscription-moves (ASubscribe m) = subscribe-moves (asked l m (parts l w))
   subscription-moves (ASubscribeOk m) =
       message-moves refl (ok-turns m (l .next) (look idOf (m .id) (held l))) (ok-does l m)
-  subscription-moves (ASubscribeError m) = message-moves refl (ends Erring (m .id)) (end-does l (parts l w) Erring (m .id))
-  subscription-moves (AUnsubscribe id) = message-moves refl (ends Leaving id) (end-does l (parts l w) Leaving id)
-  subscription-moves (ASubscribeDone m) = message-moves refl (ends Ended (m .id)) (end-does l (parts l w) Ended (m .id))
+  subscription-moves (ASubscribeError m) = message-moves refl (ends Erring (m .id)) (end-does l (parts l w) _ Erring (m .id))
+  subscription-moves (AUnsubscribe id) = message-moves refl (ends Leaving id) (end-does l (parts l w) _ Leaving id)
+  subscription-moves (ASubscribeDone m) = message-moves refl (ends Ended (m .id)) (end-does l (parts l w) _ Ended (m .id))
   subscription-moves (AMaxSubscribeId id) = maximum-moves (raises l id)
   subscription-moves (ASubscribesBlocked id) = stayed not-kept
 
@@ -123,7 +124,7 @@ module _ (l : Ledger) (w : isLedger l ≡ true) where
   step-moves (message (Session m)) = stayed not-kept
   step-moves malformed = broken false R1 refl
   step-moves (arrival a) =
-      arrival-moves a (arrival-does l a)
+      arrival-moves a (arrival-does l _ a)
 
 -- every event of every ledger
 pub moves : (l : Ledger) (e : Event) → Moves l e (comes l e)

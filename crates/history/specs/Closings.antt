@@ -5,35 +5,25 @@ use mathlib.Core.List.{List, [], _∷_}
 use lib.Dec.{eqb}
 use Rattle.integer.specs.Answer.{pick}
 use Rattle.field.specs.Outcome.{both}
-use Rattle.message.specs.declared.Message.the-variants.{Subscription, Fetch, Announce, Session}
-use Rattle.subscription.specs.declared.SubscriptionMessage.{SubscriptionMessage}
-use Rattle.subscription.specs.declared.SubscriptionMessage.the-variants.{SubscribeUpdate, Subscribe, SubscribeOk, SubscribeError, Unsubscribe, SubscribeDone, MaxSubscribeId, SubscribesBlocked}
 use Rattle.ledger.specs.Answers.{isOwn, ruleNumber}
+use Rattle.ledger.specs.Senders.{Sender, the, either, senderOf}
 use Rattle.ledger.specs.declared.Part.{Part}
-use Rattle.ledger.specs.declared.Part.the-variants.{Subscriber, Publisher}
-use Rattle.ledger.specs.declared.Session.{Session as Standing}
+use Rattle.ledger.specs.declared.Part.the-variants.{Publisher}
+use Rattle.ledger.specs.declared.Session.{Session}
 use Rattle.ledger.specs.declared.Session.the-variants.{Open, Closed}
 use Rattle.history.specs.Events.{Event, message, malformed, arrival, Told}
 
--- who sends a message that may break a rule; one that breaks none is nobody's here
-abbrev pub sentBy : Part → SubscriptionMessage → Bool
-sentBy part (SubscribeUpdate m) = false
-sentBy part (Subscribe m) = isOwn part Subscriber
-sentBy part (SubscribeOk m) = isOwn part Publisher
-sentBy part (SubscribeError m) = isOwn part Publisher
-sentBy part (Unsubscribe id) = isOwn part Subscriber
-sentBy part (SubscribeDone m) = isOwn part Publisher
-sentBy part (MaxSubscribeId id) = isOwn part Publisher
-sentBy part (SubscribesBlocked id) = false
+-- whether the peer of this part is the one that sends it; what either end may send is nobody's here, since it breaks no rule
+abbrev pub fromPeer : Part → Sender → Bool
+fromPeer part (the sender) = not (isOwn part sender)
+fromPeer part either = false
 
--- whether an event is the peer's of this part
+-- whether an event is the peer's: a message by its kind; malformed always, as "the caller reports answers 2 to 6 on a peer's control
+-- bytes"; an arrival where the peer publishes, since "Objects are sent by publishers"
 abbrev pub isPeers : Part → Event → Bool
-isPeers part (message (Subscription m)) = not (sentBy part m)
-isPeers part (message (Fetch m)) = true
-isPeers part (message (Announce m)) = true
-isPeers part (message (Session m)) = true
+isPeers part (message m) = fromPeer part (senderOf m)
 isPeers part malformed = true
-isPeers part (arrival a) = false
+isPeers part (arrival a) = fromPeer part (the Publisher)
 
 -- an event of the peer's that broke a rule
 abbrev pub closing : Part → Told → Bool
@@ -50,6 +40,6 @@ firstBroken part [] = 0
 firstBroken part (t ∷ ts) = pick (closing part t) (t .says .rule) (firstBroken part ts)
 
 -- the rule that a session is closed by, 0 where it is open
-abbrev pub kept : Standing → ℕ
+abbrev pub kept : Session → ℕ
 kept Open = 0
 kept (Closed rule) = ruleNumber rule

@@ -35,10 +35,10 @@ module _ (l : Ledger) (i : ℕ) where
       go (Counted r) = refl
 
   -- a SUBSCRIBE_OK breaks a rule, or changes the row to what is behind it
-  pub opened-at : (content : Content) (P : Came → Type 0) → P (breaks l (isOwn (l .part) Publisher) R6) → P (done (changed l i (opened content (rowAt l i)))) → P (openedAt l i (openOf (rowAt l i) content))
+  pub opened-at : (content : Content) (P : Came → Type 0) → P (breaks l (isOwn (l .part) Publisher) R6) → P (done (changed l i (opened content (rowAt l i)))) → P (openedAt l Publisher i (openOf (rowAt l i) content))
   unfolding opened
   opened-at content P broke changes = go (openOf (rowAt l i) content) changes
     where
-      go : (o : Opening) → P (done (changed l i (opening o (rowAt l i)))) → P (openedAt l i o)
+      go : (o : Opening) → P (done (changed l i (opening o (rowAt l i)))) → P (openedAt l Publisher i o)
       go Refused h = broke
       go (Opened r) h = h

@@ -25,7 +25,7 @@ use Rattle.row.specs.declared.Ending.the-variants.{SubscribeError as Erring, Su
 use Rattle.row.proofs.Keeping.{after, after-id, after-alias, after-is, opened, opened-id, opened-alias, opened-is, pending-is}
 use Rattle.ledger.specs.Ledgers.{held, rising, hasAlias, distinct, allUnused, bounded, isLedger, isOpen, emptyLedger}
 use Rattle.ledger.specs.Answers.{Came, Said, only, isOwn, breaks, closedBy, gateOf, gated}
-use Rattle.ledger.specs.Steps.{refusedStart, startOf, find, idOf, aliasOf, rowAt, changed, noRow, subscribeStep, okAt, openedAt, okStep, senderOf, endAt, endStep, maximumStep, arriveAt, arrivedAt, arrivalStep, smallArrival, subscriptionStep, messageStep, takeOf, malformedOf, arrivalOf}
+use Rattle.ledger.specs.Steps.{refusedStart, startOf, find, idOf, aliasOf, rowAt, changed, noRow, subscribeStep, okAt, openedAt, okStep, endAt, endStep, maximumStep, arriveAt, arrivedAt, arrivalStep, smallArrival, subscriptionStep, messageStep, takeOf, malformedOf, arrivalOf}
 use Rattle.ledger.specs.declared.Part.{Part}
 use Rattle.ledger.specs.declared.Part.the-variants.{Subscriber, Publisher}
 use Rattle.ledger.specs.declared.Rule.{Rule}
@@ -62,9 +62,9 @@ module _ (l : Ledger) (w : isLedger l ≡ true) where
       let r = pendingRow (m .id) (m .alias) (askedOf (m .filter)) in
       whole _ (keeps-added l (parts l w) r (leb-false (l .capacity) (l .used) room) (ltb-false (m .id) (l .next) above) (s .id) fresh (pending-is (m .id) (m .alias) (askedOf (m .filter)) (s .id) (s .alias) (s .range)))))))
 
-  keeps-no-row : (sender : Part) (id : ℕ) → Kept (noRow l sender id)
+  keeps-no-row : (by : Part) (id : ℕ) → Kept (noRow l by id)
   unfolding noRow
-  keeps-no-row sender id = pick-by Kept (leb (l .next) id) (λ _. keeps-breaks _ R5) (λ _. w)
+  keeps-no-row by id = pick-by Kept (leb (l .next) id) (λ _. keeps-breaks _ R5) (λ _. w)
 
   keeps-ok : (m : SubscribeOk) → soundOf (Subscription (ASubscribeOk m)) ≡ true → Kept (okStep l m)
   unfolding okStep
@@ -77,12 +77,12 @@ module _ (l : Ledger) (w : isLedger l ≡ true) where
           (keeps-breaks (isOwn (l .part) Publisher) R6)
           (whole _ (keeps-changed l (parts l w) idOf (m .id) i e (opened (m .content)) (opened-id (m .content)) (opened-alias (m .content)) (λ r. opened-is (m .content) r (sound-ok m s))))
 
-  keeps-end : (ending : Ending) (id : ℕ) → Kept (endStep l ending id)
+  keeps-end : (by : Part) (ending : Ending) (id : ℕ) → Kept (endStep l by ending id)
   unfolding endStep
-  keeps-end ending id = go (find idOf id 0 (held l)) refl
+  keeps-end by ending id = go (find idOf id 0 (held l)) refl
     where
-      go : (f : Found) → find idOf id 0 (held l) ≡ f → Kept (endAt l f ending id)
-      go Missing e = keeps-no-row (senderOf ending) id
+      go : (f : Found) → find idOf id 0 (held l) ≡ f → Kept (endAt l f by ending id)
+      go Missing e = keeps-no-row by id
       go (At i) e =
           pick-by Kept (mayEnd ending (rowAt l i .state)) (λ _. whole _ (keeps-freed l (parts l w) idOf id i e)) (λ _. keeps-breaks _ R6)
 
@@ -112,9 +112,9 @@ module _ (l : Ledger) (w : isLedger l ≡ true) where
   keeps-message (ASubscribeUpdate m) s = w
   keeps-message (ASubscribe m) s = keeps-subscribe m (sound-subscribe m s)
   keeps-message (ASubscribeOk m) s = keeps-ok m s
-  keeps-message (ASubscribeError m) s = keeps-end Erring (m .id)
-  keeps-message (AUnsubscribe id) s = keeps-end Leaving id
-  keeps-message (ASubscribeDone m) s = keeps-end Ended (m .id)
+  keeps-message (ASubscribeError m) s = keeps-end _ Erring (m .id)
+  keeps-message (AUnsubscribe id) s = keeps-end _ Leaving id
+  keeps-message (ASubscribeDone m) s = keeps-end _ Ended (m .id)
   keeps-message (AMaxSubscribeId id) s = keeps-raise id (sound-maximum id s)
   keeps-message (ASubscribesBlocked id) s = w
 

@@ -19,7 +19,7 @@ use Rattle.row.specs.declared.Arriving.the-variants.{Outside, Counted}
 use Rattle.row.specs.declared.Ending.{Ending}
 use Rattle.ledger.specs.Ledgers.{held, isLedger}
 use Rattle.ledger.specs.Answers.{Came, only, same, done, isOwn, breaks}
-use Rattle.ledger.specs.Steps.{find, idOf, aliasOf, rowAt, changed, freed, noRow, openedAt, okAt, okStep, senderOf, endAt, endStep, arrivedAt, arriveAt, arrivalStep}
+use Rattle.ledger.specs.Steps.{find, idOf, aliasOf, rowAt, changed, freed, noRow, openedAt, okAt, okStep, endAt, endStep, arrivedAt, arriveAt, arrivalStep}
 use Rattle.ledger.specs.declared.Ledger.{Ledger}
 use Rattle.ledger.specs.declared.Part.{Part}
 use Rattle.ledger.specs.declared.Part.the-variants.{Publisher}
@@ -158,18 +158,18 @@ module _ (l : Ledger) (key : Row → ℕ) (n : ℕ) where
       }
 
 module _ (l : Ledger) where
-  no-such : (key : Row → ℕ) (n : ℕ) (sender : Part) (id : ℕ) → Does l (isOwn (l .part) sender) 8 Still key n (missed (l .next) id) (noRow l sender id)
+  no-such : (key : Row → ℕ) (n : ℕ) (by : Part) (id : ℕ) → Does l (isOwn (l .part) by) 8 Still key n (missed (l .next) id) (noRow l by id)
   unfolding noRow
-  no-such key n sender id = go (leb (l .next) id)
+  no-such key n by id = go (leb (l .next) id)
     where
-      go : (b : Bool) → Does l (isOwn (l .part) sender) 8 Still key n (pick b (broke R5) (stays stale)) (pick b (breaks l (isOwn (l .part) sender) R5) (same l 12))
+      go : (b : Bool) → Does l (isOwn (l .part) by) 8 Still key n (pick b (broke R5) (stays stale)) (pick b (breaks l (isOwn (l .part) by) R5) (same l 12))
       go true = broken
       go false = stayed
 
-  pub arrival-does : (a : Arrival) → Does l true 16 (Counting (a .place)) aliasOf (a .alias) (arrivalReply (a .place) (look aliasOf (a .alias) (held l))) (arrivalStep l a)
+  pub arrival-does : (own : Bool) (a : Arrival) → Does l own 16 (Counting (a .place)) aliasOf (a .alias) (arrivalReply (a .place) (look aliasOf (a .alias) (held l))) (arrivalStep l a)
   unfolding arrivalStep arriveOf
-  arrival-does a =
-      by-place l key n (λ looked f. Does l true 16 (Counting p) key n (arrivalReply p looked) (arriveAt l f p)) stayed
+  arrival-does own a =
+      by-place l key n (λ looked f. Does l own 16 (Counting p) key n (arrivalReply p looked) (arriveAt l f p)) stayed
       (λ i e. at i e (rowAt l i .state))
     where
       key : Row → ℕ
@@ -181,11 +181,11 @@ module _ (l : Ledger) where
       p : Place
       p = a .place
 
-      within : (i : ℕ) → find key n 0 (held l) ≡ At i → (b : Bool) → Does l true 16 (Counting p) key n (pick b (turns (counting p)) (stays outside)) (arrivedAt l i (pick b (Counted (countedRow (rowAt l i) p)) Outside))
+      within : (i : ℕ) → find key n 0 (held l) ≡ At i → (b : Bool) → Does l own 16 (Counting p) key n (pick b (turns (counting p)) (stays outside)) (arrivedAt l i (pick b (Counted (countedRow (rowAt l i) p)) Outside))
       within i e true = turned {f = counting p} (λ r. refl) (changes l key n i e (λ r. countedRow r p))
       within i e false = stayed
 
-      at : (i : ℕ) → find key n 0 (held l) ≡ At i → (state : State) → Does l true 16 (Counting p) key n (arriving state (inRange (rowAt l i .range) p) p) (arrivedAt l i (arriveIn state (rowAt l i) p))
+      at : (i : ℕ) → find key n 0 (held l) ≡ At i → (state : State) → Does l own 16 (Counting p) key n (arriving state (inRange (rowAt l i .range) p) p) (arrivedAt l i (arriveIn state (rowAt l i) p))
       at i e Pending = stayed
       at i e Active = within i e (inRange (rowAt l i .range) p)
 
@@ -198,18 +198,18 @@ module _ (l : Ledger) where
       n : ℕ
       n = m .id
 
-      at : (i : ℕ) → find idOf n 0 (held l) ≡ At i → (state : State) → Does l (isOwn (l .part) Publisher) 8 Still idOf n (opening state (m .content)) (openedAt l i (openIn state (rowAt l i) (m .content)))
+      at : (i : ℕ) → find idOf n 0 (held l) ≡ At i → (state : State) → Does l (isOwn (l .part) Publisher) 8 Still idOf n (opening state (m .content)) (openedAt l Publisher i (openIn state (rowAt l i) (m .content)))
       at i e Pending =
           turned {f = opens (m .content)} (λ r. record { alias = refl; greatest = refl; count = refl })
           (changes l idOf n i e (λ r. activeRow r (settledOf (r .range) (m .content))))
       at i e Active = broken
 
-  pub end-does : IsLedger l → (ending : Ending) (id : ℕ) → Does l (isOwn (l .part) (senderOf ending)) 8 Still idOf id (endReply ending id (l .next) (look idOf id (held l))) (endStep l ending id)
+  pub end-does : IsLedger l → (by : Part) (ending : Ending) (id : ℕ) → Does l (isOwn (l .part) by) 8 Still idOf id (endReply ending id (l .next) (look idOf id (held l))) (endStep l by ending id)
   unfolding endStep
-  end-does w ending id =
-      by-place l idOf id (λ looked f. Does l (isOwn (l .part) (senderOf ending)) 8 Still idOf id (endReply ending id (l .next) looked) (endAt l f ending id)) (no-such idOf id (senderOf ending) id)
+  end-does w by ending id =
+      by-place l idOf id (λ looked f. Does l (isOwn (l .part) by) 8 Still idOf id (endReply ending id (l .next) looked) (endAt l f by ending id)) (no-such idOf id by id)
       (λ i e. at i e (mayEnd ending (rowAt l i .state)))
     where
-      at : (i : ℕ) → find idOf id 0 (held l) ≡ At i → (b : Bool) → Does l (isOwn (l .part) (senderOf ending)) 8 Still idOf id (pick b (turns (λ _. gone)) (broke R6)) (pick b (done (freed l i)) (breaks l (isOwn (l .part) (senderOf ending)) R6))
+      at : (i : ℕ) → find idOf id 0 (held l) ≡ At i → (b : Bool) → Does l (isOwn (l .part) by) 8 Still idOf id (pick b (turns (λ _. gone)) (broke R6)) (pick b (done (freed l i)) (breaks l (isOwn (l .part) by) R6))
       at i e true = turned (λ _. tt) (frees l idOf id i e w)
       at i e false = broken

@@ -22,7 +22,7 @@ use Rattle.row.specs.declared.Opening.the-variants.{Refused, Opened}
 use Rattle.row.specs.declared.Ending.{Ending}
 use Rattle.ledger.specs.Ledgers.{held, hasAlias}
 use Rattle.ledger.specs.Answers.{Came, only, same, done, isOwn, breaks, gated}
-use Rattle.ledger.specs.Steps.{find, idOf, aliasOf, rowAt, changed, added, freed, noRow, subscribeStep, openedAt, okAt, okStep, senderOf, endAt, endStep, arrivedAt, arriveAt, arrivalStep, messageStep, takeOf}
+use Rattle.ledger.specs.Steps.{find, idOf, aliasOf, rowAt, changed, added, freed, noRow, subscribeStep, openedAt, okAt, okStep, endAt, endStep, arrivedAt, arriveAt, arrivalStep, messageStep, takeOf}
 use Rattle.ledger.specs.declared.Part.{Part}
 use Rattle.ledger.specs.declared.Part.the-variants.{Subscriber, Publisher}
 use Rattle.ledger.specs.declared.Rule.the-variants.{R2, R3, R4, R6}
@@ -61,31 +61,31 @@ module _ (l : Ledger) (m : SubscribeOk) {f : Found} (found : f ≡ find idOf (m 
   ok-nowhere e h = h ∙ rw (← found, e)
 
   module _ {i : ℕ} {o : Opening} (at : f ≡ At i) (opening : o ≡ openOf (rowAt l i) (m .content)) where
-    opened-row : openedAt l i o ≡ okStep l m
+    opened-row : openedAt l Publisher i o ≡ okStep l m
     unfolding okStep
-    opened-row = ap (openedAt l i) opening ∙ ap (λ (g : Found). okAt l g m) (sym at ∙ found)
+    opened-row = ap (openedAt l Publisher i) opening ∙ ap (λ (g : Found). okAt l g m) (sym at ∙ found)
 
     pub ok-refused : {own : Bool} {came : Came} → o ≡ Refused → own ≡ isOwn (l .part) Publisher → came ≡ breaks l own R6 → came ≡ okStep l m
-    ok-refused e own h = h ∙ rw own (ap (openedAt l i) (sym e) ∙ opened-row)
+    ok-refused e own h = h ∙ rw own (ap (openedAt l Publisher i) (sym e) ∙ opened-row)
 
     pub ok-opened : {r : Row} {next : Ledger} → o ≡ Opened r → next ≡ changed l i r → done next ≡ okStep l m
-    ok-opened e n = rw n (ap (openedAt l i) (sym e) ∙ opened-row)
+    ok-opened e n = rw n (ap (openedAt l Publisher i) (sym e) ∙ opened-row)
 
 -- ---- what ends a subscription
 
-module _ (l : Ledger) (ending : Ending) (id : ℕ) {f : Found} (found : f ≡ find idOf id 0 (held l)) {by : Part} (sender : by ≡ senderOf ending) where
-  pub end-nowhere : {came : Came} → f ≡ Missing → came ≡ noRow l by id → came ≡ endStep l ending id
+module _ (l : Ledger) (ending : Ending) (id : ℕ) {f : Found} (found : f ≡ find idOf id 0 (held l)) (by : Part) where
+  pub end-nowhere : {came : Came} → f ≡ Missing → came ≡ noRow l by id → came ≡ endStep l by ending id
   unfolding endStep
-  end-nowhere e h = h ∙ rw (sender, ← found, e)
+  end-nowhere e h = h ∙ rw (← found, e)
 
   module _ {i : ℕ} {b : Bool} (at : f ≡ At i) (may : b ≡ mayEnd ending (rowAt l i .state)) where
-    pub end-freed : {next : Ledger} → b ≡ true → next ≡ freed l i → done next ≡ endStep l ending id
+    pub end-freed : {next : Ledger} → b ≡ true → next ≡ freed l i → done next ≡ endStep l by ending id
     unfolding endStep
     end-freed e n = rw (n, ← found, at, ← may, e)
 
-    pub end-refused : {own : Bool} {came : Came} → b ≡ false → own ≡ isOwn (l .part) by → came ≡ breaks l own R6 → came ≡ endStep l ending id
+    pub end-refused : {own : Bool} {came : Came} → b ≡ false → own ≡ isOwn (l .part) by → came ≡ breaks l own R6 → came ≡ endStep l by ending id
     unfolding endStep
-    end-refused e own h = h ∙ rw (own, sender, ← found, at, ← may, e)
+    end-refused e own h = h ∙ rw (own, ← found, at, ← may, e)
 
 -- ---- SUBSCRIBE
 

@@ -1,4 +1,5 @@
 pub mod Ledgers
 pub mod Answers
+pub mod Senders
 pub mod Steps
 pub mod Runs

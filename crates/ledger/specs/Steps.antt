@@ -30,8 +30,8 @@ use Rattle.row.specs.declared.Ending.{Ending}
 use Rattle.row.specs.declared.Ending.the-variants.{SubscribeError as Erring, SubscribeDone as Ended, Unsubscribe as Leaving}
 use Rattle.ledger.specs.Ledgers.{held, hasAlias, emptyLedger}
 use Rattle.ledger.specs.Answers.{Came, only, same, done, isOwn, breaks, gated}
+use Rattle.ledger.specs.Senders.{sender}
 use Rattle.ledger.specs.declared.Part.{Part}
-use Rattle.ledger.specs.declared.Part.the-variants.{Subscriber, Publisher}
 use Rattle.ledger.specs.declared.Rule.{Rule}
 use Rattle.ledger.specs.declared.Rule.the-variants.{R1, R2, R3, R4, R5, R6, R7}
 use Rattle.ledger.specs.declared.Ledger.{Ledger}
@@ -103,7 +103,7 @@ freed l i = withRows l (take i (l .rows) ++ (drop (suc i) (l .rows) ++ unusedRow
 -- the ID becomes the highest."
 unfoldable pub subscribeStep : Ledger → Subscribe → Came
 subscribeStep l m =
-    let own = isOwn (l .part) Subscriber in
+    let own = isOwn (l .part) (sender (ASubscribe m)) in
     pick (ltb (m .id) (l .next)) (breaks l own R2)
     (pick (leb (l .maximum) (m .id)) (breaks l own R3)
     (pick (hasAlias (m .alias) (held l)) (breaks l own R4)
@@ -113,34 +113,28 @@ subscribeStep l m =
 
 -- "No row: R5 if the ID is above the highest or none was accepted, else 12."
 unfoldable pub noRow : Ledger → Part → ℕ → Came
-noRow l sender id = pick (leb (l .next) id) (breaks l (isOwn (l .part) sender) R5) (same l 12)
+noRow l by id = pick (leb (l .next) id) (breaks l (isOwn (l .part) by) R5) (same l 12)
 
 -- "OK on pending makes it active"; "R6: OK or ERROR on active"
-abbrev pub openedAt : Ledger → ℕ → Opening → Came
-openedAt l i Refused = breaks l (isOwn (l .part) Publisher) R6
-openedAt l i (Opened r) = done (changed l i r)
+abbrev pub openedAt : Ledger → Part → ℕ → Opening → Came
+openedAt l by i Refused = breaks l (isOwn (l .part) by) R6
+openedAt l by i (Opened r) = done (changed l i r)
 
 abbrev pub okAt : Ledger → Found → SubscribeOk → Came
-okAt l Missing m = noRow l Publisher (m .id)
-okAt l (At i) m = openedAt l i (openOf (rowAt l i) (m .content))
+okAt l Missing m = noRow l (sender (ASubscribeOk m)) (m .id)
+okAt l (At i) m = openedAt l (sender (ASubscribeOk m)) i (openOf (rowAt l i) (m .content))
 
 unfoldable pub okStep : Ledger → SubscribeOk → Came
 okStep l m = okAt l (find idOf (m .id) 0 (held l)) m
 
--- who sends what ends a subscription
-abbrev pub senderOf : Ending → Part
-senderOf Erring = Publisher
-senderOf Ended = Publisher
-senderOf Leaving = Subscriber
-
 -- "ERROR on pending, DONE on active and UNSUBSCRIBE on either free it"; "R6: OK or ERROR on active, DONE on pending"
-abbrev pub endAt : Ledger → Found → Ending → ℕ → Came
-endAt l Missing ending id = noRow l (senderOf ending) id
-endAt l (At i) ending id =
-    pick (mayEnd ending (rowAt l i .state)) (done (freed l i)) (breaks l (isOwn (l .part) (senderOf ending)) R6)
+abbrev pub endAt : Ledger → Found → Part → Ending → ℕ → Came
+endAt l Missing by ending id = noRow l by id
+endAt l (At i) by ending id =
+    pick (mayEnd ending (rowAt l i .state)) (done (freed l i)) (breaks l (isOwn (l .part) by) R6)
 
-unfoldable pub endStep : Ledger → Ending → ℕ → Came
-endStep l ending id = endAt l (find idOf id 0 (held l)) ending id
+unfoldable pub endStep : Ledger → Part → Ending → ℕ → Came
+endStep l by ending id = endAt l (find idOf id 0 (held l)) by ending id
 
 -- ---- MAX_SUBSCRIBE_ID
 
@@ -157,7 +151,8 @@ withMaximum l maximum = record {
 
 -- "MAX_SUBSCRIBE_ID (publisher). R7: not larger than the maximum."
 unfoldable pub maximumStep : Ledger → ℕ → Came
-maximumStep l id = pick (leb id (l .maximum)) (breaks l (isOwn (l .part) Publisher) R7) (done (withMaximum l id))
+maximumStep l id =
+    pick (leb id (l .maximum)) (breaks l (isOwn (l .part) (sender (AMaxSubscribeId id))) R7) (done (withMaximum l id))
 
 -- ---- arrivals
 
@@ -184,9 +179,9 @@ abbrev pub subscriptionStep : Ledger → SubscriptionMessage → Came
 subscriptionStep l (ASubscribeUpdate m) = same l 9
 subscriptionStep l (ASubscribe m) = subscribeStep l m
 subscriptionStep l (ASubscribeOk m) = okStep l m
-subscriptionStep l (ASubscribeError m) = endStep l Erring (m .id)
-subscriptionStep l (AUnsubscribe id) = endStep l Leaving id
-subscriptionStep l (ASubscribeDone m) = endStep l Ended (m .id)
+subscriptionStep l (ASubscribeError m) = endStep l (sender (ASubscribeError m)) Erring (m .id)
+subscriptionStep l (AUnsubscribe id) = endStep l (sender (AUnsubscribe id)) Leaving id
+subscriptionStep l (ASubscribeDone m) = endStep l (sender (ASubscribeDone m)) Ended (m .id)
 subscriptionStep l (AMaxSubscribeId id) = maximumStep l id
 subscriptionStep l (ASubscribesBlocked id) = same l 9
 

@@ -2,7 +2,7 @@
 ghost use mathlib.Core.Path.{_≡_};
 ghost use Prim.Native.Nat.{_≤_, _<_};
 ghost use Rattle.ledger.specs.Answers.{told};
-ghost use Rattle.ledger.specs.Steps.{freed, senderOf, endStep};
+ghost use Rattle.ledger.specs.Steps.{freed, endStep};
 use crate::Answer;
 use crate::Found;
 use crate::Key;
@@ -16,21 +16,11 @@ use crate::rules::is_own;
 use crate::subscribing::no_row;
 use row::Ending;
 
-fn sender(ending: Ending) -> Part
-    ensures { λ r. ⌜ r ≡ senderOf ending ⌝ }
-{
-    match ending {
-        Ending::SubscribeError => Part::Publisher,
-        Ending::SubscribeDone => Part::Publisher,
-        Ending::Unsubscribe => Part::Subscriber,
-    }
-}
-
-pub fn end(l: Ledger, ending: Ending, id: u64) -> Taken
+// A message of this kind, which the part `by` sends.
+pub fn end(l: Ledger, by: Part, ending: Ending, id: u64) -> Taken
     requires { ⌜ l .used ≤ 64 ⌝ }
-    ensures { λ r. ⌜ told r ≡ endStep l ending id ⌝ }
+    ensures { λ r. ⌜ told r ≡ endStep l by ending id ⌝ }
 {
-    let by = sender(ending);
     let Found::At(i) = find_row(l, Key::Id, id) else {
         return no_row(l, by, id);
     };

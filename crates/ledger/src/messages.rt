@@ -74,7 +74,7 @@ impl Ledger {
                 ledger: self,
             };
         }
-        end(self, Ending::SubscribeError, x.id)
+        end(self, Part::Publisher, Ending::SubscribeError, x.id)
     }
 
     pub fn subscribe_done(self, x: SubscribeDone) -> Taken
@@ -87,7 +87,7 @@ impl Ledger {
                 ledger: self,
             };
         }
-        end(self, Ending::SubscribeDone, x.id)
+        end(self, Part::Publisher, Ending::SubscribeDone, x.id)
     }
 
     pub fn unsubscribe(self, id: u64) -> Taken
@@ -100,7 +100,7 @@ impl Ledger {
                 ledger: self,
             };
         }
-        end(self, Ending::Unsubscribe, id)
+        end(self, Part::Subscriber, Ending::Unsubscribe, id)
     }
 
     pub fn max_subscribe_id(self, id: u64) -> Taken
