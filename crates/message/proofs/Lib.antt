@@ -10,6 +10,7 @@ pub mod Enough
 pub mod Fields
 pub mod Theorems
 pub mod Naming
+pub mod Places
 pub mod Once
 pub mod Writes
 pub mod Sounding

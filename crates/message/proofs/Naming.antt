@@ -1,14 +1,14 @@
 -- The name of a message's track: which part of the bytes is handed back, and that of a message that was read it is the name
 -- itself, within the bytes that the message took. Assumes nothing.
 use Prim.Native.Nat.{ℕ, _≤_, _<_}
-use mathlib.Core.Path.{_≡_, refl, sym}
-use mathlib.Core.List.{List, []}
+use mathlib.Core.Path.{_≡_, refl}
+use mathlib.Core.List.{List}
 use native.Mathlib.Omega.{arith}
 use lib.ListN.{length}
 use lib.Dec.{lit≤}
 use borrow.Author.Tests.{le-leb, lt-leb}
 use Rattle.integer.specs.Answer.{whole as answered}
-use Rattle.field.specs.Value.{part, nowhere}
+use Rattle.field.specs.Value.{nowhere}
 use Rattle.field.specs.declared.Span.{Span}
 use Rattle.layout.specs.Inside.{Inside, Lies, Between}
 use Rattle.subscription.specs.Names.{nameOf as subscriptionName}
@@ -24,7 +24,7 @@ use Rattle.fetch.specs.declared.FetchMessage.{FetchMessage}
 use Rattle.fetch.specs.declared.FetchMessage.the-variants.{Fetch, FetchOk, FetchError, FetchCancel, TrackStatusRequest, TrackStatus}
 use Rattle.message.specs.Types.{saidOf}
 use Rattle.message.specs.Reading.{readOf}
-use Rattle.message.specs.Names.{nameOf, namedIn}
+use Rattle.message.specs.Names.{nameOf, namedSpan}
 use Rattle.message.specs.declared.Message.{Message}
 use Rattle.message.specs.declared.Message.the-variants.{Subscription, Fetch as FetchM, Announce, Session}
 use Rattle.message.proofs.Front.{parts}
@@ -33,19 +33,19 @@ use Rattle.message.proofs.Fields.{inside, used-there}
 -- ---- what is handed back, by where a name stands
 
 module _ (s : List ℕ) (m : Message) {p : Span} (e : p ≡ nameOf m) where
-  -- its end before its start: nothing;
-  pub named-backward : p .end < p .start → [] ≡ namedIn s m
-  unfolding namedIn
+  -- its end before its start: the part with nothing in it;
+  pub named-backward : p .end < p .start → namedSpan s m ≡ nowhere
+  unfolding namedSpan
   named-backward h = rw (← e, lt-leb (p .start) (p .end) h)
 
-  -- its end past that of the bytes: nothing;
-  pub named-past : p .start ≤ p .end → length s < p .end → [] ≡ namedIn s m
-  unfolding namedIn
+  -- its end past that of the bytes: the same;
+  pub named-past : p .start ≤ p .end → length s < p .end → namedSpan s m ≡ nowhere
+  unfolding namedSpan
   named-past h k = rw (← e, le-leb (p .start) (p .end) h, lt-leb (p .end) (length s) k)
 
   -- and within them: that part
-  pub named-within : p .start ≤ p .end → p .end ≤ length s → part s p ≡ namedIn s m
-  unfolding namedIn
+  pub named-within : p .start ≤ p .end → p .end ≤ length s → namedSpan s m ≡ p
+  unfolding namedSpan
   named-within h k = rw (← e, le-leb (p .start) (p .end) h, le-leb (p .end) (length s) k)
 
 -- ---- where the name of a message stands
@@ -106,8 +106,8 @@ module _ (s : List ℕ) (m : Message) {used : ℕ} where
   name-there h = let w = parts s h in name-by (w .at) used m (inside s (w .head .type-at) (w .head .length-at) w)
 
   -- so it is that part of the bytes which is handed back
-  pub name-is : readOf s ≡ answered (saidOf m) used → namedIn s m ≡ part s (nameOf m)
+  pub name-is : readOf s ≡ answered (saidOf m) used → namedSpan s m ≡ nameOf m
   name-is h =
       let by = name-there h in
       let there = used-there s (parts s h) .1 in
-      sym (named-within s m refl (by .0) (omega arith))
+      named-within s m refl (by .0) (omega arith)

@@ -6,11 +6,13 @@ use mathlib.Core.Path.{_≡_, refl}
 use mathlib.Core.List.{List, _++_, map}
 use mathlib.Core.Bool.{true}
 use lib.ListN.{length, take}
+use denote.Ref.{RefT}
 use Rattle.integer.specs.Answer.{whole as answered, refused, wrote, Leaves}
 use Rattle.integer.specs.Octets.{Octets}
 use Rattle.field.specs.Outcome.{whole}
 use Rattle.field.specs.Entries.{numberAt}
 use Rattle.field.specs.Value.{part, mean}
+use Rattle.field.specs.declared.Span.{Span}
 use Rattle.layout.specs.Permitted.{permitted}
 use Rattle.layout.specs.Inside.{Inside}
 use Rattle.layout.specs.Typed.{Typed}
@@ -19,11 +21,14 @@ use Rattle.shortest.specs.Writing.{answering}
 use Rattle.shortest.specs.declared.Writing.{Writing}
 use Rattle.message.specs.Types.{known, layoutOf, saidOf}
 use Rattle.message.specs.Reading.{readOf, told}
-use Rattle.message.specs.Names.{nameOf, namedIn}
+use Rattle.message.specs.Part.{PartOf}
+use Rattle.message.specs.Names.{nameOf, namedSpan}
 use Rattle.message.specs.Writing.{writeOf}
 use Rattle.message.specs.declared.Message.{Message}
 use Rattle.message.specs.declared.Reading.{Reading}
 use Rattle.message.proofs.Naming as naming
+use Rattle.message.proofs.Places.{byteAt}
+use Rattle.message.proofs.Places as places
 use Rattle.message.proofs.Front.{WholeAt}
 use Rattle.message.proofs.Front as front
 use Rattle.message.proofs.Stable as stable
@@ -78,9 +83,17 @@ module _ (s : List ℕ) where
     pub inside : {next size at : ℕ} → numberAt s 0 ≡ whole (t .type) next → numberAt s next ≡ whole size at → readOf s ≡ answered t used → Inside at used (t .pieces)
     inside e f h = fields.inside s e f (front.parts s h)
 
-  -- 5. The name that is handed back of a message that was read is that part of the bytes.
-  pub named : (m : Message) {used : ℕ} → readOf s ≡ answered (saidOf m) used → namedIn s m ≡ part s (nameOf m)
+  -- 5. What is handed back of a message that was read is the part of the bytes that is its name.
+  pub named : (m : Message) {used : ℕ} → readOf s ≡ answered (saidOf m) used → namedSpan s m ≡ nameOf m
   named m = naming.name-is s m
+
+-- Its place counts, and not its bytes alone: the name of `0D 05 01 01 61 01 61` is the byte at 6. That at 4, of the namespace, is the
+-- same byte, and is not what is handed back.
+pub by-place : (readOf places.alike ≡ answered (saidOf places.request) 7) × (namedSpan places.alike places.request ≡ byteAt 6) × (part places.alike (byteAt 4) ≡ part places.alike (byteAt 6))
+by-place = (places.alike-reads, places.alike-named, places.alike-bytes)
+
+pub not-the-like : {s r : RefT (List ℕ)} → s .now ≡ places.alike → PartOf s r (namedSpan (s .now) places.request) → PartOf s r (byteAt 4) → ⊥
+not-the-like = places.not-the-like
 
 module _ (s : List ℕ) (m : Message) (before : List ℕ) where
   -- 6. What is written reads back as the same message, and exactly the bytes written are used.
@@ -131,6 +144,10 @@ module _ (s t : List ℕ) (m k : Message) (same : Same s (saidOf m) t (saidOf k)
 -- 10. The contract of `read` leaves one possible answer,
 pub read-once : (s : List ℕ) (a b : Reading) → told a ≡ readOf s → told b ≡ readOf s → a ≡ b
 read-once = once.read-once
+
+-- that of `track_name` one possible part of the bytes,
+pub name-once : {s a b : RefT (List ℕ)} {p : Span} → PartOf s a p → PartOf s b p → (a .ptr .0 ≡ b .ptr .0) × (a .ptr .1 ≡ b .ptr .1) × (a .now ≡ b .now)
+name-once = places.part-once
 
 -- and that of `write` one possible answer and one possible content of the buffer, refusals too.
 pub write-once : (s : List ℕ) (m : Message) (before : List ℕ) (a b : Writing) {x y : List ℕ} → Leaves (writeOf s m before) (answering a) x → Leaves (writeOf s m before) (answering b) y → (a ≡ b) × (x ≡ y)

@@ -1,5 +1,6 @@
 pub mod Types
 pub mod Reading
+pub mod Part
 pub mod Names
 pub mod Writing
 pub mod Sound

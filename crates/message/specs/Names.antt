@@ -1,11 +1,11 @@
 -- The name of the track that a message names, as a part of the bytes that it was read from.
 use Prim.Native.Nat.{ℕ}
-use mathlib.Core.List.{List, []}
+use mathlib.Core.List.{List}
 use lib.ListN.{length}
 use lib.Dec.{leb}
 use Rattle.integer.specs.Answer.{pick}
 use Rattle.field.specs.Outcome.{both}
-use Rattle.field.specs.Value.{part, nowhere}
+use Rattle.field.specs.Value.{nowhere}
 use Rattle.field.specs.declared.Span.{Span}
 use Rattle.subscription.specs.Names.{nameOf as subscriptionName}
 use Rattle.fetch.specs.Names.{nameOf as fetchName}
@@ -19,7 +19,6 @@ nameOf (Fetch m) = fetchName m
 nameOf (Announce m) = nowhere
 nameOf (Session m) = nowhere
 
--- and its bytes: none where it does not stand within s
-unfoldable pub namedIn : List ℕ → Message → List ℕ
-namedIn s m =
-    pick (both (leb (nameOf m .start) (nameOf m .end)) (leb (nameOf m .end) (length s))) (part s (nameOf m)) []
+-- and where in s, as the part that is handed back: nowhere where it does not stand within s
+unfoldable pub namedSpan : List ℕ → Message → Span
+namedSpan s m = pick (both (leb (nameOf m .start) (nameOf m .end)) (leb (nameOf m .end) (length s))) (nameOf m) nowhere

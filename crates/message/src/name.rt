@@ -1,13 +1,14 @@
 // The name of the track that a message names, handed back as the same part of the caller's bytes.
 ghost use mathlib.Core.Path.{_≡_};
-ghost use Rattle.message.specs.Names.{nameOf, namedIn};
+ghost use Rattle.message.specs.Part.{PartOf};
+ghost use Rattle.message.specs.Names.{nameOf, namedSpan};
 use crate::Message;
 use field::Span;
 
-// The part of s, the bytes that m was read from, that is the name of its track. It is empty where m has none, and where it lies
-// outside s.
+// The part of s, the bytes that m was read from, that is the name of its track: not a copy, and not the same bytes elsewhere. It is
+// the empty part at the front of s where m has none, and where it lies outside s.
 pub fn track_name<'a>(s: &'a [u8], m: Message) -> &'a [u8]
-    ensures { λ r. ⌜ now r ≡ namedIn (now (s .entry)) m ⌝ }
+    ensures { λ r. ⌜ PartOf (s .entry) r (namedSpan (now (s .entry)) m) ⌝ }
 {
     let name = name_of(m);
     let start = name.start;
