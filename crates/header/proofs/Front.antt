@@ -23,10 +23,15 @@ use Rattle.header.specs.Reading.{headedOf}
 pub apart : {A : Type 0} {a : A} {used n : ℕ} → refused n ≡ answered a used → ⊥
 apart h = let z : _≡_ {A = ℕ} 0 1 = cc in omega arith
 
+-- what is told whole was read whole
+pub was-whole : {A : Type 0} {a : A} {used : ℕ} (o : Outcome A) → answer 1 o ≡ answered a used → o ≡ whole a used
+was-whole (whole b end) h = cc
+was-whole (no fault) h = absurd (apart h)
+
 -- ---- what an answer comes from
 
 -- there is no type; it is unknown; or it names a layout, by which the fields are read
-data Judged (cut : ℕ) (types : ℕ → Named) (s : List ℕ) : Answer Typed → Type 0 where
+pub data Judged (cut : ℕ) (types : ℕ → Named) (s : List ℕ) : Answer Typed → Type 0 where
   no-type : {fault : Fault} → numberAt s 0 ≡ no fault → Judged cut types s (refused cut)
   not-known : {type at : ℕ} → numberAt s 0 ≡ whole type at → types type ≡ unknown → Judged cut types s (refused 2)
   by-fields : {type at : ℕ} {l : Layout} {o : Outcome (List Piece)} → numberAt s 0 ≡ whole type at → types type ≡ known l → scan l s at ≡ o → Judged cut types s (answer cut (typed type o))
@@ -41,7 +46,7 @@ module _ (cut : ℕ) (types : ℕ → Named) (s : List ℕ) where
   by-number (whole type at) e = by-type type at (types type) e refl
   by-number (no fault) e = no-type e
 
-  judged : Judged cut types s (headedOf cut types s)
+  pub judged : Judged cut types s (headedOf cut types s)
   unfolding headedOf
   judged = by-number (numberAt s 0) refl
 

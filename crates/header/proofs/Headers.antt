@@ -1,4 +1,5 @@
--- The four headers keep what reader and writer owe each other; and on a stream, bytes that follow change no answer but 1.
+-- The four headers keep what reader and writer owe each other, and are written as their only shortest form; and on a stream, bytes
+-- that follow change no answer but 1, which they can.
 -- Assumes nothing.
 use Prim.Native.Nat.{ℕ, _≤_}
 use mathlib.Core.Path.{_≡_, refl, sym, ap, _∙_}
@@ -22,28 +23,31 @@ use Rattle.header.specs.Told.{datagramSaid, streamSaid, subgroupObjectPi
 use Rattle.header.specs.Reading.{headedOf, datagramOf, streamOf, subgroupObjectOf, fetchObjectOf}
 use Rattle.header.specs.Allowed.{datagramAllowed, payloadAllowed}
 use Rattle.header.specs.Writing.{headerWritten, datagramWritten, subgroupObjectWritten, fetchObjectWritten}
-use Rattle.header.specs.Laws.{Kept, Steady}
+use Rattle.header.specs.Laws.{Kept, Shortest, Steady}
 use Rattle.header.specs.Codecs.{takesPayload, datagram, stream, untyped, subgroupObject, fetchObject}
 use Rattle.header.proofs.Shape.{Shaped, datagram-shape, stream-shape, subgroup-object-shape, fetch-object-shape}
 use Rattle.header.proofs.Writes.{Writable, datagram-writable, stream-writable, stream-any, subgroup-object-sized, fetch-object-sized}
-use Rattle.header.proofs.Front.{apart, scan-steady, headed-steady}
+use Rattle.header.proofs.Front.{apart, was-whole, scan-steady, headed-steady}
+use Rattle.header.proofs.More.{bare-more, headed-more}
 use Rattle.header.proofs.Fields as fields
 use Rattle.header.proofs.Keeps.{bare-back, typed-back, typed-count, typed-no-longer, typed-only-room, typed-written-again}
 use Rattle.header.proofs.Follows.{is-headed, may-follow}
+use Rattle.header.proofs.Shortest.{Form, shortest, bare-form, typed-form}
 
 -- ---- bytes that follow
 
--- what is answered the same when bytes follow, unless it is 1, is steady
-steady : {B : Type 0} (readOf : List ℕ → Answer B) → ((s rest : List ℕ) → (readOf s ≡ refused 1 → ⊥) → readOf (s ++ rest) ≡ readOf s) → Steady readOf
-steady readOf same =
+-- what is answered the same when bytes follow, unless it is 1, and can then be answered otherwise, is steady
+steady : {B : Type 0} (readOf : List ℕ → Answer B) → ((s rest : List ℕ) → (readOf s ≡ refused 1 → ⊥) → readOf (s ++ rest) ≡ readOf s) → ((s : List ℕ) → (rest : List ℕ) × (readOf (s ++ rest) ≡ refused 1 → ⊥)) → Steady readOf
+steady readOf same more =
     record {
       whole-stays = λ s rest h. same s rest (λ e. apart (sym e ∙ h)) ∙ h;
       refusal-stays = λ s rest other h. same s rest (λ e. other (cc)) ∙ h;
+      more = λ s _. more s;
     }
 
 pub stream-steady : Steady streamOf
 unfolding streamOf
-stream-steady = steady streamOf (headed-steady 1 streams)
+stream-steady = steady streamOf (headed-steady 1 streams) (headed-more streams)
 
 -- a header without a type
 bare-steady : (l : Layout) (s rest : List ℕ) → (answer 1 (scan l s 0) ≡ refused 1 → ⊥) → answer 1 (scan l (s ++ rest) 0) ≡ answer 1 (scan l s 0)
@@ -51,18 +55,13 @@ bare-steady l s rest other = ap (answer 1) (scan-steady l s rest 0 (λ e. other 
 
 pub subgroup-object-steady : Steady subgroupObjectOf
 unfolding subgroupObjectOf
-subgroup-object-steady = steady subgroupObjectOf (bare-steady layouts.subgroupObject)
+subgroup-object-steady = steady subgroupObjectOf (bare-steady layouts.subgroupObject) (bare-more layouts.subgroupObject)
 
 pub fetch-object-steady : Steady fetchObjectOf
 unfolding fetchObjectOf
-fetch-object-steady = steady fetchObjectOf (bare-steady layouts.fetchObject)
+fetch-object-steady = steady fetchObjectOf (bare-steady layouts.fetchObject) (bare-more layouts.fetchObject)
 
 -- ---- headers without a type
-
--- what is told whole was read whole
-was-whole : {ps : List Piece} {used : ℕ} (o : Outcome (List Piece)) → answer 1 o ≡ answered ps used → o ≡ whole ps used
-was-whole (whole qs end) h = cc
-was-whole (no fault) h = absurd (apart h)
 
 module _ {A : Type 0} (l : Layout) (said : A → List Piece) (allowed : A → Bool) (shape : (s : List ℕ) (a : A) → fitting l (map (mean s) (said a)) ≡ allowed a) (sizes : (s : List ℕ) (a : A) → sizedAll s (said a) ≡ true) where
   bare-kept : Kept (record { said = said; typed = untyped; readOf = λ s. answer 1 (scan l s 0); writeOf = λ s a before. headerWritten (allowed a) [] s (said a) before; takesMore = λ _. true })
@@ -128,3 +127,34 @@ stream-kept =
       only-room = λ s h before read says. stream-over .only-room s h before read (rw (stream-any s h before) at says);
       written-again = λ s h before read room. rw (stream-any s h before) (stream-over .written-again s h before read room);
     }
+
+-- ---- the only shortest form
+
+pub datagram-shortest : Shortest datagram
+unfolding datagramWritten
+datagram-shortest =
+    shortest datagram (typed-form 4 datagrams datagramSaid datagramAllowed takesPayload datagramOf (λ s t used h. is-headed s h))
+
+-- that of a stream, whatever bytes it is written over
+stream-form : Form stream
+unfolding streamOf
+stream-form =
+    let f = typed-form 1 streams streamSaid (λ _. true) (λ _. true) streamOf (λ s t used h. h) in
+    record {
+      form = f .form;
+      written = λ s h before says. rw (stream-any s h before) (f .written s h before (rw (stream-any s h before) at says));
+      least = f .least;
+      alike = f .alike;
+    }
+
+pub stream-shortest : Shortest stream
+stream-shortest = shortest stream stream-form
+
+pub subgroup-object-shortest : Shortest subgroupObject
+unfolding subgroupObjectOf subgroupObjectWritten
+subgroup-object-shortest =
+    shortest subgroupObject (bare-form layouts.subgroupObject subgroupObjectPieces (λ o. payloadAllowed (o .payload)))
+
+pub fetch-object-shortest : Shortest fetchObject
+unfolding fetchObjectOf fetchObjectWritten
+fetch-object-shortest = shortest fetchObject (bare-form layouts.fetchObject fetchObjectPieces (λ o. payloadAllowed (o .payload)))

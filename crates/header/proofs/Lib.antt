@@ -9,5 +9,7 @@ pub mod Fields
 pub mod Front
 pub mod Keeps
 pub mod Follows
+pub mod Shortest
+pub mod More
 pub mod Headers
 pub mod Theorems

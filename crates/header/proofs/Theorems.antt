@@ -1,5 +1,5 @@
--- What holds of reading and writing data headers. The sentences of `Kept` and `Steady` stand in specs/Laws.antt; here is what they hold
--- of. Assumes nothing.
+-- What holds of reading and writing data headers. The sentences of `Kept`, `Shortest` and `Steady` stand in specs/Laws.antt; here is
+-- what they hold of. Assumes nothing.
 use Prim.Native.Nat.{ℕ}
 use mathlib.Core.Path.{_≡_}
 use mathlib.Core.List.{List}
@@ -9,7 +9,7 @@ use Rattle.shortest.specs.declared.Writing.{Writing}
 use Rattle.shortest.proofs.Once.{leaves-once}
 use Rattle.header.specs.Told.{toldDatagram, toldStream, toldSubgroupObject, toldFetchObject}
 use Rattle.header.specs.Reading.{streamOf, subgroupObjectOf, fetchObjectOf}
-use Rattle.header.specs.Laws.{Kept, Steady}
+use Rattle.header.specs.Laws.{Kept, Shortest, Steady}
 use Rattle.header.specs.Codecs.{datagram, stream, subgroupObject, fetchObject}
 use Rattle.header.specs.declared.DatagramRead.{DatagramRead}
 use Rattle.header.specs.declared.StreamRead.{StreamRead}
@@ -33,7 +33,20 @@ subgroup-object-kept = headers.subgroup-object-kept
 pub fetch-object-kept : Kept fetchObject
 fetch-object-kept = headers.fetch-object-kept
 
--- 2. On a stream, bytes that follow change no answer but 1.
+-- 2. What is written is the only shortest form: no bytes that read as the same header are fewer, and none that are as many are others.
+pub datagram-shortest : Shortest datagram
+datagram-shortest = headers.datagram-shortest
+
+pub stream-shortest : Shortest stream
+stream-shortest = headers.stream-shortest
+
+pub subgroup-object-shortest : Shortest subgroupObject
+subgroup-object-shortest = headers.subgroup-object-shortest
+
+pub fetch-object-shortest : Shortest fetchObject
+fetch-object-shortest = headers.fetch-object-shortest
+
+-- 3. On a stream, bytes that follow change no answer but 1; and where 1 is answered, there are bytes that do.
 pub stream-steady : Steady streamOf
 stream-steady = headers.stream-steady
 
@@ -43,7 +56,7 @@ subgroup-object-steady = headers.subgroup-object-steady
 pub fetch-object-steady : Steady fetchObjectOf
 fetch-object-steady = headers.fetch-object-steady
 
--- 3. 01's number and values lose nothing, so each reader has one possible answer;
+-- 4. 01's number and values lose nothing, so each reader has one possible answer;
 pub datagram-once : (a b : DatagramRead) → toldDatagram a ≡ toldDatagram b → a ≡ b
 datagram-once = once.datagram-once
 

@@ -5,6 +5,7 @@ use mathlib.Core.List.{List, [], _++_}
 use mathlib.Core.Bool.{Bool, false}
 use lib.ListN.{length, take}
 use Rattle.integer.specs.Answer.{Answer, whole as answered, refused, wrote, Written}
+use Rattle.integer.specs.Octets.{Octets}
 use Rattle.layout.specs.Typed.{Typed}
 use Rattle.layout.specs.Same.{Same}
 
@@ -33,9 +34,18 @@ pub record Kept {A B : Type 0} (c : Codec A B) : Type 0 where
   -- and for want of room only where there is less than it was read from.
   pub written-again : (s : List ℕ) (a : A) (before : List ℕ) {used : ℕ} → c .readOf s ≡ answered (c .said a) used → used ≤ length before → (n : ℕ) × (c .writeOf s a before .says ≡ wrote n)
 
+-- The written bytes are the only shortest form of a header:
+pub record Shortest {A B : Type 0} (c : Codec A B) : Type 0 where
+  -- no bytes that read as the same header are fewer, whatever follows them,
+  pub none-shorter : (s : List ℕ) (a : A) (before b : List ℕ) {n used : ℕ} → c .writeOf s a before .says ≡ wrote n → ReadsAs c b used s a → n ≤ used
+  -- and those that are as many are the ones written.
+  pub only-one : (s : List ℕ) (a : A) (before b : List ℕ) {n used : ℕ} → c .writeOf s a before .says ≡ wrote n → ReadsAs c b used s a → Octets b → used ≡ n → take used b ≡ take n (c .writeOf s a before .holds)
+
 -- On a stream bytes come one after the other:
 pub record Steady {B : Type 0} (readOf : List ℕ → Answer B) : Type 0 where
   -- those that follow change nothing of a whole header,
   pub whole-stays : (s rest : List ℕ) {b : B} {used : ℕ} → readOf s ≡ answered b used → readOf (s ++ rest) ≡ answered b used
-  -- nor of a refusal other than 1.
+  -- nor of a refusal other than 1;
   pub refusal-stays : (s rest : List ℕ) {n : ℕ} → (n ≡ 1 → ⊥) → readOf s ≡ refused n → readOf (s ++ rest) ≡ refused n
+  -- and where 1 is answered, more bytes can still decide: so it is answered exactly there.
+  pub more : (s : List ℕ) → readOf s ≡ refused 1 → (rest : List ℕ) × (readOf (s ++ rest) ≡ refused 1 → ⊥)
