@@ -36,7 +36,7 @@ use Rattle.run.specs.declared.Progress.{Progress}
 
 -- ---- a start's maximum is an integer that was read
 
-abbrev Startable : Event → Type 0
+abbrev pub Startable : Event → Type 0
 Startable (Start part maximum) = small maximum ≡ true
 Startable (Control m) = Unit {0}
 Startable (Malformed number) = Unit {0}
@@ -80,7 +80,7 @@ arrived-fits value = go (numberAt value 0)
     go (no fault) = tt
     go (whole alias next) = place alias (placeAt value next)
 
-event-fits : (tag : ℕ) (value : List ℕ) → Startable (eventOf tag value)
+pub event-fits : (tag : ℕ) (value : List ℕ) → Startable (eventOf tag value)
 unfolding eventOf
 event-fits tag value =
     pick-by Startable (eqb tag 1) (λ _. started-fits value) (λ _.

@@ -1,0 +1,38 @@
+-- What holds of every trace without fault: it is a history. Each theorem with its sentence, and nothing else. Assumes nothing.
+use Prim.Native.Nat.{ℕ}
+use mathlib.Core.Path.{_≡_, sym, ap, _∙_}
+use mathlib.Core.List.{List, _∷_, map}
+use Rattle.ledger.specs.Answers.{only}
+use Rattle.ledger.specs.declared.Ledger.{Ledger}
+use Rattle.history.specs.Events.{Event, run, told}
+use Rattle.history.specs.Orders.{Exchanged}
+use Rattle.history.proofs.Theorems.{exchanged-histories-agree}
+use Rattle.run.specs.Progressing.{runOf}
+use Rattle.report.specs.Report.{ledgerText, textBy, textOf, reportOf}
+use Rattle.answers.specs.Telling.{answersOf}
+use Rattle.trace_history.specs.Histories.{fieldsOf, Faultless, Started, startIn, historyOf, answered, linesOf}
+use Rattle.trace_history.proofs.Following.{trace-starts, run-follows, answers-follow}
+
+-- 1. Its first field starts a ledger of 64 rows.
+pub trace-starts-a-ledger : (s : List ℕ) → Faultless s → Started (startIn s)
+trace-starts-a-ledger = trace-starts
+
+-- 2. Its run leaves that ledger as the history of its events does.
+pub trace-is-a-history : (s : List ℕ) → Faultless s → runOf s .ledger ≡ run (startIn s) (historyOf s)
+trace-is-a-history = run-follows
+
+-- 3. Its answers are those of that history, one by one: 8 for the start, and then each event's.
+pub answers-of-a-history : (s : List ℕ) → Faultless s → answersOf s ≡ linesOf 0 (fieldsOf s) (only 8 ∷ map answered (told (startIn s) (historyOf s)))
+answers-of-a-history = answers-follow
+
+-- 4. Its report shows the ledger behind that history.
+pub report-of-a-history : (s : List ℕ) → Faultless s → reportOf s ≡ ledgerText (run (startIn s) (historyOf s))
+unfolding reportOf textOf
+report-of-a-history s h = rw (h, run-follows s h)
+
+-- 5. Two traces that start alike, and whose events differ by exchanges that demand 3 allows, print the same report, byte for byte.
+pub exchanged-traces-report-alike : (s t : List ℕ) → Faultless s → Faultless t → startIn s ≡ startIn t → Exchanged (startIn s) (historyOf s) (historyOf t) → reportOf s ≡ reportOf t
+exchanged-traces-report-alike s t h k starts x =
+    report-of-a-history s h
+    ∙ ap ledgerText (exchanged-histories-agree x ∙ ap (λ (l : Ledger). run l (historyOf t)) starts)
+    ∙ sym (report-of-a-history t k)

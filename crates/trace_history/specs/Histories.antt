@@ -1,0 +1,81 @@
+-- A trace as a history: its fields, the ledger that the first of them starts, and what happens to that ledger then.
+use Prim.Native.Nat.{ℕ}
+use mathlib.Core.Path.{_≡_}
+use mathlib.Core.List.{List, [], _∷_, _++_, headD, tail}
+use Rattle.ledger.specs.Answers.{Said, only}
+use Rattle.ledger.specs.Steps.{startOf}
+use Rattle.ledger.specs.declared.Ledger.{Ledger}
+use Rattle.ledger.specs.declared.Part.{Part}
+use Rattle.history.specs.Events.{Event, message, malformed, arrival, Told}
+use Rattle.trace.specs.Fields.{tagOf, valueOf, sizeOf}
+use Rattle.trace.specs.Feeding.{Held, feed}
+use Rattle.text.specs.Lines.{lineOf}
+use Rattle.run.specs.Events.{eventOf}
+use Rattle.run.specs.Progressing.{begun, heardOf, offsetOf, runOf}
+use Rattle.run.specs.declared.Event.{Event as FieldEvent}
+use Rattle.run.specs.declared.Event.the-variants.{Start, Control, Malformed, Arrived, Fault}
+use Rattle.run.specs.declared.Stage.the-variants.{Running}
+use Rattle.answers.specs.Telling.{lineBy}
+
+-- ---- the fields
+
+-- a field more
+abbrev pub gathered : List (List ℕ) → List ℕ → List (List ℕ)
+gathered fields field = fields ++ (field ∷ [])
+
+-- the fields of a trace, each all of its bytes
+unfoldable pub fieldsOf : List ℕ → List (List ℕ)
+fieldsOf s = feed gathered (record { soFar = []; rest = [] }) s .soFar
+
+-- what a field is
+unfoldable pub eventIn : List ℕ → FieldEvent
+eventIn field = eventOf (tagOf field) (valueOf field)
+
+-- its run ends without a fault
+abbrev pub Faultless : List ℕ → Type 0
+Faultless s = runOf s .stage ≡ Running
+
+-- ---- the start, and what happens then
+
+-- "Tag 1, first and once": the ledger behind the first field
+abbrev pub startBy : List (List ℕ) → Ledger
+startBy [] = begun .ledger
+startBy (field ∷ fields) = heardOf (begun .ledger) (eventIn field) .next
+
+unfoldable pub startIn : List ℕ → Ledger
+startIn s = startBy (fieldsOf s)
+
+-- it is one that was accepted: of the part and the maximum that the field has, and "64 rows"
+pub record Started (l : Ledger) : Type 0 where
+  pub part : Part
+  pub maximum : ℕ
+  pub accepted : startOf part 64 maximum .says ≡ only 8
+  pub ledger : l ≡ startOf part 64 maximum .next
+
+-- what happens to it by a field
+abbrev pub happens : FieldEvent → List Event
+happens (Start part maximum) = []
+happens (Control m) = message m ∷ []
+happens (Malformed number) = malformed ∷ []
+happens (Arrived a) = arrival a ∷ []
+happens Fault = []
+
+unfoldable pub happeningIn : List (List ℕ) → List Event
+happeningIn [] = []
+happeningIn (field ∷ fields) = happens (eventIn field) ++ happeningIn fields
+
+-- THE HISTORY of a trace
+unfoldable pub historyOf : List ℕ → List Event
+historyOf s = happeningIn (fieldsOf s)
+
+-- ---- the lines of answers
+
+-- what an event is answered
+abbrev pub answered : Told → Said
+answered t = t .says
+
+-- a line for each field, with the offset of its tag, and what it was answered
+unfoldable pub linesOf : ℕ → List (List ℕ) → List Said → List ℕ
+linesOf offset [] says = []
+linesOf offset (field ∷ fields) says =
+    lineOf (lineBy offset (eventIn field) (headD says (only 0))) ++ linesOf (offsetOf offset (sizeOf field)) fields (tail says)
