@@ -1,20 +1,27 @@
 /* The collector's core, called from C and C++. `tools/archive` makes the archive for the machine that it runs on,
    target/native/libexports.a; examples/ shows it used from C, Rust and Python.
 
-   Each call answers a number; the calls on a ledger have further ones, which stand there:
+   Each call answers a number, and its comment lists those that can come. The calls on a ledger have further ones, which stand there:
 
      0  done
      1  more bytes are needed
      2  the type is unknown
-     3  the message is too long
-     4  the fields don't fill the message; a datagram is cut, or bytes follow a status
+     3  the body of a message is over 16,383 bytes
+     4  the fields don't fill the body; a datagram is cut, or bytes follow a status
      5  a value is forbidden, or a number is too great
-     6  a field is over its size
+     6  a count or a length is over its size
      7  what is lent to be written is too short
 
-   The first that holds is answered, in the order that a call names. What is lent to be written is changed only where 0 is answered, or
-   one of a ledger's numbers that say so; and of that only so many bytes or values as the call says, from the front on. Every byte and
-   value behind them stays.
+   How a reader decides. Of a message the Type is read first: 1 where it is cut, 2 where it is unknown. Then the Length: 1 where it is
+   cut, 3 where it is over 16,383, whether the body is there or not. Then the whole body has to be there, else 1. Only then its fields are
+   read, from left to right, each judged as soon as its integer or its byte is read, and the first fault is answered: 5 for a forbidden
+   value; 6 for a count or a length over its size, even where the bytes that it names are missing; 4 where the body ends within the field.
+   Bytes of the body that no field takes are 4. So `07 01 21` is 6, for 33 namespace fields, and not 4, and `17 80 00 40 00` is 3. A header
+   has a type and fields, and no Length: where it is cut it is 1 on a stream and 4 in a datagram.
+
+   A number of reading is answered before any other. What is lent to be written is changed only where 0 is answered, or one of a ledger's
+   numbers that say so; and of that only so many bytes or values as the call says, from the front on. Every byte and value behind them
+   stays.
 
    A slice is a pointer and a count of elements. What the caller must see to, as the calls can't:
      - a pointer points at so many elements, and isn't null even where the count is 0;
@@ -45,7 +52,7 @@ uint64_t moq_integer_write(uint64_t n, uint8_t *out, size_t out_len, uint64_t *i
 /* ---- messages and headers: one is read from the front of s, and written again in its shortest form at the front of out
 
    info[0]: the bytes used; info[1]: the bytes written, never more than were used; info[2]: the type, or 0 for the header of an
-   object, which has none. The numbers of reading are answered first. 7: info has fewer than 3 values, or out is too short. */
+   object, which has none. 7: info has fewer than 3 values, or out is too short. */
 
 /* A control message: 1, 2, 3, 4, 5, 6, 7. */
 uint64_t moq_control_rewrite(const uint8_t *s, size_t s_len, uint8_t *out, size_t out_len, uint64_t *info, size_t info_len);

@@ -1,4 +1,4 @@
--- The lines of document 01 that are marked P, and the edges beside them, as one table. One claim says that every line holds.
+-- The lines of document 01 that are marked P, and no others, as one table. One claim says that every line holds.
 -- Assumes nothing.
 use Prim.Native.Nat.{ℕ}
 use mathlib.Core.Path.{_≡_, refl}
@@ -40,14 +40,13 @@ use Rattle.ledger.specs.Steps.{startOf, find, changed, added, subscribeStep, ok
 use Rattle.ledger.specs.declared.Ledger.{Ledger}
 use Rattle.ledger.specs.declared.Part.the-variants.{Subscriber}
 use Rattle.trace.specs.Fields.{tagOf, valueOf, sizeOf as fieldSize, isWhole}
-use Rattle.trace.specs.Feeding.{take, feed}
+use Rattle.trace.specs.Feeding.{feedByte, feed}
 use Rattle.text.specs.Letters.{letters, decimalIn, decimalOf}
-use Rattle.text.specs.Words.{wordOf, firstNames, laterNames, lastNames, nameIn, nameOf}
+use Rattle.text.specs.Words.{wordOf}
 use Rattle.text.specs.Lines.{itemOf, endedOf, isNone, lineOf}
 use Rattle.run.specs.Events.{startedBy, controlBy, arrivedBy, eventOf}
 use Rattle.run.specs.Progressing.{offsetOf, stepOf, step, fed, endOf, runOf}
 use Rattle.report.specs.Report.{rowsText, ledgerText, textOf, reportOf}
-use Rattle.answers.specs.Telling.{lineIn, tell, endItems, lastText, answersOf}
 use Rattle.integer.specs.Integer.{wide, room, tag, sizeOf, spell, bytesOf, encOf, readOf, putOf, writeOf}
 
 -- a line: what is done, and what it comes to
@@ -64,8 +63,6 @@ pub data Line : Type 0 where
   takes : ℕ → ℕ → List Message → List Said → Line
   -- a trace is reported
   reports : List ℕ → List ℕ → Line
-  -- what its fields are answered is told
-  tells : List ℕ → List ℕ → Line
 
 pub data Result : Type 0 where
   read : Answer ℕ → Result
@@ -102,7 +99,6 @@ found (receives s r) = receive (messageOf s)
 found (sends s m before r) = write (messageAs s m before)
 found (takes rows maximum ms r) = answer (answersTo (startOf Subscriber rows maximum .next) ms)
 found (reports trace r) = report (reportOf trace)
-found (tells trace r) = report (answersOf trace)
 
 -- what the line says
 unfoldable pub stated : Line → Result
@@ -112,7 +108,6 @@ stated (receives s r) = receive r
 stated (sends s m before r) = write r
 stated (takes rows maximum ms r) = answer r
 stated (reports trace r) = report r
-stated (tells trace r) = report r
 
 -- the report's history: part and maximum; SUBSCRIBE; SUBSCRIBE_OK; two arrivals
 abbrev pub history : List ℕ
@@ -130,17 +125,12 @@ lines =
     -- P2 `3F` is 63, `40 40` is 64
     ∷ reads (0x3F ∷ []) (whole 63 1)
     ∷ reads (0x40 ∷ 0x40 ∷ []) (whole 64 2)
-    -- a longer form is read, a cut one is not
-    ∷ reads (0x40 ∷ 0x25 ∷ []) (whole 37 2)
-    ∷ reads (0x40 ∷ []) (refused 1)
     -- P3 `7F FF` is 16,383, `80 00 40 00` is 16,384
     ∷ reads (0x7F ∷ 0xFF ∷ []) (whole 16_383 2)
     ∷ reads (0x80 ∷ 0x00 ∷ 0x40 ∷ 0x00 ∷ []) (whole 16_384 4)
     -- P4 65,535 is written `80 00 FF FF`, 65,536 `80 01 00 00`; the byte after it stays
     ∷ writes 65_535 (1 ∷ 2 ∷ 3 ∷ 4 ∷ 5 ∷ []) (record { says = wrote 4; holds = 0x80 ∷ 0x00 ∷ 0xFF ∷ 0xFF ∷ 5 ∷ [] })
     ∷ writes 65_536 (1 ∷ 2 ∷ 3 ∷ 4 ∷ []) (record { says = wrote 4; holds = 0x80 ∷ 0x01 ∷ 0x00 ∷ 0x00 ∷ [] })
-    -- too short an output stays as it was
-    ∷ writes 64 (7 ∷ []) (record { says = refused 7; holds = 7 ∷ [] })
     -- P5 eight `FF` read 4,611,686,018,427,387,903; one more can't be written
     ∷ reads (0xFF ∷ 0xFF ∷ 0xFF ∷ 0xFF ∷ 0xFF ∷ 0xFF ∷ 0xFF ∷ 0xFF ∷ []) (whole 4_611_686_018_427_387_903 8)
     ∷ writes 4_611_686_018_427_387_904 [] (record { says = refused 5; holds = [] })
@@ -159,18 +149,12 @@ lines =
     ∷ receives (0x17 ∷ 0x80 ∷ 0x00 ∷ 0x40 ∷ 0x00 ∷ []) (refused 3)
     -- P11 maximum 10: ID 9 done, ID 10 R3
     ∷ takes 64 10 (subscribing 9 1 ∷ subscribing 10 2 ∷ []) (only 8 ∷ record { number = 13; rule = 3 } ∷ [])
-    -- "ID 9 twice with the same alias: R2. Maximum 0: every ID R3."
-    ∷ takes 64 10 (subscribing 9 1 ∷ subscribing 9 1 ∷ []) (only 8 ∷ record { number = 13; rule = 2 } ∷ [])
-    ∷ takes 64 0 (subscribing 0 0 ∷ []) (record { number = 13; rule = 3 } ∷ [])
     -- P12 the report's history gives its row
     ∷ reports history (letters "open 1\nID ALIAS STATE GROUP OBJECT COUNT\n3 7 active 65536 0 2\n")
-    ∷ tells history (letters "0 start 8\n5 SUBSCRIBE 8\n22 SUBSCRIBE_OK 8\n32 arrival 16\n41 arrival 16\n")
-    -- "0 for an empty input"
-    ∷ reports [] (letters "trace fault at 0\n")
     ∷ []
 
 computed : map found lines ≡ map stated lines
-unfolding found stated lines wide room tag sizeOf spell bytesOf readOf putOf writeOf numberAt fieldAt scan fetchCancel known layoutOf bodyOf messageOf messageAs allowedOf fetchAllowed right sized rightAll sizedAll encodeAll encode encField mean writtenOf frame encOf answersTo smallPiece smallAll askable allowedFilter subscriptionAllowed soundOf small smallPlace isKnown smallRange agree suits isRow isPending isNowhere isUnused held rising hasAlias distinct allUnused bounded isLedger breaks stops gateOf gated startOf added subscribeStep takeOf textAt numberedAt entryAt mostOf entriesAt few listAt placeAt place parameters givable filter delivery subscribe content subscribeOk subscriptionOf familyOf madeOf answerOf before inRange settledOf greater risen countedRow arriveOf openOf find changed okStep arrivalStep smallArrival arrivalOf tagOf valueOf fieldSize isWhole take feed letters decimalIn decimalOf wordOf itemOf endedOf isNone lineOf startedBy controlBy arrivedBy eventOf offsetOf stepOf step fed endOf runOf rowsText ledgerText textOf reportOf firstNames laterNames lastNames nameIn nameOf lineIn tell endItems lastText answersOf
+unfolding found stated lines wide room tag sizeOf spell bytesOf readOf putOf writeOf numberAt fieldAt scan fetchCancel known layoutOf bodyOf messageOf messageAs allowedOf fetchAllowed right sized rightAll sizedAll encodeAll encode encField mean writtenOf frame encOf answersTo smallPiece smallAll askable allowedFilter subscriptionAllowed soundOf small smallPlace isKnown smallRange agree suits isRow isPending isNowhere isUnused held rising hasAlias distinct allUnused bounded isLedger breaks stops gateOf gated startOf added subscribeStep takeOf textAt numberedAt entryAt mostOf entriesAt few listAt placeAt place parameters givable filter delivery subscribe content subscribeOk subscriptionOf familyOf madeOf answerOf before inRange settledOf greater risen countedRow arriveOf openOf find changed okStep arrivalStep smallArrival arrivalOf tagOf valueOf fieldSize isWhole feedByte feed letters decimalIn decimalOf wordOf itemOf endedOf isNone lineOf startedBy controlBy arrivedBy eventOf offsetOf stepOf step fed endOf runOf rowsText ledgerText textOf reportOf
 computed = refl
 
 -- two functions that map a list alike agree at each of its members

@@ -1,4 +1,4 @@
--- What the two calls on integers do: "info and out are changed only with 0; 7 where either is too short".
+-- What the two calls on integers do: info and out are changed only with 0; 7 where either is too short.
 use Prim.Native.Nat.{ℕ}
 use mathlib.Core.List.{List, [], _∷_}
 use lib.Dec.{leb}
@@ -6,7 +6,7 @@ use Rattle.integer.specs.Answer.{pick, Answer, whole, refused}
 use Rattle.integer.specs.Integer.{greatest, sizeOf, encOf, readOf}
 use Rattle.rewrite.specs.Rewriting.{Doing, putting, refusing}
 
--- "info[0] the number, info[1] bytes used"; no bytes are put, and no buffer is lent for them
+-- info[0]: the number; info[1]: the bytes used. No bytes are put, and no buffer is lent for them
 abbrev pub telling : Answer ℕ → List ℕ → Doing
 telling (whole n used) info = putting [] (n ∷ used ∷ []) [] info
 telling (refused number) info = refusing number [] info
@@ -14,6 +14,6 @@ telling (refused number) info = refusing number [] info
 unfoldable pub integerRead : List ℕ → List ℕ → Doing
 integerRead s info = telling (readOf s) info
 
--- "info[0] bytes written": 5 where the number is too great, then 7
+-- info[0]: the bytes written. 5 where the number is too great, then 7
 unfoldable pub integerWritten : ℕ → List ℕ → List ℕ → Doing
 integerWritten n out info = pick (leb n greatest) (putting (encOf n) (sizeOf n ∷ []) out info) (refusing 5 out info)

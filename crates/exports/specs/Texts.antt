@@ -4,6 +4,6 @@ use mathlib.Core.List.{List, [], _∷_}
 use lib.ListN.{length}
 use Rattle.rewrite.specs.Rewriting.{Doing, putting}
 
--- "the text of the two programs; info[0] its length"
+-- the text that the program prints; info[0]: its length
 unfoldable pub textPut : List ℕ → List ℕ → List ℕ → Doing
 textPut text out info = putting text (length text ∷ []) out info

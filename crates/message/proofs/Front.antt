@@ -83,7 +83,7 @@ answer-is {s} (present {size = size} {at = at} h short room e) =
 
 -- ---- a whole message
 
--- "Bytes used is Type, Length and body": the body is as long as Length says, all of it is there, and its fields fill it
+-- the bytes used are Type, Length and body: the body is as long as Length says, all of it is there, and its fields fill it
 pub record WholeAt (s : List ℕ) (t : Typed) (used : ℕ) : Type 0 where
   pub size : ℕ
   pub at : ℕ

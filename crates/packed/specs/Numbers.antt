@@ -1,5 +1,5 @@
--- A ledger as numbers: 710 of them. "A ledger starts with its own end's part, a row capacity and a maximum Subscribe ID"; "A row: ID,
--- alias, pending or active, range, greatest place counted or none, count."
+-- A ledger as numbers, 710 of them: what it starts with, "its own end's part (subscriber or publisher), a row capacity and a maximum
+-- Subscribe ID", and its rows. "A row: ID, alias, pending or active, range, greatest place counted or none, count."
 use Prim.Native.Nat.{ℕ}
 use mathlib.Core.List.{List, [], _∷_, _++_}
 use Rattle.field.specs.declared.Place.{Place}

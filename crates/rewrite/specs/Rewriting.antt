@@ -1,5 +1,5 @@
--- What is read from the front of bytes is written again in its shortest form. "Each function returns 01's number, writes `info` and
--- `out` only with 0 (7 where either is too short)."
+-- What is read from the front of bytes is written again in its shortest form: each call answers 01's number, and writes `info` and `out`
+-- only with 0; 7 where either is too short.
 use Prim.Native.Nat.{ℕ}
 use mathlib.Core.Path.{_≡_}
 use mathlib.Core.List.{List, [], _∷_, _++_}
@@ -31,7 +31,7 @@ putting bytes values out info =
     (refusing 7 out info))
     (refusing 7 out info)
 
--- "info[0] bytes used, info[1] bytes written, info[2] the type (0 for object headers)"
+-- info[0]: the bytes used; info[1]: the bytes written; info[2]: the type, 0 for the header of an object
 abbrev pub rewriting : {A : Type 0} → Answer A → (A → List ℕ) → (A → ℕ) → List ℕ → List ℕ → Doing
 rewriting (whole a used) form type out info = putting (form a) (used ∷ length (form a) ∷ type a ∷ []) out info
 rewriting (refused number) form type out info = refusing number out info

@@ -11,7 +11,7 @@ use lib.ListN.{length, getD, take, drop, take-append-drop, length-drop}
 use lib.Seq.{length-take-le, getD-take, take-suc, take-all}
 use Rattle.field.specs.Outcome.{both}
 use Rattle.trace.specs.Fields.{sizeOf, isWhole}
-use Rattle.trace.specs.Feeding.{Held, take as takeByte, feed}
+use Rattle.trace.specs.Feeding.{Held, feedByte, feed}
 
 -- true is not false
 differ : true ≡ false → ⊥
@@ -80,16 +80,16 @@ module _ {A : Type 0} (step : A → List ℕ → A) where
   pub feed-cut : (h : Held A) (s t : List ℕ) → feed step h (s ++ t) ≡ feed step (feed step h s) t
   unfolding feed
   feed-cut h [] t = refl
-  feed-cut h (byte ∷ s) t = feed-cut (takeByte step h byte) s t
+  feed-cut h (byte ∷ s) t = feed-cut (feedByte step h byte) s t
 
   -- one byte more
-  feed-one : (h : Held A) (byte : ℕ) → feed step h (byte ∷ []) ≡ takeByte step h byte
+  feed-one : (h : Held A) (byte : ℕ) → feed step h (byte ∷ []) ≡ feedByte step h byte
   unfolding feed
   feed-one h byte = refl
 
   -- as long as no field is whole, the bytes are held
   feed-part : (a : A) (s : List ℕ) (n : ℕ) → n ≤ length s → ((k : ℕ) → k ≤ n → isWhole (take k s) ≡ false) → feed step (holding a []) (take n s) ≡ holding a (take n s)
-  unfolding feed takeByte
+  unfolding feed feedByte
   feed-part a s zero h none = refl
   feed-part a s (suc n) h none =
       let e = take-suc s n 0 (omega arith) in
@@ -97,7 +97,7 @@ module _ {A : Type 0} (step : A → List ℕ → A) where
 
   -- and with its last byte a field is a step
   feed-field : (a : A) (s : List ℕ) (n : ℕ) → suc n ≤ length s → ((k : ℕ) → k ≤ n → isWhole (take k s) ≡ false) → isWhole (take (suc n) s) ≡ true → feed step (holding a []) (take (suc n) s) ≡ holding (step a (take (suc n) s)) []
-  unfolding takeByte
+  unfolding feedByte
   feed-field a s n h none now =
       let e = take-suc s n 0 (omega arith) in
       rw (e, feed-cut (holding a []) (take n s) (getD s n 0 ∷ []), feed-part a s n (omega arith) none, feed-one (holding a (take n s)) (getD s n 0), ← e, now)

@@ -11,12 +11,12 @@ pub record Held (A : Type 0) : Type 0 where
 
 module _ {A : Type 0} (step : A → List ℕ → A) where
   -- one byte more
-  unfoldable pub take : Held A → ℕ → Held A
-  take h byte =
+  unfoldable pub feedByte : Held A → ℕ → Held A
+  feedByte h byte =
       let field = h .rest ++ byte ∷ [] in
       pick (isWhole field) (record { soFar = step (h .soFar) field; rest = [] }) (record { soFar = h .soFar; rest = field })
 
   -- more bytes
   unfoldable pub feed : Held A → List ℕ → Held A
   feed h [] = h
-  feed h (byte ∷ bytes) = feed (take h byte) bytes
+  feed h (byte ∷ bytes) = feed (feedByte h byte) bytes
