@@ -5,13 +5,9 @@ use mathlib.Core.List.{List}
 use lib.Seq.{set-getD}
 use Rattle.field.specs.declared.Place.{Place}
 use Rattle.subscription.specs.declared.Content.{Content}
-use Rattle.row.specs.Rows.{unusedRow, arriveOf, leftBy, openOf}
+use Rattle.row.specs.Rows.{unusedRow, AtRow, arriveOf, openOf}
 use Rattle.row.specs.declared.Row.{Row}
-use Rattle.row.specs.declared.Arriving.{Arriving}
-use Rattle.row.specs.declared.Arriving.the-variants.{Waiting, Outside, Counted}
-use Rattle.row.specs.declared.Opening.{Opening}
-use Rattle.row.specs.declared.Opening.the-variants.{Refused, Opened}
-use Rattle.row.proofs.Keeping.{after, opening, opened}
+use Rattle.row.proofs.Keeping.{after, arrive-by, opened, open-by}
 use Rattle.ledger.specs.Answers.{Came, isOwn, breaks, done}
 use Rattle.ledger.specs.Steps.{rowAt, withRows, changed, openedAt, arrivedAt}
 use Rattle.ledger.specs.declared.Part.the-variants.{Publisher}
@@ -27,18 +23,11 @@ module _ (l : Ledger) (i : ℕ) where
   -- an arrival changes the row to what is behind it
   pub arrived-is : (place : Place) → arrivedAt l i (arriveOf (rowAt l i) place) .next ≡ changed l i (after place (rowAt l i))
   unfolding after
-  arrived-is place = go (arriveOf (rowAt l i) place)
-    where
-      go : (w : Arriving) → arrivedAt l i w .next ≡ changed l i (leftBy w (rowAt l i))
-      go Waiting = same-row
-      go Outside = same-row
-      go (Counted r) = refl
+  arrived-is place =
+      arrive-by (λ (x : AtRow). arrivedAt l i x .next ≡ changed l i (x .row)) place (rowAt l i) same-row same-row (λ _. refl)
 
   -- a SUBSCRIBE_OK breaks a rule, or changes the row to what is behind it
   pub opened-at : (content : Content) (P : Came → Type 0) → P (breaks l (isOwn (l .part) Publisher) R6) → P (done (changed l i (opened content (rowAt l i)))) → P (openedAt l Publisher i (openOf (rowAt l i) content))
   unfolding opened
-  opened-at content P broke changes = go (openOf (rowAt l i) content) changes
-    where
-      go : (o : Opening) → P (done (changed l i (opening o (rowAt l i)))) → P (openedAt l Publisher i o)
-      go Refused h = broke
-      go (Opened r) h = h
+  opened-at content P broke changes =
+      open-by (λ (x : AtRow). P (done (changed l i (x .row))) → P (openedAt l Publisher i x)) content (rowAt l i) (λ _. broke) (λ h. h) changes

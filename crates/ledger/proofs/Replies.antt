@@ -11,11 +11,10 @@ use Rattle.field.specs.declared.Place.{Place}
 use Rattle.subscription.specs.declared.Content.{Content}
 use Rattle.subscription.specs.declared.SubscribeOk.{SubscribeOk}
 use Rattle.row.specs.Ranges.{inRange, settledOf}
-use Rattle.row.specs.Rows.{unusedRow, countedRow, arriveIn, arriveOf, activeRow, openIn, openOf, mayEnd}
+use Rattle.row.specs.Rows.{unusedRow, countedRow, leaving, arriveIn, arriveOf, activeRow, openIn, openOf, mayEnd}
 use Rattle.row.specs.declared.Row.{Row}
 use Rattle.row.specs.declared.State.{State}
 use Rattle.row.specs.declared.State.the-variants.{Pending, Active}
-use Rattle.row.specs.declared.Arriving.the-variants.{Outside, Counted}
 use Rattle.row.specs.declared.Ending.{Ending}
 use Rattle.ledger.specs.Ledgers.{held, isLedger}
 use Rattle.ledger.specs.Answers.{Came, only, same, done, isOwn, breaks}
@@ -181,7 +180,7 @@ module _ (l : Ledger) where
       p : Place
       p = a .place
 
-      within : (i : ℕ) → find key n 0 (held l) ≡ At i → (b : Bool) → Does l own 16 (Counting p) key n (pick b (turns (counting p)) (stays outside)) (arrivedAt l i (pick b (Counted (countedRow (rowAt l i) p)) Outside))
+      within : (i : ℕ) → find key n 0 (held l) ≡ At i → (b : Bool) → Does l own 16 (Counting p) key n (pick b (turns (counting p)) (stays outside)) (arrivedAt l i (pick b (leaving 16 (countedRow (rowAt l i) p)) (leaving 17 (rowAt l i))))
       within i e true = turned {f = counting p} (λ r. refl) (changes l key n i e (λ r. countedRow r p))
       within i e false = stayed
 

@@ -15,7 +15,7 @@ use Rattle.integer.specs.Integer.{over}
 use Rattle.integer.proofs.Cases.{pick-by}
 use Rattle.field.specs.declared.Arrival.{Arrival}
 use Rattle.field.specs.declared.Place.{Place}
-use Rattle.row.specs.Rows.{unusedRow, arriveOf, leftBy}
+use Rattle.row.specs.Rows.{unusedRow, arriveOf, arrivedNumber, leftBy, toldArriving}
 use Rattle.row.specs.declared.Row.{Row}
 use Rattle.row.specs.declared.Arriving.{Arriving}
 use Rattle.row.specs.declared.Arriving.the-variants.{Waiting, Outside, Counted}
@@ -23,7 +23,7 @@ use Rattle.row.proofs.Keeping.{after, after-alias}
 use Rattle.ledger.specs.Ledgers.{held, isLedger, isOpen}
 use Rattle.ledger.specs.Answers.{Came, same, stops, gateOf, gated}
 use Rattle.ledger.specs.Steps.{find, aliasOf, rowAt, changed, arriveAt, arrivedAt, arrivalStep, arrivalOf, smallArrival}
-use Rattle.ledger.specs.Runs.{arrivalsIn, arrivedNumber, itself, behind, numbersOf, Run, runOf, saying, Runs}
+use Rattle.ledger.specs.Runs.{arrivalsIn, itself, behind, numbersOf, Run, runOf, saying, Runs}
 use Rattle.ledger.specs.declared.Ledger.{Ledger}
 use Rattle.ledger.specs.declared.Filled.the-variants.{Done, NotALedger, TooShort}
 use Rattle.ledger.specs.declared.Ran.{Ran}
@@ -194,17 +194,17 @@ module _ {start : Ledger} {run before names : List ℕ} {opened : Bool} {used : 
             pub inside : i < 64
             inside = omega (arith, found-used aliasOf (getD run (3 * k) 0) l by-alias at, ledger-used l (g .is))
 
-            pub counted-turn : {w : Arriving} {r : Row} {m : ℕ} → w ≡ arriveOf (rowAt l i) (arrivalAt run (3 * k) .place) → r ≡ leftBy w (rowAt l i) → m ≡ arrivedNumber w → Along start run before names opened used (set answers k m) (changed l i r) (k + 1)
-            counted-turn {w} {r} {m} came left number =
+            pub counted-turn : (w : Arriving) {r : Row} {m : ℕ} → toldArriving w (rowAt l i) ≡ arriveOf (rowAt l i) (arrivalAt run (3 * k) .place) → r ≡ leftBy w (rowAt l i) → m ≡ arrivedNumber w → Along start run before names opened used (set answers k m) (changed l i r) (k + 1)
+            counted-turn w {r} {m} came left number =
                 let s = step ∙ ap (λ (x : Found). arriveAt l x (arrivalAt run (3 * k) .place)) at ∙ ap (arrivedAt l i) (sym came) in
                 turn (rw left (sym (ap (λ (c : Came). c .next) s ∙ next-is w))) (number ∙ sym (ap (λ (c : Came). c .says .number) s ∙ number-is w))
               where
-                next-is : (w : Arriving) → arrivedAt l i w .next ≡ changed l i (leftBy w (rowAt l i))
+                next-is : (w : Arriving) → arrivedAt l i (toldArriving w (rowAt l i)) .next ≡ changed l i (leftBy w (rowAt l i))
                 next-is Waiting = same-row l i
                 next-is Outside = same-row l i
                 next-is (Counted x) = refl
 
-                number-is : (w : Arriving) → arrivedAt l i w .says .number ≡ arrivedNumber w
+                number-is : (w : Arriving) → arrivedAt l i (toldArriving w (rowAt l i)) .says .number ≡ arrivedNumber w
                 number-is Waiting = refl
                 number-is Outside = refl
                 number-is (Counted x) = refl

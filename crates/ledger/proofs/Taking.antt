@@ -12,7 +12,7 @@ use Rattle.message.specs.Sound.{soundOf}
 use Rattle.message.specs.declared.Message.{Message}
 use Rattle.message.specs.declared.Message.the-variants.{Subscription}
 use Rattle.row.specs.Ranges.{askedOf}
-use Rattle.row.specs.Rows.{pendingRow, arriveOf, openOf, mayEnd}
+use Rattle.row.specs.Rows.{pendingRow, arriveOf, openOf, mayEnd, toldArriving, toldOpening}
 use Rattle.row.specs.declared.Range.{Range}
 use Rattle.row.specs.declared.Row.{Row}
 use Rattle.row.specs.declared.Arriving.{Arriving}
@@ -38,20 +38,24 @@ module _ (l : Ledger) (a : Arrival) {f : Found} (found : f ≡ find aliasOf (a .
   unfolding arrivalStep
   no-alias e = rw (← found, e)
 
-  module _ {i : ℕ} {w : Arriving} (at : f ≡ At i) (came : w ≡ arriveOf (rowAt l i) (a .place)) where
+  module _ {i : ℕ} (at : f ≡ At i) where
+    abbrev at-row : Arriving → Came
+    at-row w = arrivedAt l i (toldArriving w (rowAt l i))
+
     -- the step at the row
-    by-row : arrivedAt l i w ≡ arrivalStep l a
+    by-row : (w : Arriving) → toldArriving w (rowAt l i) ≡ arriveOf (rowAt l i) (a .place) → at-row w ≡ arrivalStep l a
     unfolding arrivalStep
-    by-row = ap (arrivedAt l i) came ∙ ap (λ (g : Found). arriveAt l g (a .place)) (sym at ∙ found)
+    by-row w came = ap (arrivedAt l i) came ∙ ap (λ (g : Found). arriveAt l g (a .place)) (sym at ∙ found)
 
-    pub waiting : w ≡ Waiting → same l 19 ≡ arrivalStep l a
-    waiting e = ap (arrivedAt l i) (sym e) ∙ by-row
+    module _ {w : Arriving} (came : toldArriving w (rowAt l i) ≡ arriveOf (rowAt l i) (a .place)) where
+      pub waiting : w ≡ Waiting → same l 19 ≡ arrivalStep l a
+      waiting e = ap at-row (sym e) ∙ by-row w came
 
-    pub outside : w ≡ Outside → same l 17 ≡ arrivalStep l a
-    outside e = ap (arrivedAt l i) (sym e) ∙ by-row
+      pub outside : w ≡ Outside → same l 17 ≡ arrivalStep l a
+      outside e = ap at-row (sym e) ∙ by-row w came
 
-    pub counted : {r : Row} {next : Ledger} → w ≡ Counted r → next ≡ changed l i r → record { says = only 16; next = next } ≡ arrivalStep l a
-    counted {r} e n = rw n (ap (arrivedAt l i) (sym e) ∙ by-row)
+      pub counted : {r : Row} {next : Ledger} → w ≡ Counted r → next ≡ changed l i r → record { says = only 16; next = next } ≡ arrivalStep l a
+      counted {r} e n = rw n (ap at-row (sym e) ∙ by-row w came)
 
 -- ---- SUBSCRIBE_OK
 
@@ -60,16 +64,20 @@ module _ (l : Ledger) (m : SubscribeOk) {f : Found} (found : f ≡ find idOf (m 
   unfolding okStep
   ok-nowhere e h = h ∙ rw (← found, e)
 
-  module _ {i : ℕ} {o : Opening} (at : f ≡ At i) (opening : o ≡ openOf (rowAt l i) (m .content)) where
-    opened-row : openedAt l Publisher i o ≡ okStep l m
+  module _ {i : ℕ} (at : f ≡ At i) where
+    abbrev opens : Opening → Came
+    opens o = openedAt l Publisher i (toldOpening o (rowAt l i))
+
+    opened-row : (o : Opening) → toldOpening o (rowAt l i) ≡ openOf (rowAt l i) (m .content) → opens o ≡ okStep l m
     unfolding okStep
-    opened-row = ap (openedAt l Publisher i) opening ∙ ap (λ (g : Found). okAt l g m) (sym at ∙ found)
+    opened-row o opening = ap (openedAt l Publisher i) opening ∙ ap (λ (g : Found). okAt l g m) (sym at ∙ found)
 
-    pub ok-refused : {own : Bool} {came : Came} → o ≡ Refused → own ≡ isOwn (l .part) Publisher → came ≡ breaks l own R6 → came ≡ okStep l m
-    ok-refused e own h = h ∙ rw own (ap (openedAt l Publisher i) (sym e) ∙ opened-row)
+    module _ {o : Opening} (opening : toldOpening o (rowAt l i) ≡ openOf (rowAt l i) (m .content)) where
+      pub ok-refused : {own : Bool} {came : Came} → o ≡ Refused → own ≡ isOwn (l .part) Publisher → came ≡ breaks l own R6 → came ≡ okStep l m
+      ok-refused e own h = h ∙ rw own (ap opens (sym e) ∙ opened-row o opening)
 
-    pub ok-opened : {r : Row} {next : Ledger} → o ≡ Opened r → next ≡ changed l i r → done next ≡ okStep l m
-    ok-opened e n = rw n (ap (openedAt l Publisher i) (sym e) ∙ opened-row)
+      pub ok-opened : {r : Row} {next : Ledger} → o ≡ Opened r → next ≡ changed l i r → done next ≡ okStep l m
+      ok-opened e n = rw n (ap opens (sym e) ∙ opened-row o opening)
 
 -- ---- what ends a subscription
 

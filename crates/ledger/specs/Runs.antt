@@ -7,8 +7,6 @@ use lib.Dec.{leb}
 use Rattle.integer.specs.Answer.{pick, Answer, refused, Nothing, wrote}
 use Rattle.integer.specs.Integer.{over}
 use Rattle.field.specs.declared.Arrival.{Arrival}
-use Rattle.row.specs.declared.Arriving.{Arriving}
-use Rattle.row.specs.declared.Arriving.the-variants.{Waiting, Outside, Counted}
 use Rattle.ledger.specs.Ledgers.{isLedger}
 use Rattle.ledger.specs.Steps.{arrivalOf}
 use Rattle.ledger.specs.declared.Ledger.{Ledger}
@@ -23,12 +21,6 @@ arrivalsIn (alias ∷ []) = []
 arrivalsIn (alias ∷ group ∷ []) = []
 arrivalsIn (alias ∷ group ∷ object ∷ rest) =
     record { alias = alias; place = record { group = group; object = object } } ∷ arrivalsIn rest
-
--- 01's number of what comes of one at a row
-abbrev pub arrivedNumber : Arriving → ℕ
-arrivedNumber Waiting = 19
-arrivedNumber Outside = 17
-arrivedNumber (Counted next) = 16
 
 -- a number, which is found by itself
 abbrev pub itself : ℕ → ℕ

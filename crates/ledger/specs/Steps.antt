@@ -20,12 +20,8 @@ use Rattle.message.specs.declared.Message.{Message}
 use Rattle.message.specs.declared.Message.the-variants.{Subscription, Fetch, Announce, Session}
 use Rattle.row.specs.Places.{small, smallPlace}
 use Rattle.row.specs.Ranges.{askedOf}
-use Rattle.row.specs.Rows.{unusedRow, pendingRow, arriveOf, openOf, mayEnd}
+use Rattle.row.specs.Rows.{unusedRow, pendingRow, AtRow, arriveOf, openOf, mayEnd}
 use Rattle.row.specs.declared.Row.{Row}
-use Rattle.row.specs.declared.Arriving.{Arriving}
-use Rattle.row.specs.declared.Arriving.the-variants.{Waiting, Outside, Counted}
-use Rattle.row.specs.declared.Opening.{Opening}
-use Rattle.row.specs.declared.Opening.the-variants.{Refused, Opened}
 use Rattle.row.specs.declared.Ending.{Ending}
 use Rattle.row.specs.declared.Ending.the-variants.{SubscribeError as Erring, SubscribeDone as Ended, Unsubscribe as Leaving}
 use Rattle.ledger.specs.Ledgers.{held, hasAlias, emptyLedger}
@@ -116,9 +112,9 @@ unfoldable pub noRow : Ledger → Part → ℕ → Came
 noRow l by id = pick (leb (l .next) id) (breaks l (isOwn (l .part) by) R5) (same l 12)
 
 -- "OK on pending makes it active"; "R6: OK or ERROR on active"
-abbrev pub openedAt : Ledger → Part → ℕ → Opening → Came
-openedAt l by i Refused = breaks l (isOwn (l .part) by) R6
-openedAt l by i (Opened r) = done (changed l i r)
+abbrev pub openedAt : Ledger → Part → ℕ → AtRow → Came
+openedAt l by i at =
+    pick (eqb (at .number) 8) (done (changed l i (at .row))) (breaks l (isOwn (l .part) by) R6)
 
 abbrev pub okAt : Ledger → Found → SubscribeOk → Came
 okAt l Missing m = noRow l (sender (ASubscribeOk m)) (m .id)
@@ -157,10 +153,9 @@ maximumStep l id =
 -- ---- arrivals
 
 -- "An arrival is alias, group, object. With an active row and a place in range it is counted"; "for an arrival 18, 19, 17"
-abbrev pub arrivedAt : Ledger → ℕ → Arriving → Came
-arrivedAt l i Waiting = same l 19
-arrivedAt l i Outside = same l 17
-arrivedAt l i (Counted r) = record { says = only 16; next = changed l i r }
+abbrev pub arrivedAt : Ledger → ℕ → AtRow → Came
+arrivedAt l i at =
+    pick (eqb (at .number) 16) (record { says = only 16; next = changed l i (at .row) }) (same l (at .number))
 
 abbrev pub arriveAt : Ledger → Found → Place → Came
 arriveAt l Missing place = same l 18

@@ -14,7 +14,7 @@ use Rattle.subscription.specs.declared.Content.the-variants.{Nothing, Largest}
 use Rattle.shortest.proofs.Tests.{both-first, both-second}
 use Rattle.row.specs.Places.{before, small, smallPlace}
 use Rattle.row.specs.Ranges.{inRange, isKnown, smallRange, latest, moved, settledOf}
-use Rattle.row.specs.Rows.{top, agree, suits, isRow, pendingRow, greater, risen, countedRow, arriveIn, arriveOf, leftBy, activeRow, openIn, openOf}
+use Rattle.row.specs.Rows.{top, agree, suits, isRow, pendingRow, greater, risen, countedRow, AtRow, leaving, arriveIn, arriveOf, activeRow, breaksR6, openIn, openOf}
 use Rattle.row.specs.declared.State.{State}
 use Rattle.row.specs.declared.State.the-variants.{Pending, Active}
 use Rattle.row.specs.declared.Range.{Range}
@@ -22,9 +22,6 @@ use Rattle.row.specs.declared.Range.the-variants.{Unknown, Open, Closed}
 use Rattle.row.specs.declared.Greatest.{Greatest}
 use Rattle.row.specs.declared.Greatest.the-variants.{Nowhere, At}
 use Rattle.row.specs.declared.Row.{Row}
-use Rattle.row.specs.declared.Arriving.{Arriving}
-use Rattle.row.specs.declared.Opening.{Opening}
-use Rattle.row.specs.declared.Opening.the-variants.{Refused, Opened}
 use Rattle.row.proofs.Facts.{IsRow, row-parts, row-whole}
 
 -- ---- a pending row
@@ -36,16 +33,21 @@ pending-is id alias range i a s = rw (i, a, s)
 -- ---- the row behind an arrival
 
 unfoldable pub after : Place → Row → Row
-after place r = leftBy (arriveOf r place) r
+after place r = arriveOf r place .row
 
--- either it is counted, at an active row, or nothing changes
-after-by : (P : Row → Type 0) (place : Place) (r : Row) → P r → (r .state ≡ Active → P (countedRow r place)) → P (after place r)
-unfolding after arriveOf
-after-by P place r same counted = go (r .state) refl
+-- it waits, it is outside, or it is counted at an active row
+pub arrive-by : (P : AtRow → Type 0) (place : Place) (r : Row) → P (leaving 19 r) → P (leaving 17 r) → (r .state ≡ Active → P (leaving 16 (countedRow r place))) → P (arriveOf r place)
+unfolding arriveOf
+arrive-by P place r waits misses counts = go (r .state) refl
   where
-    go : (s : State) → r .state ≡ s → P (leftBy (arriveIn s r place) r)
-    go Pending e = same
-    go Active e = pick-by (λ (w : Arriving). P (leftBy w r)) (inRange (r .range) place) (λ _. counted e) (λ _. same)
+    go : (s : State) → r .state ≡ s → P (arriveIn s r place)
+    go Pending e = waits
+    go Active e = pick-by P (inRange (r .range) place) (λ _. counts e) (λ _. misses)
+
+-- so nothing changes, or it is counted
+after-by : (P : Row → Type 0) (place : Place) (r : Row) → P r → (r .state ≡ Active → P (countedRow r place)) → P (after place r)
+unfolding after
+after-by P place r same counted = arrive-by (λ (x : AtRow). P (x .row)) place r same same counted
 
 pub after-id : (place : Place) (r : Row) → after place r .id ≡ r .id
 unfolding countedRow
@@ -88,27 +90,28 @@ after-is place r s w =
 
 -- ---- the row behind a SUBSCRIBE_OK
 
-abbrev pub opening : Opening → Row → Row
-opening Refused r = r
-opening (Opened next) r = next
-
 unfoldable pub opened : Content → Row → Row
-opened content r = opening (openOf r content) r
+opened content r = openOf r content .row
 
--- either a pending row is active now, or nothing changes
-opened-by : (P : Row → Type 0) (content : Content) (r : Row) → P r → (r .state ≡ Pending → P (activeRow r (settledOf (r .range) content))) → P (opened content r)
-unfolding opened openOf
-opened-by P content r same active = go (r .state) refl
+-- a rule is broken, or a pending row is active now
+pub open-by : (P : AtRow → Type 0) (content : Content) (r : Row) → P (breaksR6 r) → P (leaving 8 (activeRow r (settledOf (r .range) content))) → P (openOf r content)
+unfolding openOf
+open-by P content r refused active = go (r .state)
   where
-    go : (s : State) → r .state ≡ s → P (opening (openIn s r content) r)
-    go Pending e = active e
-    go Active e = same
+    go : (s : State) → P (openIn s r content)
+    go Pending = active
+    go Active = refused
+
+-- so nothing changes, or it is active
+opened-by : (P : Row → Type 0) (content : Content) (r : Row) → P r → P (activeRow r (settledOf (r .range) content)) → P (opened content r)
+unfolding opened
+opened-by P content r same active = open-by (λ (x : AtRow). P (x .row)) content r same active
 
 pub opened-id : (content : Content) (r : Row) → opened content r .id ≡ r .id
-opened-id content r = opened-by (λ (x : Row). x .id ≡ r .id) content r refl (λ _. refl)
+opened-id content r = opened-by (λ (x : Row). x .id ≡ r .id) content r refl refl
 
 pub opened-alias : (content : Content) (r : Row) → opened content r .alias ≡ r .alias
-opened-alias content r = opened-by (λ (x : Row). x .alias ≡ r .alias) content r refl (λ _. refl)
+opened-alias content r = opened-by (λ (x : Row). x .alias ≡ r .alias) content r refl refl
 
 -- no number of a content is above the greatest integer
 abbrev pub smallContent : Content → Bool
@@ -153,4 +156,4 @@ active-is content r s w =
 pub opened-is : (content : Content) (r : Row) → smallContent content ≡ true → isRow r ≡ true → isRow (opened content r) ≡ true
 opened-is content r s w =
     opened-by (λ (x : Row). isRow x ≡ true) content r w
-    (λ _. row-whole (activeRow r (settledOf (r .range) content)) (active-is content r s (row-parts r w)))
+    (row-whole (activeRow r (settledOf (r .range) content)) (active-is content r s (row-parts r w)))

@@ -89,19 +89,22 @@ countedRow r place = record {
   count = risen (r .count);
 }
 
--- "With an active row and a place in range it is counted"
-abbrev pub arriveIn : State → Row → Place → Arriving
-arriveIn Pending r place = Waiting
-arriveIn Active r place = pick (inRange (r .range) place) (Counted (countedRow r place)) Outside
+-- what is answered at a row: 01's number, the rule behind a 13 (0 behind another), and the row that is left
+pub record AtRow : Type 0 where
+  pub number : ℕ
+  pub rule : ℕ
+  pub row : Row
 
-unfoldable pub arriveOf : Row → Place → Arriving
+abbrev pub leaving : ℕ → Row → AtRow
+leaving number row = record { number = number; rule = 0; row = row }
+
+-- "19 row still pending", "17 outside the range", "16 arrival counted"; "With an active row and a place in range it is counted"
+abbrev pub arriveIn : State → Row → Place → AtRow
+arriveIn Pending r place = leaving 19 r
+arriveIn Active r place = pick (inRange (r .range) place) (leaving 16 (countedRow r place)) (leaving 17 r)
+
+unfoldable pub arriveOf : Row → Place → AtRow
 arriveOf r place = arriveIn (r .state) r place
-
--- the row behind an arrival
-abbrev pub leftBy : Arriving → Row → Row
-leftBy Waiting r = r
-leftBy Outside r = r
-leftBy (Counted next) r = next
 
 -- "OK on pending makes it active", with the range that it settles
 abbrev pub activeRow : Row → Range → Row
@@ -114,11 +117,15 @@ activeRow r range = record {
   count = r .count;
 }
 
-abbrev pub openIn : State → Row → Content → Opening
-openIn Pending r content = Opened (activeRow r (settledOf (r .range) content))
-openIn Active r content = Refused
+-- "R6: OK or ERROR on active"
+abbrev pub breaksR6 : Row → AtRow
+breaksR6 r = record { number = 13; rule = 6; row = r }
 
-unfoldable pub openOf : Row → Content → Opening
+abbrev pub openIn : State → Row → Content → AtRow
+openIn Pending r content = leaving 8 (activeRow r (settledOf (r .range) content))
+openIn Active r content = breaksR6 r
+
+unfoldable pub openOf : Row → Content → AtRow
 openOf r content = openIn (r .state) r content
 
 -- "ERROR on pending, DONE on active and UNSUBSCRIBE on either free it"
@@ -128,3 +135,23 @@ mayEnd SubscribeError Active = false
 mayEnd SubscribeDone Pending = false
 mayEnd SubscribeDone Active = true
 mayEnd Unsubscribe state = true
+
+-- ---- 01's number and values of each answer, at the row as it was
+
+abbrev pub arrivedNumber : Arriving → ℕ
+arrivedNumber Waiting = 19
+arrivedNumber Outside = 17
+arrivedNumber (Counted next) = 16
+
+-- the row behind an arrival
+abbrev pub leftBy : Arriving → Row → Row
+leftBy Waiting r = r
+leftBy Outside r = r
+leftBy (Counted next) r = next
+
+abbrev pub toldArriving : Arriving → Row → AtRow
+toldArriving came r = leaving (arrivedNumber came) (leftBy came r)
+
+abbrev pub toldOpening : Opening → Row → AtRow
+toldOpening Refused r = breaksR6 r
+toldOpening (Opened next) r = leaving 8 next

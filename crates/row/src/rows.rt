@@ -1,6 +1,6 @@
 // What a row is, and what becomes of it.
 ghost use mathlib.Core.Path.{_≡_};
-ghost use Rattle.row.specs.Rows.{agree, suits, isRow, unusedRow, isPending, isNowhere, isUnused, pendingRow, greater, risen, countedRow, arriveOf, openOf, mayEnd};
+ghost use Rattle.row.specs.Rows.{agree, suits, isRow, unusedRow, isPending, isNowhere, isUnused, pendingRow, greater, risen, countedRow, arriveOf, openOf, mayEnd, toldArriving, toldOpening};
 use crate::Arriving;
 use crate::Ending;
 use crate::Greatest;
@@ -175,7 +175,7 @@ fn count(row: Row, place: Place) -> Row
 
 // What an arrival at a place comes to.
 pub fn arrive(row: Row, place: Place) -> Arriving
-    ensures { λ r. ⌜ r ≡ arriveOf row place ⌝ }
+    ensures { λ r. ⌜ toldArriving r row ≡ arriveOf row place ⌝ }
 {
     let state = row.state;
     let range = row.range;
@@ -192,7 +192,7 @@ pub fn arrive(row: Row, place: Place) -> Arriving
 
 // What a SUBSCRIBE_OK comes to.
 pub fn open(row: Row, content: Content) -> Opening
-    ensures { λ r. ⌜ r ≡ openOf row content ⌝ }
+    ensures { λ r. ⌜ toldOpening r row ≡ openOf row content ⌝ }
 {
     let state = row.state;
     let range = row.range;

@@ -37,7 +37,7 @@ loop-again c =
       c .before .before .before .before .before .before .loop .inv .1,
       omega arith,
       ⊎-elim
-          (λ w. rw (w .10, w .11) (counted-turn g h (omega arith) first (w .0 .taken) (w .2 .ensures) (w .4 .given .1) (w .7 .ensures) (w .8 .ensures) (w .9 .ensures)))
+          (λ w. rw (w .10, w .11) (counted-turn g h (omega arith) first (w .0 .taken) (w .2 .ensures) (w .4 .given .1) (w .7 .result) (w .7 .ensures) (w .8 .ensures) (w .9 .ensures)))
           (⊎-elim
           (λ w. rw (w .5, w .6) (missed-turn g h (omega arith) first (w .0 .taken) (w .2 .ensures) (w .4 .given .1)))
           (λ w. rw (w .1, w .2) (stopped-turn g h (omega arith) first (w .0 .left))))
