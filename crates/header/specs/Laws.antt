@@ -37,9 +37,12 @@ pub record Kept {A B : Type 0} (c : Codec A B) : Type 0 where
 -- The written bytes are the only shortest form of a header:
 pub record Shortest {A B : Type 0} (c : Codec A B) : Type 0 where
   -- no bytes that read as the same header are fewer, whatever follows them,
-  pub none-shorter : (s : List ℕ) (a : A) (before b : List ℕ) {n used : ℕ} → c .writeOf s a before .says ≡ wrote n → ReadsAs c b used s a → n ≤ used
+  pub none-shorter : (s : List ℕ) (a : A) (before b : List ℕ) {n used : ℕ}
+      → c .writeOf s a before .says ≡ wrote n → ReadsAs c b used s a → n ≤ used
   -- and those that are as many are the ones written.
-  pub only-one : (s : List ℕ) (a : A) (before b : List ℕ) {n used : ℕ} → c .writeOf s a before .says ≡ wrote n → ReadsAs c b used s a → Octets b → used ≡ n → take used b ≡ take n (c .writeOf s a before .holds)
+  pub only-one : (s : List ℕ) (a : A) (before b : List ℕ) {n used : ℕ}
+      → c .writeOf s a before .says ≡ wrote n → ReadsAs c b used s a → Octets b → used ≡ n
+      → take used b ≡ take n (c .writeOf s a before .holds)
 
 -- On a stream bytes come one after the other:
 pub record Steady {B : Type 0} (readOf : List ℕ → Answer B) : Type 0 where
