@@ -4,6 +4,7 @@
 use crate::answer::{MORE, WHOLE};
 use crate::hex;
 use crate::integer;
+use crate::message;
 use crate::report;
 use crate::rewrite::{self, Rewritten};
 use crate::script;
@@ -89,13 +90,32 @@ fn one_line(text: &[u8]) -> String {
     text.replace('\n', " / ").trim_end().to_string()
 }
 
-/// The answer to a case's line; `ledger` and a script is a case too. None for
-/// a line that is no case.
+/// The place of a message's track name: a 0 and the offset of each of its
+/// bytes, modulo 256; `-` where the bytes are no whole message.
+fn name_places(bytes: &[u8]) -> String {
+    let Ok((message, _)) = message::read(bytes) else {
+        return "-".to_string();
+    };
+    let mut line = WHOLE.to_string();
+    if let Some(name) = message.track_name() {
+        let start = name.as_ptr() as usize - bytes.as_ptr() as usize;
+        for offset in start..start + name.len() {
+            line += &format!(" {}", offset % 256);
+        }
+    }
+    line
+}
+
+/// The answer to a case's line; `ledger` and a script is a case too, and so is
+/// `name` and a message. None for a line that is no case.
 pub fn answer_line(line: &str) -> Option<String> {
     let line = line.trim();
     let (word, rest) = line.split_once(' ').unwrap_or((line, ""));
     if word == "ledger" {
         return script::run(rest);
+    }
+    if word == "name" {
+        return Some(name_places(&hex::decode(rest)?));
     }
     let kind = Kind::of_word(word)?;
     Some(answer(kind, &hex::decode(rest)?))

@@ -2,7 +2,7 @@
 
 use crate::announce::{JustNamespace, NamespaceError, NamespaceParameters};
 use crate::answer::{BODY, FILL, FORBIDDEN, SHORT, SIZE, UNKNOWN};
-use crate::fetch::{Fetch, FetchError, FetchOk};
+use crate::fetch::{Fetch, FetchError, FetchOk, FetchType};
 use crate::fields::Fields;
 use crate::setup::{ClientSetup, Goaway, ServerSetup};
 use crate::sink::{Measure, Sink, Writer};
@@ -109,6 +109,21 @@ impl<'a> Message<'a> {
     /// The message's name as 004 spells it.
     pub fn name(&self) -> &'static str {
         self.kind_and_name().1
+    }
+
+    /// The name of the track that the message names, if it names one: a
+    /// part of the bytes that it was read from.
+    pub fn track_name(&self) -> Option<&'a [u8]> {
+        match self {
+            Message::Subscribe(body) => Some(body.track.name),
+            Message::TrackStatusRequest(body) => Some(body.track.name),
+            Message::TrackStatus(body) => Some(body.track.name),
+            Message::Fetch(body) => match body.fetch_type {
+                FetchType::Standalone(standalone) => Some(standalone.track.name),
+                FetchType::RelativeJoining(_) | FetchType::AbsoluteJoining(_) => None,
+            },
+            _ => None,
+        }
     }
 
     /// Reads the body of a message of a known type.

@@ -1,6 +1,6 @@
 // Answers cases: each line of the file `cases` is the name of a reader and bytes in hexadecimal. For each a line is printed: the number
-// that is answered, and behind a 0 the bytes used and the shortest form; for an integer its number and the bytes used; for a
-// trace its report, or what each field is answered, with ` /` for each newline.
+// that is answered, and behind a 0 the bytes used and the shortest form; for an integer its number and the bytes used; for the name of
+// a message's track the offsets of its bytes; for a trace its report, or what each field is answered, with ` /` for each newline.
 ghost use mathlib.Core.Path.{_≡_};
 ghost use Prim.Native.Nat.{_≤_};
 ghost use lib.ListN.{length};
@@ -219,6 +219,45 @@ fn say_fetch_object(s: &[u8]) {
     say_rewritten(number, info, &out);
 }
 
+// Makes each byte its own offset, modulo 256.
+fn number_bytes(bytes: &mut [u8]) {
+    let mut i: usize = 0;
+    while i < bytes.len() {
+        bytes[i] = (i % 256) as u8;
+        i += 1;
+    }
+}
+
+fn say_offset(offset: u8) {
+    say(b" ");
+    say_number(offset as u64);
+}
+
+fn say_offsets(offsets: &[u8]) {
+    let mut i: usize = 0;
+    while i < offsets.len() {
+        say_offset(offsets[i]);
+        i += 1;
+    }
+}
+
+// Where the name of a message lies: a 0, and the offset of each of its bytes. It is asked for among as many bytes as the message was
+// read from, each of them its own offset; so what is handed back tells its place, also where the message holds the same bytes twice.
+fn say_name(s: &[u8]) {
+    let mut places = [0u8; 2048];
+    number_bytes(&mut places);
+    let end = s.len();
+    if let message::Reading::Whole(m, _) = message::read(s) {
+        say(b"0");
+        if end <= places.len() {
+            say_offsets(message::track_name(&places[..end], m));
+        }
+        say(b"\n");
+        return;
+    }
+    say(b"-\n");
+}
+
 // Has bytes answered by the reader of this name.
 fn answer(word: &[u8], s: &[u8]) {
     if is_same(word, b"integer") {
@@ -226,6 +265,9 @@ fn answer(word: &[u8], s: &[u8]) {
     }
     if is_same(word, b"control") {
         say_control(s);
+    }
+    if is_same(word, b"name") {
+        say_name(s);
     }
     if is_same(word, b"stream") {
         say_stream(s);
