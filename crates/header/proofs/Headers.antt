@@ -10,7 +10,7 @@ use lib.ListN.{length, take}
 use lib.Dec.{lit≤}
 use Rattle.integer.specs.Answer.{Answer, whole as answered, refused}
 use Rattle.integer.specs.Integer.{encOf}
-use Rattle.field.specs.Outcome.{Outcome, whole, no, answer}
+use Rattle.field.specs.Outcome.{answer}
 use Rattle.field.specs.Value.{mean}
 use Rattle.field.specs.declared.Piece.{Piece}
 use Rattle.layout.specs.Layout.{Layout, scan}

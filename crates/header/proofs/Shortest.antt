@@ -1,15 +1,14 @@
 -- The written bytes are the only shortest form of a header, of each header that has one form for what was read. Assumes nothing.
-use Prim.Native.Nat.{ℕ, _+_, _≤_}
-use mathlib.Core.Path.{_≡_, refl, sym, ap, _∙_}
+use Prim.Native.Nat.{ℕ}
+use mathlib.Core.Path.{_≡_, sym, ap, _∙_}
 use mathlib.Core.Bool.{Bool, true}
-use mathlib.Core.List.{List, [], _++_, map}
+use mathlib.Core.List.{List, [], _++_}
 use native.Mathlib.Omega.{arith}
 use lib.ListN.{length, take, drop}
 use lib.Seq.{take-append-seam}
 use Rattle.integer.specs.Answer.{Answer, whole as answered, wrote, Written}
 use Rattle.integer.specs.Integer.{encOf}
 use Rattle.field.specs.Outcome.{whole, answer}
-use Rattle.field.specs.Value.{mean}
 use Rattle.field.specs.declared.Piece.{Piece}
 use Rattle.field.proofs.Least.{Least, least-then, least-number}
 use Rattle.layout.specs.Layout.{Layout, scan}
@@ -23,7 +22,7 @@ use Rattle.shortest.proofs.Alike.{wrote-bytes, encoded-alike}
 use Rattle.header.specs.Layouts.{Named}
 use Rattle.header.specs.Reading.{headedOf}
 use Rattle.header.specs.Writing.{headerWritten}
-use Rattle.header.specs.Laws.{Codec, ReadsAs, Shortest}
+use Rattle.header.specs.Laws.{Codec, Shortest}
 use Rattle.header.specs.Codecs.{untyped}
 use Rattle.header.proofs.Front.{was-whole, parts}
 
@@ -34,7 +33,7 @@ pub record Stands (w : Written) (bytes : List ℕ) (n : ℕ) : Type 0 where
   pub used : n ≡ length bytes
   pub there : take n (w .holds) ≡ bytes
 
--- a form for what was read: it is what is written, no form that is read is shorter, and what is the same has the same
+-- a form for what was read: it is what is written, no shorter bytes are read so, and what is the same has the same form
 pub record Form {A B : Type 0} (c : Codec A B) : Type 0 where
   pub form : List ℕ → B → List ℕ
   pub written : (s : List ℕ) (a : A) (before : List ℕ) {n : ℕ} → c .writeOf s a before .says ≡ wrote n → Stands (c .writeOf s a before) (form s (c .said a)) n
