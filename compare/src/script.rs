@@ -2,10 +2,10 @@
 //! `start 0 64 10; subscribe 3 7 1 2; ok 3 1 0; arrive 7 0 0`.
 //!
 //! The calls: `start PART CAPACITY MAXIMUM`, `subscribe ID ALIAS ORDER FILTER
-//! [START_GROUP START_OBJECT [END_GROUP]]`, `ok ID ORDER CONTENT
-//! [LARGEST_GROUP LARGEST_OBJECT]`, `error ID`, `done ID`, `unsubscribe ID`,
-//! `max ID`, `malformed`, `arrive ALIAS GROUP OBJECT`, and `other NAME` for a
-//! message that the ledger doesn't keep.
+//! [START_GROUP START_OBJECT [END_GROUP [PARAMETERS]]]` (how many it has), `ok
+//! ID ORDER CONTENT [LARGEST_GROUP LARGEST_OBJECT]`, `error ID`, `done ID`,
+//! `unsubscribe ID`, `max ID`, `malformed`, `arrive ALIAS GROUP OBJECT`, and
+//! `other NAME` for a message that the ledger doesn't keep.
 
 use crate::answer::DONE;
 use crate::fields::{Namespace, Parameters, Track};
@@ -109,10 +109,11 @@ fn subscribe(values: &[u64]) -> Option<Message<'static>> {
     let [subscribe_id, track_alias, group_order, filter_type, ref asked @ ..] = values[..] else {
         return None;
     };
-    let (start, end_group) = match *asked {
-        [] => (None, None),
-        [group, object] => (Some(Place { group, object }), None),
-        [group, object, end] => (Some(Place { group, object }), Some(end)),
+    let (start, end_group, count) = match *asked {
+        [] => (None, None, 0),
+        [group, object] => (Some(Place { group, object }), None, 0),
+        [group, object, end] => (Some(Place { group, object }), Some(end), 0),
+        [group, object, end, count] => (Some(Place { group, object }), Some(end), count),
         _ => return None,
     };
     let namespace = Namespace {
@@ -131,7 +132,7 @@ fn subscribe(values: &[u64]) -> Option<Message<'static>> {
         filter_type,
         start,
         end_group,
-        parameters: NO_PARAMETERS,
+        parameters: Parameters { count, bytes: &[] },
     }))
 }
 

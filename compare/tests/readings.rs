@@ -664,6 +664,11 @@ fn starts_and_steps() {
             "8, 8, 11, 8, 8",
         ),
         ("start 0 64 10; other GOAWAY; malformed; other GOAWAY", "8, 9, 13 R1, 10"),
+        // a count of entries is a number of the message
+        (
+            "start 0 64 10; subscribe 3 7 1 4 5 6 7 4611686018427387904; subscribe 3 7 1 4 5 6 7 4611686018427387903",
+            "8, 5, 8",
+        ),
     ];
     for (calls, expected) in scripts {
         assert_eq!(script::run(calls).as_deref(), Some(expected), "{calls}");

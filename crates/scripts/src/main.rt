@@ -1,7 +1,7 @@
 // Answers scripts of calls on a ledger: each line of standard input is a script, calls with `;` between them, and what each
-// is answered is printed. `start PART CAPACITY MAXIMUM`, `subscribe ID ALIAS ORDER FILTER [GROUP OBJECT [END_GROUP]]`,
-// `ok ID ORDER CONTENT [GROUP OBJECT]`, `error ID`, `done ID`, `unsubscribe ID`, `max ID`, `malformed`, `other`,
-// `arrive ALIAS GROUP OBJECT`.
+// is answered is printed. `start PART CAPACITY MAXIMUM`, `subscribe ID ALIAS ORDER FILTER [GROUP OBJECT [END_GROUP [PARAMETERS]]]`
+// (how many parameters it has), `ok ID ORDER CONTENT [GROUP OBJECT]`, `error ID`, `done ID`, `unsubscribe ID`, `max ID`,
+// `malformed`, `other`, `arrive ALIAS GROUP OBJECT`.
 ghost use mathlib.Core.Path.{_≡_};
 ghost use Prim.Native.Nat.{_≤_};
 ghost use lib.ListN.{length};
@@ -43,16 +43,16 @@ fn part(n: u64) -> Part {
     Part::Publisher
 }
 
-// A part of no bytes, and a list without entries: the ledger looks at neither.
+// A part of no bytes, and so many entries of no bytes: of both the ledger looks at the numbers alone.
 fn no_span() -> Span {
     Span { start: 0, end: 0 }
 }
 
-fn no_entries() -> Entries {
+fn entries(count: u64) -> Entries {
     Entries {
         start: 0,
         end: 0,
-        count: 0,
+        count,
     }
 }
 
@@ -61,13 +61,13 @@ fn subscribe(l: Ledger, n: [u64; 8], filter: Filter) -> Taken {
         id: n[0],
         alias: n[1],
         track: Track {
-            namespace: no_entries(),
+            namespace: entries(1),
             name: no_span(),
         },
         priority: 0,
         order: (n[2] % 256) as u8,
         filter,
-        parameters: no_entries(),
+        parameters: entries(n[7]),
     })
 }
 
@@ -105,7 +105,7 @@ fn accept(l: Ledger, n: [u64; 8]) -> Taken {
         expires: 0,
         order: (n[1] % 256) as u8,
         content: content(n),
-        parameters: no_entries(),
+        parameters: entries(0),
     })
 }
 

@@ -1,14 +1,42 @@
--- The loop that looks at the numbers of all fields: those that are left tell what all of them tell. Assumes nothing.
+-- The numbers of a field; and the loop that looks at those of all fields: those that are left tell what all of them tell. Assumes
+-- nothing.
 use Prim.Native.Nat.{ℕ, _+_, _≤_, _<_}
 use mathlib.Core.Path.{_≡_, refl, sym, _∙_}
 use mathlib.Core.Bool.{Bool, true, false, not}
-use borrow.Author.Tests.{not-true, not-false}
+use native.Mathlib.Omega.{arith}
+use borrow.Author.Tests.{le-leb, lt-leb, not-true, not-false}
 use lib.ListN.{length, getD}
-use Rattle.shortest.specs.Small.{smallPiece, smallAll}
+use Rattle.integer.specs.Integer.{greatest}
+use Rattle.field.specs.Entries.{size}
+use Rattle.field.specs.declared.Span.{Span}
+use Rattle.field.specs.declared.Track.{Track}
+use Rattle.field.specs.declared.Piece.{Piece}
+use Rattle.field.specs.declared.Piece.the-variants.{Track as Tracked}
+use Rattle.shortest.specs.Small.{smallSpan, smallList, smallPiece, smallAll}
 use Rattle.shortest.specs.Writing.{slot, fieldsOf, tenOf}
 use Rattle.shortest.specs.declared.Slot.{Slot}
 use Rattle.shortest.specs.declared.Fields.{Fields}
 use Rattle.shortest.proofs.Rows.{fieldsFrom, from-first, from-next, from-last}
+
+-- ---- a field
+
+-- a part that ends before it starts has no bytes
+pub short-backward : (p : Span) → p .end < p .start → true ≡ smallSpan p
+unfolding smallSpan
+short-backward p h = sym (le-leb (size p) greatest (omega arith))
+
+module _ {p : Piece} {t : Track} (e : p ≡ Tracked t) where
+  -- a namespace with too many fields decides,
+  pub track-great : greatest < t .namespace .count → false ≡ smallPiece p
+  unfolding smallPiece smallList
+  track-great h = rw (e, lt-leb (t .namespace .count) greatest h)
+
+  -- and another leaves it to the name
+  pub track-small : {b : Bool} → t .namespace .count ≤ greatest → b ≡ smallSpan (t .name) → b ≡ smallPiece p
+  unfolding smallPiece smallList
+  track-small h s = rw (e, le-leb (t .namespace .count) greatest h) s
+
+-- ---- all of them
 
 pub Left : Fields → ℕ → Type 0
 Left f i = smallAll (fieldsFrom f i) ≡ smallAll (fieldsOf f)

@@ -1,10 +1,23 @@
-// Whether the numbers of fields are integers: none is above the greatest.
+// Whether the numbers of fields are integers: none is above the greatest. Counts and lengths are numbers too.
 ghost use mathlib.Core.Path.{_≡_};
-ghost use Rattle.shortest.specs.Small.{smallPiece, smallAll};
+ghost use Rattle.shortest.specs.Small.{smallSpan, smallPiece, smallAll};
 ghost use Rattle.shortest.specs.Writing.{fieldsOf};
 use crate::Fields;
 use crate::writer::ten;
 use field::Piece;
+use field::Span;
+
+// Whether the length of a part is one. (A part that ends before it starts has none; it is the writer's to refuse.)
+fn is_short(p: Span) -> bool
+    ensures { λ r. ⌜ r ≡ smallSpan p ⌝ }
+{
+    let start = p.start;
+    let end = p.end;
+    if start > end {
+        return true;
+    }
+    (end - start) as u64 <= integer::GREATEST
+}
 
 fn is_small(p: Piece) -> bool
     ensures { λ r. ⌜ r ≡ smallPiece p ⌝ }
@@ -12,9 +25,16 @@ fn is_small(p: Piece) -> bool
     match p {
         Piece::Number(n) => n <= integer::GREATEST,
         Piece::Byte(_) => true,
-        Piece::Bytes(_) => true,
-        Piece::List(_, _) => true,
-        Piece::Track(_) => true,
+        Piece::Bytes(b) => is_short(b),
+        Piece::List(_, l) => l.count <= integer::GREATEST,
+        Piece::Track(t) => {
+            let namespace = t.namespace;
+            let name = t.name;
+            if namespace.count > integer::GREATEST {
+                return false;
+            }
+            is_short(name)
+        }
     }
 }
 

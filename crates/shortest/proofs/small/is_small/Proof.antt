@@ -1,17 +1,19 @@
 -- `is_small` meets its contract. Assumes nothing.
 use borrow.Author.Needs.{needs}
 use Rattle.layout.proofs.Said.{told-of}
-use Rattle.shortest.specs.Small.{smallPiece}
+use Rattle.shortest.specs.Small.{smallList, smallPiece}
+use Rattle.shortest.proofs.AllSmall.{track-great, track-small}
 use Rattle.shortest.proofs.small.is_small.Statement.{statement}
 use Rattle.shortest.proofs.small.is_small.Tie as tie
 
 pub is-small-spec : {M : Type 1} → statement M
-unfolding smallPiece
+unfolding smallList smallPiece
 is-small-spec =
     tie.close
     (tie.spec
-    (λ c. search needs) (λ c. search needs) (λ c. search needs) (λ c. search needs) (λ c. search needs) (λ c. search (told-of smallPiece))
+    (λ c. search needs) (λ c. search needs) (λ c. search needs) (λ c κs. search needs) (λ c. search needs) (λ c. search needs) (λ c. search track-great)
+    (λ c κs. search needs) (λ c. search (told-of smallPiece))
     (λ c. search (told-of smallPiece))
     (λ c. search (told-of smallPiece))
     (λ c. search (told-of smallPiece))
-    (λ c. search (told-of smallPiece)))
+    (λ c. search track-small))
