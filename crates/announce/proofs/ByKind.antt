@@ -6,15 +6,17 @@ use Rattle.field.specs.Outcome.{whole, no}
 use Rattle.field.specs.declared.Fault.{Fault}
 use Rattle.field.specs.declared.Piece.{Piece}
 use Rattle.layout.specs.Layout.{done, scan}
-use Rattle.layout.specs.Typed.{Typed, led, typed}
+use Rattle.layout.specs.Typed.{led, typed}
 use Rattle.layout.proofs.Family.{behind-no, behind-whole}
 use Rattle.layout.proofs.Steps.{To, Stops}
+use Rattle.shortest.specs.Writing.{placed}
+use Rattle.shortest.specs.declared.Fields.{Fields}
 use Rattle.announce.specs.Layouts.{rest, numberOf}
 use Rattle.announce.specs.declared.kinds.AnnounceKind.{AnnounceKind}
 
 -- its number, where it was looked up
-pub numbered : {n k : ℕ} {ps : List Piece} {t : Typed} → n ≡ k → t ≡ record { type = n; pieces = ps } → t ≡ record { type = k; pieces = ps }
-numbered e h = rw (← e) h
+pub numbered : {n k : ℕ} (ps : List Piece) {f : Fields} → n ≡ k → f ≡ placed (record { type = n; pieces = ps }) → f ≡ placed (record { type = k; pieces = ps })
+numbered ps e h = rw (← e) h
 
 -- what follows the namespace: a fault in it, or all of it
 module _ (s : List ℕ) (at : ℕ) (namespace : Piece) {kind k : AnnounceKind} (which : kind ≡ k) where

@@ -1,6 +1,6 @@
 // A message as its fields, in the order of its layout.
 ghost use mathlib.Core.Path.{_≡_};
-ghost use Rattle.shortest.specs.Writing.{typedOf};
+ghost use Rattle.shortest.specs.Writing.{placed};
 ghost use Rattle.announce.specs.Layouts.{numberOf};
 ghost use Rattle.announce.specs.Told.{saidOf};
 use crate::AnnounceMessage;
@@ -25,7 +25,7 @@ pub fn number(m: AnnounceMessage) -> u64
 }
 
 pub fn fields(m: AnnounceMessage) -> Fields
-    ensures { λ r. ⌜ typedOf r ≡ saidOf m ⌝ }
+    ensures { λ r. ⌜ r ≡ placed (saidOf m) ⌝ }
 {
     match m {
         AnnounceMessage::Named(k, namespace) => {

@@ -21,7 +21,7 @@ use Rattle.fetch.specs.declared.FetchMessage.the-variants.{FetchCancel}
 use Rattle.shortest.specs.Judging.{right, sized}
 use Rattle.shortest.specs.Writing.{rightAll, sizedAll, encodeAll, writtenOf, frame}
 use Rattle.field.specs.Value.{mean, encField, encode}
-use Rattle.shortest.specs.Small.{smallPiece, smallAll}
+use Rattle.shortest.specs.Small.{smallSpan, smallList, smallPiece, smallAll}
 use Rattle.field.specs.Value.{nowhere}
 use Rattle.field.specs.Rules.{askable, givable}
 use Rattle.subscription.specs.Layouts.{filter, delivery, subscribe, content, subscribeOk}
@@ -154,7 +154,7 @@ lines =
     ∷ []
 
 computed : map found lines ≡ map stated lines
-unfolding found stated lines wide room tag sizeOf spell bytesOf readOf putOf writeOf numberAt fieldAt scan fetchCancel known layoutOf bodyOf messageOf messageAs allowedOf fetchAllowed right sized rightAll sizedAll encodeAll encode encField mean writtenOf frame encOf answersTo smallPiece smallAll askable allowedFilter subscriptionAllowed soundOf small smallPlace isKnown smallRange agree suits isRow isPending isNowhere isUnused held rising hasAlias distinct allUnused bounded isLedger breaks stops gateOf gated startOf added subscribeStep takeOf textAt numberedAt entryAt mostOf entriesAt few listAt placeAt place parameters givable filter delivery subscribe content subscribeOk subscriptionOf familyOf madeOf answerOf before inRange settledOf greater risen countedRow arriveOf openOf find changed okStep arrivalStep smallArrival arrivalOf tagOf valueOf fieldSize isWhole feedByte feed letters decimalIn decimalOf wordOf itemOf endedOf isNone lineOf startedBy controlBy arrivedBy eventOf offsetOf stepOf step fed endOf runOf rowsText ledgerText textOf reportOf
+unfolding found stated lines wide room tag sizeOf spell bytesOf readOf putOf writeOf numberAt fieldAt scan fetchCancel known layoutOf bodyOf messageOf messageAs allowedOf fetchAllowed right sized rightAll sizedAll encodeAll encode encField mean writtenOf frame encOf answersTo smallSpan smallList smallPiece smallAll askable allowedFilter subscriptionAllowed soundOf small smallPlace isKnown smallRange agree suits isRow isPending isNowhere isUnused held rising hasAlias distinct allUnused bounded isLedger breaks stops gateOf gated startOf added subscribeStep takeOf textAt numberedAt entryAt mostOf entriesAt few listAt placeAt place parameters givable filter delivery subscribe content subscribeOk subscriptionOf familyOf madeOf answerOf before inRange settledOf greater risen countedRow arriveOf openOf find changed okStep arrivalStep smallArrival arrivalOf tagOf valueOf fieldSize isWhole feedByte feed letters decimalIn decimalOf wordOf itemOf endedOf isNone lineOf startedBy controlBy arrivedBy eventOf offsetOf stepOf step fed endOf runOf rowsText ledgerText textOf reportOf
 computed = refl
 
 -- two functions that map a list alike agree at each of its members

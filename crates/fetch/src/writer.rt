@@ -1,6 +1,6 @@
 // A message as its fields, in the order of its layout; and whether its values are permitted.
 ghost use mathlib.Core.Path.{_≡_};
-ghost use Rattle.shortest.specs.Writing.{typedOf};
+ghost use Rattle.shortest.specs.Writing.{placed};
 ghost use Rattle.fetch.specs.Told.{joiningType, fetchPieces, statusPieces, saidOf};
 ghost use Rattle.fetch.specs.Allowed.{allowedOf};
 use crate::Fetch;
@@ -29,7 +29,7 @@ pub fn number(m: FetchMessage) -> u64
 }
 
 pub fn fields(m: FetchMessage) -> Fields
-    ensures { λ r. ⌜ typedOf r ≡ saidOf m ⌝ }
+    ensures { λ r. ⌜ r ≡ placed (saidOf m) ⌝ }
 {
     match m {
         FetchMessage::Fetch(x) => fetch_fields(x),
@@ -63,7 +63,7 @@ pub fn fields(m: FetchMessage) -> Fields
 }
 
 fn fetch_fields(x: Fetch) -> Fields
-    ensures { λ r. ⌜ typedOf r ≡ record { type = 0x16; pieces = fetchPieces x } ⌝ }
+    ensures { λ r. ⌜ r ≡ placed (record { type = 0x16; pieces = fetchPieces x }) ⌝ }
 {
     let id = Piece::Number(x.id);
     let priority = Piece::Byte(x.priority);
@@ -76,9 +76,8 @@ fn fetch_fields(x: Fetch) -> Fields
             let track = r.track;
             let start = r.start;
             let end = r.end;
-            places::of_ten(
+            places::of10(
                 0x16,
-                10,
                 id,
                 priority,
                 order,
@@ -101,7 +100,7 @@ fn fetch_fields(x: Fetch) -> Fields
 }
 
 fn status_fields(x: TrackStatus) -> Fields
-    ensures { λ r. ⌜ typedOf r ≡ record { type = 0xE; pieces = statusPieces x } ⌝ }
+    ensures { λ r. ⌜ r ≡ placed (record { type = 0xE; pieces = statusPieces x }) ⌝ }
 {
     let track = x.track;
     let largest = x.largest;

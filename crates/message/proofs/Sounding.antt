@@ -3,8 +3,9 @@ use mathlib.Core.Path.{_≡_, refl, sym, ap, _∙_}
 use mathlib.Core.Bool.{Bool, true, false, not}
 use borrow.Author.Tests.{not-true, not-false}
 use Rattle.shortest.specs.Small.{smallAll}
-use Rattle.shortest.specs.Writing.{fieldsOf, typedOf}
+use Rattle.shortest.specs.Writing.{placed, fieldsOf}
 use Rattle.shortest.specs.declared.Fields.{Fields}
+use Rattle.shortest.proofs.Placed.{fields-placed}
 use Rattle.message.specs.Types.{saidOf}
 use Rattle.message.specs.Writing.{allowedOf}
 use Rattle.message.specs.Sound.{soundOf}
@@ -17,6 +18,6 @@ module _ (m : Message) {a : Bool} (judged : a ≡ allowedOf m) where
   unsound h = rw (← judged, not-true a h)
 
   -- or none is, and its numbers tell
-  pub by-numbers : (f : Fields) {b : Bool} → not a ≡ false → typedOf f ≡ saidOf m → b ≡ smallAll (fieldsOf f) → b ≡ soundOf m
+  pub by-numbers : (f : Fields) {b : Bool} → not a ≡ false → f ≡ placed (saidOf m) → b ≡ smallAll (fieldsOf f) → b ≡ soundOf m
   unfolding soundOf
-  by-numbers f h e small = rw (← judged, not-false a h, ← e) small
+  by-numbers f h e small = rw (← judged, not-false a h, ← fields-placed (saidOf m), ← e) small

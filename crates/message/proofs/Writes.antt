@@ -5,8 +5,9 @@ use mathlib.Core.List.{List}
 use mathlib.Core.Bool.{Bool, true, false, not}
 use borrow.Author.Tests.{not-true, not-false}
 use Rattle.integer.specs.Answer.{Answer, refused, Nothing, Leaves}
-use Rattle.shortest.specs.Writing.{fieldsOf, typedOf, writtenOf, framedOf}
+use Rattle.shortest.specs.Writing.{placed, fieldsOf, writtenOf, framedOf}
 use Rattle.shortest.specs.declared.Fields.{Fields}
+use Rattle.shortest.proofs.Placed.{fields-placed}
 use Rattle.message.specs.Types.{saidOf}
 use Rattle.message.specs.Reading.{longest}
 use Rattle.message.specs.Writing.{allowedOf, writeOf}
@@ -19,8 +20,8 @@ module _ (s : List ℕ) (m : Message) (before : List ℕ) {a : Bool} (judged : a
   not-allowed h = let f : allowedOf m ≡ false = sym judged ∙ not-true a h in record { says = rw f; holds = rw f }
 
   -- or none is, and its fields are written
-  pub is-framed : (f : Fields) {said : Answer Nothing} {after : List ℕ} → not a ≡ false → typedOf f ≡ saidOf m → Leaves (framedOf longest s (f .kind) (fieldsOf f) before) said after → Leaves (writeOf s m before) said after
-  unfolding writeOf framedOf
+  pub is-framed : (f : Fields) {said : Answer Nothing} {after : List ℕ} → not a ≡ false → f ≡ placed (saidOf m) → Leaves (framedOf longest s (f .kind) (fieldsOf f) before) said after → Leaves (writeOf s m before) said after
+  unfolding writeOf framedOf placed
   is-framed f h e l =
       let g : allowedOf m ≡ true = sym judged ∙ not-false a h in
-      rw (g, ← e) l
+      rw g (rw (e, fields-placed (saidOf m)) at l)

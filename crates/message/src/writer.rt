@@ -1,7 +1,7 @@
 // A message is written as its shortest form. 5, 6, 3 and 7 in this order, each over the whole message; a refusal writes nothing.
 ghost use mathlib.Core.Path.{_≡_};
 ghost use Rattle.integer.specs.Answer.{Leaves};
-ghost use Rattle.shortest.specs.Writing.{typedOf, answering};
+ghost use Rattle.shortest.specs.Writing.{placed, answering};
 ghost use Rattle.message.specs.Types.{saidOf};
 ghost use Rattle.message.specs.Writing.{allowedOf, writeOf};
 use crate::LONGEST;
@@ -31,7 +31,7 @@ pub fn write(out: &mut [u8], bytes: &[u8], m: Message) -> Writing
 
 // The fields of a message.
 pub fn fields(m: Message) -> Fields
-    ensures { λ r. ⌜ typedOf r ≡ saidOf m ⌝ }
+    ensures { λ r. ⌜ r ≡ placed (saidOf m) ⌝ }
 {
     match m {
         Message::Subscription(x) => subscription::fields(x),

@@ -1,6 +1,6 @@
 // A message as its fields, in the order of its layout.
 ghost use mathlib.Core.Path.{_≡_};
-ghost use Rattle.shortest.specs.Writing.{typedOf};
+ghost use Rattle.shortest.specs.Writing.{placed};
 ghost use Rattle.session.specs.Told.{saidOf};
 use crate::SessionMessage;
 use field::Kind;
@@ -20,7 +20,7 @@ pub fn number(m: SessionMessage) -> u64
 }
 
 pub fn fields(m: SessionMessage) -> Fields
-    ensures { λ r. ⌜ typedOf r ≡ saidOf m ⌝ }
+    ensures { λ r. ⌜ r ≡ placed (saidOf m) ⌝ }
 {
     match m {
         SessionMessage::ClientSetup(x) => {

@@ -11,6 +11,7 @@ pub mod Going
 pub mod Entering
 pub mod Pieces
 pub mod Single
+pub mod Placed
 pub mod Rows
 pub mod SoFar
 pub mod Joins

@@ -1,43 +1,78 @@
--- The writer of one field: what it leaves where the field was judged to fit, and where it was not. Assumes nothing.
+-- One field: its measure in 01's numbers, and what its writer leaves. Assumes nothing.
 use Prim.Native.Nat.{ℕ}
 use mathlib.Core.Path.{_≡_, refl, sym, ap, _∙_}
+use mathlib.Core.Bool.{Bool, true, false}
 use mathlib.Core.List.{List}
+use lib.Dec.{leb}
 use lib.ListN.{length}
-use Rattle.integer.specs.Answer.{refused, wrote, Leaves}
+use Rattle.integer.specs.Answer.{pick, refused, wrote, Leaves}
 use Rattle.field.specs.Value.{mean, encField}
 use Rattle.field.specs.declared.Piece.{Piece}
-use Rattle.shortest.specs.Judging.{right, sized, measureOf}
-use Rattle.shortest.specs.Putting.{Put, saying, leaving, putOf}
+use Rattle.shortest.specs.Judging.{right, sized, fit, judged, measureOf}
+use Rattle.shortest.specs.Putting.{Put}
+use Rattle.shortest.specs.Writing.{measuredOf, putOf, saying}
 use Rattle.shortest.specs.declared.Measured.{Measured}
 use Rattle.shortest.specs.declared.Measured.the-variants.{Takes, TooLong, Oversize, Forbidden}
 use Rattle.shortest.proofs.Judges.{judged-takes}
 use Rattle.shortest.proofs.Pieces.{Asks}
+use Rattle.shortest.proofs.Once.{saying-once}
+use Rattle.shortest.proofs.Written.{bare-forbidden, bare-oversize, bare-over, bare-taken, bare-done}
+
+-- ---- the measure
+
+-- a judgement in 01's numbers
+said-judged : (isRight isSized fits : Bool) (n : ℕ) → saying (pick isRight (pick isSized (pick fits (Takes n) TooLong) Oversize) Forbidden) ≡ pick isRight (pick isSized (pick fits (wrote n) (refused 7)) (refused 6)) (refused 5)
+said-judged true true true n = refl
+said-judged true true false n = refl
+said-judged true false fits n = refl
+said-judged false isSized fits n = refl
+
+module _ (s : List ℕ) (p : Piece) (room : ℕ) where
+  said-measure : saying (measureOf s p room) ≡ measuredOf s p room
+  unfolding measureOf measuredOf judged fit
+  said-measure =
+      let n = length (encField (mean s p)) in
+      said-judged (right s p) (sized s p) (leb n room) n
+
+  module _ {r : Measured} where
+    -- a field is measured as it is judged,
+    pub measured : r ≡ measureOf s p room → saying r ≡ measuredOf s p room
+    measured e = ap saying e ∙ said-measure
+
+    -- and judged as it is measured
+    pub judgement : saying r ≡ measuredOf s p room → r ≡ measureOf s p room
+    judgement e = saying-once r (measureOf s p room) (e ∙ sym said-measure)
+
+-- ---- the writer
 
 -- a field that takes so many bytes is right, and there is room for it
-pub takes-asks : (s : List ℕ) (p : Piece) {room n : ℕ} {r : Measured} → r ≡ measureOf s p room → r ≡ Takes n → Asks s p room
+pub takes-asks : (s : List ℕ) (p : Piece) {room n : ℕ} {r : Measured} → saying r ≡ measuredOf s p room → r ≡ Takes n → Asks s p room
 unfolding measureOf
-takes-asks s p {room} e f =
-    let t = judged-takes (right s p) (sized s p) (length (encField (mean s p))) room (sym e ∙ f) in
+takes-asks s p {room} said e =
+    let t = judged-takes (right s p) (sized s p) (length (encField (mean s p))) room (sym (judgement s p room said) ∙ e) in
     (t .is-right, t .fits)
 
-module _ (s : List ℕ) (p : Piece) (before : List ℕ) {r : Measured} (judged-as : r ≡ measureOf s p (length before)) where
-  -- what is left behind is as the judgement says
-  leaves : {v : Measured} {after : List ℕ} → r ≡ v → after ≡ leaving v (encField (mean s p)) before → Leaves (putOf s p before) (saying 7 v) after
-  unfolding putOf
-  leaves {v} f h =
-      let e : v ≡ measureOf s p (length before) = sym f ∙ judged-as in
-      record { says = ap (saying 7) e; holds = h ∙ ap (λ (m : Measured). leaving m (encField (mean s p)) before) e }
+module _ (s : List ℕ) (p : Piece) (before : List ℕ) {r : Measured} (said : saying r ≡ measuredOf s p (length before)) where
+  found : r ≡ judged (right s p) (sized s p) (length (encField (mean s p))) (length before)
+  unfolding measureOf
+  found = judgement s p (length before) said
 
   -- it was put,
   pub leaves-put : {n used : ℕ} {after : List ℕ} → r ≡ Takes n → Put (encField (mean s p)) before used after → Leaves (putOf s p before) (wrote n) after
-  leaves-put f q = leaves f (q .holds)
+  unfolding putOf
+  leaves-put e q =
+      let t = bare-taken (right s p) (sized s p) (encField (mean s p)) before found e in
+      bare-done _ _ _ _ found e (record { count = t .counts; holds = q .holds })
 
   -- or refused, and nothing was
   pub kept-long : r ≡ TooLong → Leaves (putOf s p before) (refused 7) before
-  kept-long f = leaves f refl
+  unfolding putOf
+  kept-long = bare-over _ _ _ _ found
 
   pub kept-oversize : r ≡ Oversize → Leaves (putOf s p before) (refused 6) before
-  kept-oversize f = leaves f refl
+  unfolding putOf
+  kept-oversize = bare-oversize _ _ _ _ found
 
   pub kept-forbidden : r ≡ Forbidden → Leaves (putOf s p before) (refused 5) before
-  kept-forbidden f = leaves f refl
+  unfolding putOf
+  kept-forbidden = bare-forbidden _ _ _ _ found

@@ -1,4 +1,4 @@
--- What writing a message or a header comes to, answer by answer: 5, 6, 3, 7, and then it is done. Assumes nothing.
+-- What writing a field, a message or a header comes to, answer by answer: 5, 6, 3, 7, and then it is done. Assumes nothing.
 use Prim.Native.Nat.{ℕ, _+_, _≤_, _<_}
 use mathlib.Core.Path.{_≡_, refl, sym, ap, _∙_}
 use mathlib.Core.Bool.{Bool, true, false}
@@ -14,7 +14,7 @@ use Rattle.field.specs.Outcome.{both}
 use Rattle.field.specs.declared.Piece.{Piece}
 use Rattle.shortest.specs.Judging.{judged}
 use Rattle.shortest.specs.Putting.{Put}
-use Rattle.shortest.specs.Writing.{rightAll, sizedAll, encodeAll, measureAll, writtenOf, frame, bareOf, framedOf}
+use Rattle.shortest.specs.Writing.{rightAll, sizedAll, encodeAll, measureAll, writtenOf, frame, framedOf}
 use Rattle.shortest.specs.declared.Measured.{Measured}
 use Rattle.shortest.specs.declared.Measured.the-variants.{Takes, TooLong, Oversize, Forbidden}
 use Rattle.shortest.proofs.Judges.{Taken, judged-takes, judged-wrong, judged-great, judged-long}
@@ -88,37 +88,32 @@ module _ (s : List ℕ) (ps : List Piece) (room : ℕ) {r : Measured} (said : r 
   unfolding measureAll
   too-long e = judged-long (rightAll s ps) (sizedAll s ps) (length (encodeAll s ps)) room (sym said ∙ e)
 
--- ---- a header: its fields alone
+-- ---- a field or a header: its bytes alone
 
-module _ (s : List ℕ) (ps : List Piece) (before : List ℕ) {r : Measured} (said : r ≡ measureAll s ps (length before)) where
-  -- 5: one of them can't be written,
-  pub bare-forbidden : r ≡ Forbidden → Leaves (bareOf s ps before) (refused 5) before
-  unfolding bareOf measureAll
+module _ (isRight isSized : Bool) (bytes before : List ℕ) {r : Measured} (said : r ≡ judged isRight isSized (length bytes) (length before)) where
+  -- 5: one can't be written,
+  pub bare-forbidden : r ≡ Forbidden → Leaves (writtenOf isRight isSized true bytes before) (refused 5) before
   bare-forbidden = fields-forbidden {kind = 0} _ _ _ _ _ (lit≤ tt) _ _ said
 
   -- 6: or is over a size,
-  pub bare-oversize : r ≡ Oversize → Leaves (bareOf s ps before) (refused 6) before
-  unfolding bareOf measureAll
+  pub bare-oversize : r ≡ Oversize → Leaves (writtenOf isRight isSized true bytes before) (refused 6) before
   bare-oversize = fields-oversize {kind = 0} _ _ _ _ _ (lit≤ tt) _ _ said
 
   -- 7: or they are longer than the output
-  pub bare-over : r ≡ TooLong → Leaves (bareOf s ps before) (refused 7) before
-  unfolding bareOf
+  pub bare-over : r ≡ TooLong → Leaves (writtenOf isRight isSized true bytes before) (refused 7) before
   bare-over e =
-      let t = too-long s ps (length before) said e in
+      let t = judged-long isRight isSized (length bytes) (length before) (sym said ∙ e) in
       output-short {kind = 0} _ _ _ _ _ (lit≤ tt) (t .0 .0) (t .0 .1) refl (t .1)
 
   module _ {n : ℕ} (e : r ≡ Takes n) where
     -- all was checked,
-    pub bare-asks : (rightAll s ps ≡ true) × (length (encodeAll s ps) ≤ length before)
-    bare-asks = let t = taken s ps (length before) said e in (t .is-right, t .fits)
+    pub bare-taken : Taken isRight isSized (length bytes) (length before) n
+    bare-taken = judged-takes isRight isSized (length bytes) (length before) (sym said ∙ e)
 
     -- and they are put
-    pub bare-done : {used : ℕ} {after : List ℕ} → Put (encodeAll s ps) before used after → Leaves (bareOf s ps before) (wrote used) after
-    unfolding bareOf
+    pub bare-done : {used : ℕ} {after : List ℕ} → Put bytes before used after → Leaves (writtenOf isRight isSized true bytes before) (wrote used) after
     bare-done q =
-        let t = taken s ps (length before) said e in
-        done {kind = 0} (record { small = lit≤ tt; is-right = t .is-right; is-sized = t .is-sized; is-short = refl; fits = t .fits }) q
+        done {kind = 0} (record { small = lit≤ tt; is-right = bare-taken .is-right; is-sized = bare-taken .is-sized; is-short = refl; fits = bare-taken .fits }) q
 
 -- ---- a message: its type, a length, and its body
 

@@ -1,4 +1,5 @@
 pub mod Judging
 pub mod Putting
+pub mod Placing
 pub mod Writing
 pub mod Small

@@ -1,4 +1,4 @@
--- What writing a message or a header does: "The writer checks 5, 6, 3, 7 in that order", each over all of it.
+-- What writing a field, a message or a header does: "The writer checks 5, 6, 3, 7 in that order", each over all of it.
 use Prim.Native.Nat.{ℕ}
 use mathlib.Core.List.{List, [], _∷_, _++_, map}
 use mathlib.Core.Bool.{Bool, true}
@@ -7,12 +7,14 @@ use lib.Dec.{leb, ltb}
 use Rattle.integer.specs.Answer.{pick, Answer, refused, Nothing, wrote, Written}
 use Rattle.integer.specs.Integer.{encOf, greatest, over}
 use Rattle.field.specs.Outcome.{both}
-use Rattle.field.specs.Value.{mean, encode}
+use Rattle.field.specs.Value.{mean, encField, encode}
 use Rattle.field.specs.declared.Piece.{Piece}
 use Rattle.field.specs.declared.Piece.the-variants.{Number, Byte, Bytes}
 use Rattle.layout.specs.Typed.{Typed}
 use Rattle.shortest.specs.Judging.{right, sized, judged}
+use Rattle.shortest.specs.Placing.{upTo}
 use Rattle.shortest.specs.declared.Measured.{Measured}
+use Rattle.shortest.specs.declared.Measured.the-variants.{Takes, TooLong as Long, Oversize as Great, Forbidden as Wrong}
 use Rattle.shortest.specs.declared.Slot.{Slot}
 use Rattle.shortest.specs.declared.Fields.{Fields}
 use Rattle.shortest.specs.declared.Middle.{Middle}
@@ -25,12 +27,16 @@ use Rattle.shortest.specs.declared.Writing.the-variants.{Done, Forbidden
 abbrev pub slot : Slot → Piece
 slot s = s .piece
 
+abbrev pub inSlot : Piece → Slot
+inSlot p = record { piece = p }
+
+-- A MESSAGE'S FIELDS, each in its place; a place that is not used holds the number 0
+unfoldable pub placed : Typed → Fields
+placed t = record { at = map inSlot (upTo 10 (Number 0) (t .pieces)); used = length (t .pieces); kind = t .type }
+
+-- and back: those that are used
 unfoldable pub fieldsOf : Fields → List Piece
 fieldsOf f = map slot (take (f .used) (f .at))
-
--- with the number of their type
-abbrev pub typedOf : Fields → Typed
-typedOf f = record { type = f .kind; pieces = fieldsOf f }
 
 unfoldable pub tenOf : ℕ → ℕ
 tenOf n = pick (ltb n 10) n 10
@@ -78,6 +84,16 @@ writtenOf isRight isSized isShort bytes before =
     (record { says = refused 6; holds = before }))
     (record { says = refused 5; holds = before })
 
+-- HOW MANY BYTES A FIELD TAKES in its shortest form, of the room there is for it
+unfoldable pub measuredOf : List ℕ → Piece → ℕ → Answer Nothing
+measuredOf s p room =
+    let n = length (encField (mean s p)) in
+    pick (right s p) (pick (sized s p) (pick (leb n room) (wrote n) (refused 7)) (refused 6)) (refused 5)
+
+-- A FIELD alone
+unfoldable pub putOf : List ℕ → Piece → List ℕ → Written
+putOf s p before = writtenOf (right s p) (sized s p) true (encField (mean s p)) before
+
 -- Type, Length, body
 unfoldable pub frame : ℕ → List ℕ → List ℕ
 frame kind body = encOf kind ++ (encOf (length body) ++ body)
@@ -92,7 +108,16 @@ framedOf longest s kind ps before =
     let body = encodeAll s ps in
     writtenOf (both (leb kind greatest) (rightAll s ps)) (sizedAll s ps) (leb (length body) longest) (frame kind body) before
 
--- 01's number and values of what is answered
+-- ---- 01's number and values of what is answered
+
+-- of a field
+abbrev pub saying : Measured → Answer Nothing
+saying (Takes n) = wrote n
+saying Wrong = refused 5
+saying Great = refused 6
+saying Long = refused 7
+
+-- of a message or a header
 abbrev pub answering : Writing → Answer Nothing
 answering (Done n) = wrote n
 answering Forbidden = refused 5

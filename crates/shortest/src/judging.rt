@@ -5,6 +5,7 @@ ghost use Prim.Native.Nat.{_+_};
 ghost use Rattle.field.specs.declared.Piece.the-variants.{Number};
 ghost use Rattle.layout.specs.Permitted.{within};
 ghost use Rattle.shortest.specs.Judging.{fit, joined, measureSpan, measureList, measureOf};
+ghost use Rattle.shortest.specs.Writing.{measuredOf, saying};
 use crate::Measured;
 use field::Entries;
 use field::Kind;
@@ -130,7 +131,7 @@ fn measure_list(bytes: &[u8], kind: Kind, l: Entries, also: usize, room: usize) 
 
 // How many bytes the shortest form of a field takes, which may be room at most. bytes is what its parts point into.
 pub fn measure(bytes: &[u8], p: Piece, room: usize) -> Measured
-    ensures { λ r. ⌜ r ≡ measureOf (now (bytes .entry)) p room ⌝ }
+    ensures { λ r. ⌜ saying r ≡ measuredOf (now (bytes .entry)) p room ⌝ }
 {
     match p {
         Piece::Number(n) => measure_number(n, room),

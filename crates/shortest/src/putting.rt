@@ -7,7 +7,8 @@ ghost use Rattle.integer.specs.Answer.{Leaves};
 ghost use Rattle.integer.specs.Integer.{encOf, greatest, over};
 ghost use Rattle.field.specs.Value.{part, contents, mean, encText, encItems, encList, encField};
 ghost use Rattle.shortest.specs.Judging.{rightSpan, rightList, right};
-ghost use Rattle.shortest.specs.Putting.{Put, encHead, putOf, saying};
+ghost use Rattle.shortest.specs.Putting.{Put, encHead};
+ghost use Rattle.shortest.specs.Writing.{putOf, saying};
 use crate::Measured;
 use crate::judging::measure;
 use field::Entries;
@@ -135,7 +136,7 @@ pub fn put_piece(out: &mut [u8], bytes: &[u8], p: Piece) -> usize
 
 // The shortest form of a field, at the front of out; every byte after it stays, and a refusal changes none.
 pub fn put(out: &mut [u8], bytes: &[u8], p: Piece) -> Measured
-    ensures { λ r. ⌜ Leaves (putOf (now (bytes .entry)) p (now (out .entry))) (saying 7 r) (now (out .exit)) ⌝ }
+    ensures { λ r. ⌜ Leaves (putOf (now (bytes .entry)) p (now (out .entry))) (saying r) (now (out .exit)) ⌝ }
 {
     let room = out.len();
     match measure(bytes, p, room) {

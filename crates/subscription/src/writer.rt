@@ -1,6 +1,6 @@
 // A message as its fields, in the order of its layout; and whether its values are permitted.
 ghost use mathlib.Core.Path.{_≡_};
-ghost use Rattle.shortest.specs.Writing.{typedOf};
+ghost use Rattle.shortest.specs.Writing.{placed};
 ghost use Rattle.subscription.specs.Told.{subscribePieces, okPieces, updatePieces, saidOf};
 ghost use Rattle.subscription.specs.Allowed.{allowedFilter, allowedOf};
 use crate::Content;
@@ -32,7 +32,7 @@ pub fn number(m: SubscriptionMessage) -> u64
 }
 
 pub fn fields(m: SubscriptionMessage) -> Fields
-    ensures { λ r. ⌜ typedOf r ≡ saidOf m ⌝ }
+    ensures { λ r. ⌜ r ≡ placed (saidOf m) ⌝ }
 {
     match m {
         SubscriptionMessage::SubscribeUpdate(x) => update_fields(x),
@@ -66,7 +66,7 @@ pub fn fields(m: SubscriptionMessage) -> Fields
 }
 
 fn update_fields(x: SubscribeUpdate) -> Fields
-    ensures { λ r. ⌜ typedOf r ≡ record { type = 0x2; pieces = updatePieces x } ⌝ }
+    ensures { λ r. ⌜ r ≡ placed (record { type = 0x2; pieces = updatePieces x }) ⌝ }
 {
     let start = x.start;
     let parameters = x.parameters;
@@ -83,7 +83,7 @@ fn update_fields(x: SubscribeUpdate) -> Fields
 
 // The five fields before the filter are the same for each filter.
 fn subscribe_fields(x: Subscribe) -> Fields
-    ensures { λ r. ⌜ typedOf r ≡ record { type = 0x3; pieces = subscribePieces x } ⌝ }
+    ensures { λ r. ⌜ r ≡ placed (record { type = 0x3; pieces = subscribePieces x }) ⌝ }
 {
     let track = x.track;
     let parameters = x.parameters;
@@ -106,13 +106,13 @@ fn subscribe_fields(x: Subscribe) -> Fields
             let group = Piece::Number(start.group);
             let object = Piece::Number(start.object);
             let end = Piece::Number(end_group);
-            places::of_ten(0x3, 10, a, b, c, d, e, kind, group, object, end, last)
+            places::of10(0x3, a, b, c, d, e, kind, group, object, end, last)
         }
     }
 }
 
 fn ok_fields(x: SubscribeOk) -> Fields
-    ensures { λ r. ⌜ typedOf r ≡ record { type = 0x4; pieces = okPieces x } ⌝ }
+    ensures { λ r. ⌜ r ≡ placed (record { type = 0x4; pieces = okPieces x }) ⌝ }
 {
     let id = Piece::Number(x.id);
     let expires = Piece::Number(x.expires);

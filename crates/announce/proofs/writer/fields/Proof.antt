@@ -1,6 +1,7 @@
 -- `fields` meets its contract. Assumes nothing.
 use borrow.Author.Needs.{needs}
 use Rattle.layout.proofs.Said.{told-of}
+use Rattle.shortest.specs.Writing.{placed}
 use Rattle.announce.specs.Told.{saidOf}
 use Rattle.announce.proofs.ByKind.{numbered}
 use Rattle.announce.proofs.writer.fields.Statement.{statement}
@@ -13,4 +14,4 @@ fields-spec =
     (λ c. search needs) (λ c κs. search needs) (λ c κs. search needs)
     (λ c. search needs) (λ c κs. search needs) (λ c κs. search needs)
     (λ c. search needs) (λ c κs. search needs) (λ c κs. search needs)
-    (λ c. search (told-of saidOf, numbered)) (λ c. search (told-of saidOf, numbered)) (λ c. search (told-of saidOf, numbered)))
+    (λ c. search (told-of (λ m. placed (saidOf m)), numbered)) (λ c. search (told-of (λ m. placed (saidOf m)), numbered)) (λ c. search (told-of (λ m. placed (saidOf m)), numbered)))

@@ -8,5 +8,5 @@ pub fetch-fields-spec : {M : Type 1} → statement M
 fetch-fields-spec =
     tie.close
     (tie.spec
-    (λ c. search needs) (λ c κs. search needs) (λ c. search needs) (λ c κs. search needs) (λ c κs. search needs) (λ c. c .of-ten .ensures ∙ rw (c .before .before .before .before .before .range .given .1))
+    (λ c. search needs) (λ c κs. search needs) (λ c. search needs) (λ c κs. search needs) (λ c κs. search needs) (λ c. c .of10 .ensures ∙ rw (c .before .before .before .before .before .range .given .1))
     (λ c. c .of7 .ensures ∙ rw (c .before .before .before .range2 .given .1, ← c .before .joining-type .ensures)))

@@ -1,6 +1,7 @@
 -- `fields` meets its contract: each family gives its own. Assumes nothing.
 use borrow.Author.Needs.{needs}
 use Rattle.layout.proofs.Said.{told-of}
+use Rattle.shortest.specs.Writing.{placed}
 use Rattle.message.specs.Types.{saidOf}
 use Rattle.message.proofs.writer.fields.Statement.{statement}
 use Rattle.message.proofs.writer.fields.Tie as tie
@@ -9,7 +10,7 @@ pub fields-spec : {M : Type 1} → statement M
 fields-spec =
     tie.close
     (tie.spec
-    (λ c. search needs) (λ c κs. search needs) (λ c. search needs) (λ c κs. search needs) (λ c. search needs) (λ c κs. search needs) (λ c. search needs) (λ c κs. search needs) (λ c. search (told-of saidOf))
-    (λ c. search (told-of saidOf))
-    (λ c. search (told-of saidOf))
-    (λ c. search (told-of saidOf)))
+    (λ c. search needs) (λ c κs. search needs) (λ c. search needs) (λ c κs. search needs) (λ c. search needs) (λ c κs. search needs) (λ c. search needs) (λ c κs. search needs) (λ c. search (told-of (λ m. placed (saidOf m))))
+    (λ c. search (told-of (λ m. placed (saidOf m))))
+    (λ c. search (told-of (λ m. placed (saidOf m))))
+    (λ c. search (told-of (λ m. placed (saidOf m)))))

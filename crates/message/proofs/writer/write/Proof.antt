@@ -1,6 +1,7 @@
 -- `write` meets its contract: the fields of each family are framed. Assumes nothing.
 use borrow.Author.Needs.{needs}
 use Rattle.layout.proofs.Said.{told-of}
+use Rattle.shortest.specs.Writing.{placed}
 use Rattle.message.specs.Types.{saidOf}
 use Rattle.message.proofs.Writes.{not-allowed, is-framed}
 use Rattle.message.proofs.writer.write.Statement.{statement}
@@ -15,7 +16,7 @@ write-spec =
     (λ c. search needs) (λ c κs. search needs) (λ c κs. search needs)
     (λ c. search needs) (λ c κs. search needs) (λ c κs. search needs)
     (λ c. search needs) (λ c κs. search needs) (λ c κs. search needs)
-    (λ c. search needs) (λ c. search (is-framed, told-of saidOf))
-    (λ c. search needs) (λ c. search (is-framed, told-of saidOf))
-    (λ c. search needs) (λ c. search (is-framed, told-of saidOf))
-    (λ c. search needs) (λ c. search (is-framed, told-of saidOf)))
+    (λ c. search needs) (λ c. search (is-framed, told-of (λ m. placed (saidOf m))))
+    (λ c. search needs) (λ c. search (is-framed, told-of (λ m. placed (saidOf m))))
+    (λ c. search needs) (λ c. search (is-framed, told-of (λ m. placed (saidOf m))))
+    (λ c. search needs) (λ c. search (is-framed, told-of (λ m. placed (saidOf m)))))

@@ -3,10 +3,10 @@ use mathlib.Core.Path.{_≡_}
 use native.Mathlib.Omega.{arith}
 use borrow.Author.Needs.{needs}
 use lib.ListN.{length}
-use Rattle.shortest.specs.Writing.{measureAll, headed}
+use Rattle.shortest.specs.Writing.{measureAll, headed, bareOf}
 use Rattle.shortest.proofs.Filling.{AllAsk}
 use Rattle.shortest.proofs.Headings.{headed-judged, front-asks, front-within, middle-asks, middle-sum, middle-within, back-asks, back-sum, headed-put}
-use Rattle.shortest.proofs.Written.{bare-forbidden, bare-oversize, bare-over, bare-asks, bare-done}
+use Rattle.shortest.proofs.Written.{taken, bare-forbidden, bare-oversize, bare-over, bare-done}
 use Rattle.shortest.proofs.plain.write_header.Statement.{statement}
 use Rattle.shortest.proofs.plain.write_header.Tie as tie
 
@@ -22,7 +22,7 @@ judged a = a .before .before
 
 -- and where they take so many bytes, can be put
 ready : (a : tie.After-enum-told4) → AllAsk (start (judged a) .args .bytes .now) (headed (start (judged a) .args .front .now) (start (judged a) .args .middle) (start (judged a) .args .back .now)) (length (start (judged a) .args .out .now))
-ready a = bare-asks _ _ (start (judged a) .args .out .now) (said (judged a)) (a .enum-told4 .given .1)
+ready a = let t = taken _ _ _ (said (judged a)) (a .enum-told4 .given .1) in (t .is-right, t .fits)
 
 asks-front : tie.Need-put-numbers-requires
 asks-front c κs = front-asks _ _ _ _ (start (judged (c .before)) .args .out .now) (ready (c .before))
@@ -46,16 +46,18 @@ sum-2 : tie.Need-add-t20
 sum-2 c = omega (arith, back-sum _ _ _ _ _ (ready (c .before .before .before .before .before .before .before .before .before .before .before .before)) (c .before .before .before .before .before .before .before .before .before .before .put-numbers .ensures) (c .before .before .before .before .before .before .put-middle .ensures) (c .before .before .put-numbers2 .ensures))
 
 returns : tie.Need-returns-4
-returns c = bare-done _ _ _ (said (judged (c .before .before .before .before .before .before .before .before .before .before .before .before))) (c .before .before .before .before .before .before .before .before .before .before .before .before .enum-told4 .given .1) (headed-put _ _ _ _ _ (ready (c .before .before .before .before .before .before .before .before .before .before .before .before)) (c .before .before .before .before .before .before .before .before .before .before .put-numbers .ensures) (c .before .before .before .before .before .before .put-middle .ensures) (c .before .before .put-numbers2 .ensures))
+unfolding measureAll bareOf
+returns c = bare-done _ _ _ _ (said (judged (c .before .before .before .before .before .before .before .before .before .before .before .before))) (c .before .before .before .before .before .before .before .before .before .before .before .before .enum-told4 .given .1) (headed-put _ _ _ _ _ (ready (c .before .before .before .before .before .before .before .before .before .before .before .before)) (c .before .before .before .before .before .before .before .before .before .before .put-numbers .ensures) (c .before .before .before .before .before .before .put-middle .ensures) (c .before .before .put-numbers2 .ensures))
 
 pub write-header-spec : {M : Type 1} → statement M
+unfolding measureAll bareOf
 write-header-spec =
     tie.close
     (tie.spec
     (λ c κs. search needs) (λ c κs. search needs) (λ c κs. search needs) (λ c κs. search needs) (λ c κs. search needs)
     (λ c. search needs) (λ c. search needs) (λ c. search needs) (λ c. search needs)
     asks-front ends ends (λ c. search needs) asks-middle sum ends-2 ends-2 (λ c. search needs) asks-back sum-2
-    (λ c. bare-forbidden _ _ _ (said (c .before .before)) (c .enum-told .given .1))
-    (λ c. bare-oversize _ _ _ (said (c .before .before)) (c .enum-told2 .given .1))
-    (λ c. bare-over _ _ _ (said (c .before .before)) (c .enum-told3 .given .1))
+    (λ c. bare-forbidden _ _ _ _ (said (c .before .before)) (c .enum-told .given .1))
+    (λ c. bare-oversize _ _ _ _ (said (c .before .before)) (c .enum-told2 .given .1))
+    (λ c. bare-over _ _ _ _ (said (c .before .before)) (c .enum-told3 .given .1))
     (λ c. search needs) returns)

@@ -12,6 +12,7 @@ use Rattle.shortest.specs.Writing.{slot, fieldsOf, tenOf, measureAll, fr
 use Rattle.shortest.specs.declared.Slot.{Slot}
 use Rattle.shortest.proofs.Puts.{first-fits, ends-within, second-fits, both-fit, put-both}
 use Rattle.shortest.proofs.Rows.{Row, ten-most, fieldsFrom, from-first, fields-row}
+use Rattle.shortest.proofs.Single.{judgement}
 use Rattle.shortest.proofs.SoFar.{SoFar, none-judged, judged-next, judged-all}
 use Rattle.shortest.proofs.Written.{taken, kind-great, fields-forbidden, fields-oversize, done, Message, message-room, message-long, message-short, message}
 use Rattle.shortest.proofs.writer.write_framed.Statement.{statement}
@@ -43,7 +44,7 @@ copy-first : tie.Need-element-copy-out-slot Inv-loop μ-loop
 copy-first c = omega (arith, ten-most (c .before .before .before .before .before .before .args .t3 .used))
 
 loop-again : tie.Need-loop-again Inv-loop μ-loop
-loop-again c = judged-next _ _ (row (c .before .before .before .before .before .before .before .before .before) _) (c .before .before .before .before .loop .inv) (omega arith) (c .before .measure .ensures) (c .join .ensures)
+loop-again c = judged-next _ _ (row (c .before .before .before .before .before .before .before .before .before) _) (c .before .before .before .before .loop .inv) (omega arith) (judgement _ _ _ (c .before .measure .ensures)) (c .join .ensures)
 
 -- all of it
 said : (a : tie.After-loop Inv-loop μ-loop) → a .before .loop .found ≡ measureAll (a .before .before .before .before .before .before .args .bytes .now) (fieldsOf (a .before .before .before .before .before .before .args .t3)) (a .before .before .before .before .before .before .args .longest)

@@ -10,4 +10,4 @@ subscribe-fields-spec =
     (tie.spec
     (λ c. search needs) (λ c κs. search needs) (λ c. search needs) (λ c κs. search needs) (λ c. search needs) (λ c κs. search needs) (λ c. c .of7 .ensures ∙ rw (c .before .enum-told .given .1))
     (λ c. c .of9 .ensures ∙ rw (c .before .before .filter .given .1))
-    (λ c. c .of-ten .ensures ∙ rw (c .before .before .filter2 .given .1)))
+    (λ c. c .of10 .ensures ∙ rw (c .before .before .filter2 .given .1)))
