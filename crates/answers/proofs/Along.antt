@@ -5,13 +5,14 @@ use mathlib.Core.List.{List, append-nil}
 use native.Mathlib.Omega.{arith}
 use lib.ListN.{length, drop}
 use Rattle.integer.specs.Answer.{Answer, Nothing, refused}
-use Rattle.text.specs.Lines.{lineOf, itemsOf, saying}
-use Rattle.text.specs.declared.Item.{Item}
+use Rattle.text.specs.Lines.{lineOf, placed, itemsOf, saying}
+use Rattle.text.specs.declared.Line.{Line}
 use Rattle.text.specs.declared.Putting.{Putting}
 use Rattle.text.specs.declared.Putting.the-variants.{Done, TooShort}
+use Rattle.text.proofs.Placing.{items-placed}
 use Rattle.run.specs.Progressing.{begun}
 use Rattle.run.specs.declared.Progress.{Progress}
-use Rattle.answers.specs.Telling.{endItems, answersOf, takenAt, toldTaking}
+use Rattle.answers.specs.Telling.{endItems, answersOf, takenAt}
 use Rattle.answers.specs.Adding.{Adds}
 use Rattle.answers.specs.declared.Told.{Told}
 use Rattle.answers.proofs.Added.{Passing, passing-start, passing-next, passing-short, passing-end}
@@ -29,7 +30,7 @@ along-start s room before e =
       text = passing-start (answersOf s) room before (ap (λ (q : Progress). leftText q s) e ∙ all-left s);
     }
 
-module _ {s : List ℕ} {room : ℕ} {before out : List ℕ} {at : ℕ} {p : Progress} {used : ℕ} (w : Along s room before out at p used) (r : Told) (said : toldTaking r ≡ takenAt p s used) where
+module _ {s : List ℕ} {room : ℕ} {before out : List ℕ} {at : ℕ} {p : Progress} {used : ℕ} (w : Along s room before out at p used) (r : Told) (said : r ≡ takenAt p s used) where
   module _ (more : r .used ≡ used → ⊥) {q : Putting} {after : List ℕ} (a : Adds (lineOf (itemsOf (r .line))) at room out (saying q) after) where
     -- the line of a field was added,
     pub along-next : {end : ℕ} → q ≡ Done end → Along s room before after end (r .progress) (r .used)
@@ -42,7 +43,7 @@ module _ {s : List ℕ} {room : ℕ} {before out : List ℕ} {at : ℕ} {p : Pro
     along-short e = let goes = told-goes p s used r said more in passing-short (w .text) (goes .text) a (ap saying e)
 
   -- or it was the last
-  pub along-end : r .used ≡ used → {items : List Item} → items ≡ endItems p (length s - used) → {q : Answer Nothing} {after : List ℕ} → Adds (lineOf items) at room out q after → Adds (answersOf s) 0 room before q after
-  along-end last {items} is a =
-      let text = told-ends p s used r said last ∙ ap lineOf (sym is) ∙ sym (append-nil (lineOf items)) in
+  pub along-end : r .used ≡ used → {line : Line} → line ≡ placed (endItems p (length s - used)) → {q : Answer Nothing} {after : List ℕ} → Adds (lineOf (itemsOf line)) at room out q after → Adds (answersOf s) 0 room before q after
+  along-end last {line} is a =
+      let text = told-ends p s used r said last ∙ ap lineOf (sym (items-placed _ is)) ∙ sym (append-nil (lineOf (itemsOf line))) in
       passing-end (w .text) (record { joins = text }) a refl

@@ -8,13 +8,14 @@ use native.Mathlib.Omega.{arith}
 use lib.ListN.{length, take, drop, length-drop}
 use lib.Seq.{drop-drop}
 use Rattle.shortest.proofs.Going.{Next}
-use Rattle.text.specs.Lines.{lineOf, itemsOf}
+use Rattle.text.specs.Lines.{lineOf, placed, itemsOf}
+use Rattle.text.proofs.Placing.{items-placed}
 use Rattle.trace.specs.Fields.{sizeOf, isWhole}
 use Rattle.trace.specs.Feeding.{Held, feed}
 use Rattle.trace.proofs.Fed.{size-head, whole-fits, fed-field, fed-none}
 use Rattle.run.specs.Progressing.{begun}
 use Rattle.run.specs.declared.Progress.{Progress}
-use Rattle.answers.specs.Telling.{steppedBy, lineIn, Telling, tell, telling, endItems, lastText, answersOf, Taking, takenAt, toldTaking}
+use Rattle.answers.specs.Telling.{steppedBy, lineIn, Telling, tell, telling, endItems, lastText, answersOf, takenAt}
 use Rattle.answers.specs.declared.Told.{Told}
 use Rattle.answers.proofs.Alike.{feed-alike}
 
@@ -69,26 +70,27 @@ pub record Goes (p : Progress) (s : List ℕ) (at : ℕ) (r : Told) : Type 0 whe
 abbrev fieldAt : List ℕ → ℕ → List ℕ
 fieldAt s at = take (sizeOf (drop at s)) (drop at s)
 
-module _ (p : Progress) (s : List ℕ) (at : ℕ) (r : Told) (said : toldTaking r ≡ takenAt p s at) where
-  whole-is : isWhole (drop at s) ≡ true → toldTaking r ≡ record { items = lineIn p (fieldAt s at); next = steppedBy p (fieldAt s at) .next; used = at + sizeOf (drop at s) }
+module _ (p : Progress) (s : List ℕ) (at : ℕ) (r : Told) (said : r ≡ takenAt p s at) where
+  whole-is : isWhole (drop at s) ≡ true → r ≡ record { line = placed (lineIn p (fieldAt s at)); progress = steppedBy p (fieldAt s at) .next; used = at + sizeOf (drop at s) }
   unfolding takenAt
   whole-is e = rw e at said
 
   cut-is : isWhole (drop at s) ≡ false → r .used ≡ at
   unfolding takenAt
-  cut-is e = ap (λ (x : Taking). x .used) (rw e at said)
+  cut-is e = ap (λ (x : Told). x .used) (rw e at said)
 
   whole-goes : isWhole (drop at s) ≡ true → Goes p s at r
   whole-goes e =
       let told = whole-is e in
       let size = sizeOf (drop at s) in
-      let used : r .used ≡ at + size = ap (λ (x : Taking). x .used) told in
+      let used : r .used ≡ at + size = ap (λ (x : Told). x .used) told in
+      let items = items-placed (lineIn p (fieldAt s at)) (ap (λ (x : Told). x .line) told) in
       let fits = whole-fits (drop at s) e in
       let rest : drop size (drop at s) ≡ drop (r .used) s = drop-drop size at s ∙ ap (λ (n : ℕ). drop n s) (sym used) in
       record {
         after = omega (arith, used, size-head (drop at s));
         within = omega (arith, used, fits .0, fits .1, length-drop at s);
-        text = record { joins = first-left p (drop at s) e ∙ (λ i. lineOf (sym told i .items) ++ leftText (sym told i .next) (rest i)) };
+        text = record { joins = first-left p (drop at s) e ∙ (λ i. lineOf (sym items i) ++ leftText (sym told i .progress) (rest i)) };
       }
 
   pub told-goes : (r .used ≡ at → ⊥) → Goes p s at r

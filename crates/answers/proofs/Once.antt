@@ -1,28 +1,21 @@
--- Each contract leaves one possible answer, and one possible content of the buffer; and the answers of a trace are of the same run as
--- its report. Assumes nothing.
+-- The contract of `of_trace` leaves one possible answer, and one possible content of the buffer; and the answers of a trace are of the same
+-- run as its report. Assumes nothing.
 use Prim.Native.Nat.{ℕ}
-use mathlib.Core.Path.{_≡_, refl, sym, ap, _∙_}
+use mathlib.Core.Path.{_≡_, refl}
 use mathlib.Core.List.{List, []}
 use Rattle.integer.specs.Answer.{Leaves}
-use Rattle.text.specs.Lines.{itemsOf, putOf, saying}
+use Rattle.text.specs.Lines.{putOf, saying}
 use Rattle.text.specs.declared.Putting.{Putting}
 use Rattle.text.proofs.Outcomes.{leaves-once}
 use Rattle.trace.specs.Feeding.{Held, feed}
 use Rattle.run.specs.Progressing.{step, begun, fed}
 use Rattle.run.specs.declared.Progress.{Progress}
-use Rattle.answers.specs.Telling.{Telling, tell, telling, answersOf, Taking, takenAt, toldTaking}
-use Rattle.answers.specs.declared.Told.{Told}
+use Rattle.answers.specs.Telling.{Telling, tell, telling, answersOf}
 use Rattle.answers.proofs.Alike.{feed-alike}
 
 -- Two calls of `of_trace` with the same trace and the same buffer answer the same, and leave the same.
 pub of-trace-once : (s before : List ℕ) {a b : Putting} {x y : List ℕ} → Leaves (putOf (answersOf s) before) (saying a) x → Leaves (putOf (answersOf s) before) (saying b) y → (a ≡ b) × (x ≡ y)
 of-trace-once s before l m = leaves-once l m
-
--- Two calls of `tell` with the same progress, bytes and offset hand back lines of the same items, the same progress and the same end.
-pub tell-once : (p : Progress) (s : List ℕ) (at : ℕ) (a b : Told) → toldTaking a ≡ takenAt p s at → toldTaking b ≡ takenAt p s at → (itemsOf (a .line) ≡ itemsOf (b .line)) × (a .progress ≡ b .progress) × (a .used ≡ b .used)
-tell-once p s at a b e f =
-    let same = e ∙ sym f in
-    (ap (λ (x : Taking). x .items) same, ap (λ (x : Taking). x .next) same, ap (λ (x : Taking). x .used) same)
 
 -- The progress behind the whole fields of a trace, and what is left, are those of its run.
 pub answers-run : (s : List ℕ) → _≡_ {A = Held Progress} (let h = feed tell (record { soFar = telling begun []; rest = [] }) s in record { soFar = h .soFar .progress; rest = h .rest }) (fed begun s)

@@ -8,7 +8,7 @@ use Rattle.message.specs.Types.{saidOf}
 use Rattle.ledger.specs.Answers.{Said}
 use Rattle.trace.specs.Fields.{tagOf, valueOf, sizeOf, isWhole}
 use Rattle.trace.specs.Feeding.{Held, feed}
-use Rattle.text.specs.Lines.{lineOf, itemsOf}
+use Rattle.text.specs.Lines.{lineOf, placed}
 use Rattle.text.specs.declared.Item.{Item}
 use Rattle.text.specs.declared.Item.the-variants.{Number, Word, Rule, Name}
 use Rattle.text.specs.declared.Word.the-variants.{Start as AStart, Malformed as AMalformed, Arrival as AnArrival}
@@ -84,18 +84,10 @@ answersOf s = lastText (feed tell (record { soFar = telling begun []; rest = [] 
 
 -- ---- what `tell` hands back
 
-pub record Taking : Type 0 where
-  pub items : List Item
-  pub next : Progress
-  pub used : ℕ
-
 -- the field at an offset; where none is whole, nothing
-unfoldable pub takenAt : Progress → List ℕ → ℕ → Taking
+unfoldable pub takenAt : Progress → List ℕ → ℕ → Told
 takenAt p s at =
     let field = take (sizeOf (drop at s)) (drop at s) in
     pick (isWhole (drop at s))
-    (record { items = lineIn p field; next = steppedBy p field .next; used = at + sizeOf (drop at s) })
-    (record { items = []; next = p; used = at })
-
-abbrev pub toldTaking : Told → Taking
-toldTaking t = record { items = itemsOf (t .line); next = t .progress; used = t .used }
+    (record { line = placed (lineIn p field); progress = steppedBy p field .next; used = at + sizeOf (drop at s) })
+    (record { line = placed []; progress = p; used = at })

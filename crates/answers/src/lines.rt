@@ -1,7 +1,7 @@
 // The line of a field.
 ghost use mathlib.Core.Path.{_≡_};
-ghost use Rattle.text.specs.Lines.{itemsOf};
-ghost use Rattle.answers.specs.Telling.{offsetLine, malformedLine, lineBy, faultItems, endItems, takenAt, toldTaking};
+ghost use Rattle.text.specs.Lines.{placed};
+ghost use Rattle.answers.specs.Telling.{offsetLine, malformedLine, lineBy, faultItems, endItems, takenAt};
 use crate::Told;
 use run::Event;
 use run::Progress;
@@ -13,7 +13,7 @@ use trace::FieldRead;
 
 // The offset of its tag, what it is and the answer; behind a 13 its rule.
 fn answer_line(offset: u64, what: Item, number: u8, rule: u8) -> Line
-    ensures { λ r. ⌜ itemsOf r ≡ offsetLine offset what (record { number = number; rule = rule }) ⌝ }
+    ensures { λ r. ⌜ r ≡ placed (offsetLine offset what (record { number = number; rule = rule })) ⌝ }
 {
     let n = Item::Number(number as u64);
     if rule == 0 {
@@ -24,7 +24,7 @@ fn answer_line(offset: u64, what: Item, number: u8, rule: u8) -> Line
 
 // The reader's number stands before the ledger's answer.
 fn malformed_line(offset: u64, refusal: u8, number: u8, rule: u8) -> Line
-    ensures { λ r. ⌜ itemsOf r ≡ malformedLine offset refusal (record { number = number; rule = rule }) ⌝ }
+    ensures { λ r. ⌜ r ≡ placed (malformedLine offset refusal (record { number = number; rule = rule })) ⌝ }
 {
     let what = Item::Word(Word::Malformed);
     let why = Item::Number(refusal as u64);
@@ -36,7 +36,7 @@ fn malformed_line(offset: u64, refusal: u8, number: u8, rule: u8) -> Line
 }
 
 fn line(offset: u64, e: Event, number: u8, rule: u8) -> Line
-    ensures { λ r. ⌜ itemsOf r ≡ lineBy offset e (record { number = number; rule = rule }) ⌝ }
+    ensures { λ r. ⌜ r ≡ placed (lineBy offset e (record { number = number; rule = rule })) ⌝ }
 {
     match e {
         Event::Start(_, _) => answer_line(offset, Item::Word(Word::Start), number, rule),
@@ -49,7 +49,7 @@ fn line(offset: u64, e: Event, number: u8, rule: u8) -> Line
 
 // The field at an offset is taken.
 pub fn tell(p: Progress, s: &[u8], at: usize) -> Told
-    ensures { λ r. ⌜ toldTaking r ≡ takenAt p (now (s .entry)) at ⌝ }
+    ensures { λ r. ⌜ r ≡ takenAt p (now (s .entry)) at ⌝ }
 {
     let offset = p.offset;
     let FieldRead::Whole(f) = trace::field_at(s, at) else {
@@ -72,7 +72,7 @@ pub fn tell(p: Progress, s: &[u8], at: usize) -> Told
 }
 
 fn fault_line(stage: Stage) -> Line
-    ensures { λ r. ⌜ itemsOf r ≡ faultItems stage ⌝ }
+    ensures { λ r. ⌜ r ≡ placed (faultItems stage) ⌝ }
 {
     match stage {
         Stage::Empty => report::fault_line(0),
@@ -84,7 +84,7 @@ fn fault_line(stage: Stage) -> Line
 // The trace ends here, and left bytes stand behind its last whole field: the line says where it is at fault. One that isn't has a
 // line of no items.
 pub fn tell_end(p: Progress, left: usize) -> Line
-    ensures { λ r. ⌜ itemsOf r ≡ endItems p left ⌝ }
+    ensures { λ r. ⌜ r ≡ placed (endItems p left) ⌝ }
 {
     let ended = p.finish(left);
     let stage = ended.stage;

@@ -6,10 +6,11 @@ use native.Mathlib.Omega.{arith}
 use lib.ListN.{length}
 use Rattle.integer.specs.Answer.{Leaves}
 use Rattle.shortest.proofs.Puts.{lent, given}
-use Rattle.text.specs.Lines.{lineOf, putOf, saying}
-use Rattle.text.specs.declared.Item.{Item}
+use Rattle.text.specs.Lines.{lineOf, placed, itemsOf, putOf, saying}
+use Rattle.text.specs.declared.Line.{Line}
 use Rattle.text.specs.declared.Putting.{Putting}
 use Rattle.text.specs.declared.Putting.the-variants.{Done, TooShort}
+use Rattle.text.proofs.Placing.{items-placed}
 use Rattle.text.proofs.Bounds.{line-bound}
 use Rattle.run.specs.Progressing.{endOf}
 use Rattle.run.specs.declared.Stage.{Stage}
@@ -47,6 +48,6 @@ fault-bound Empty = omega (arith, line-bound (faultItems Empty))
 fault-bound Running = omega (arith, line-bound (faultItems Running))
 fault-bound (Faulty at) = omega (arith, line-bound (faultItems (Faulty at)))
 
-pub end-bound : (p : Progress) (left : ℕ) {items : List Item} → items ≡ endItems p left → length (lineOf items) ≤ 204
+pub end-bound : (p : Progress) (left : ℕ) {line : Line} → line ≡ placed (endItems p left) → length (lineOf (itemsOf line)) ≤ 204
 unfolding endItems
-end-bound p left e = rw e (fault-bound (endOf p left .stage))
+end-bound p left e = rw (items-placed _ e) (fault-bound (endOf p left .stage))

@@ -5,8 +5,9 @@ use mathlib.Core.List.{List}
 use native.Mathlib.Omega.{arith}
 use lib.ListN.{length}
 use Rattle.integer.specs.Answer.{Answer, Nothing, Leaves}
-use Rattle.text.specs.Lines.{lineOf, putOf}
-use Rattle.text.specs.declared.Item.{Item}
+use Rattle.text.specs.Lines.{lineOf, placed, itemsOf, putOf}
+use Rattle.text.specs.declared.Line.{Line}
+use Rattle.text.proofs.Placing.{items-placed}
 use Rattle.run.specs.Progressing.{begun, fed, endOf, runOf, fedOf}
 use Rattle.run.proofs.Rests.{rest-few}
 use Rattle.run.specs.declared.Fed.{Fed}
@@ -16,17 +17,17 @@ use Rattle.report.specs.Rows.{faultLine}
 use Rattle.report.specs.Report.{ledgerText, textOf, reportOf}
 
 module _ (p q : Progress) (e : q ≡ p) (before : List ℕ) {r : Answer Nothing} {after : List ℕ} where
-  pub shows-nothing : (items : List Item) → q .stage ≡ Empty → items ≡ faultLine 0 → Leaves (putOf (lineOf items) before) r after → Leaves (putOf (textOf p) before) r after
+  pub shows-nothing : (line : Line) → q .stage ≡ Empty → line ≡ placed (faultLine 0) → Leaves (putOf (lineOf (itemsOf line)) before) r after → Leaves (putOf (textOf p) before) r after
   unfolding textOf
-  shows-nothing items s f w = rw (← e, s, ← f) w
+  shows-nothing line s f w = rw (← e, s, ← items-placed _ f) w
 
   pub shows-ledger : q .stage ≡ Running → Leaves (putOf (ledgerText (q .ledger)) before) r after → Leaves (putOf (textOf p) before) r after
   unfolding textOf
   shows-ledger s w = rw (← e, s) w
 
-  pub shows-fault : (at : ℕ) (items : List Item) → q .stage ≡ Faulty at → items ≡ faultLine at → Leaves (putOf (lineOf items) before) r after → Leaves (putOf (textOf p) before) r after
+  pub shows-fault : (at : ℕ) (line : Line) → q .stage ≡ Faulty at → line ≡ placed (faultLine at) → Leaves (putOf (lineOf (itemsOf line)) before) r after → Leaves (putOf (textOf p) before) r after
   unfolding textOf
-  shows-fault at items s f w = rw (← e, s, ← f) w
+  shows-fault at line s f w = rw (← e, s, ← items-placed _ f) w
 
 -- a trace that was fed whole, and ends
 module _ (s : List ℕ) (p : Progress) (r : Fed) (b : p ≡ begun) (e : r ≡ fedOf p s) where

@@ -8,8 +8,9 @@ use Rattle.ledger.specs.Ledgers.{held}
 use Rattle.ledger.specs.declared.Ledger.{Ledger}
 use Rattle.shortest.specs.Putting.{Put}
 use Rattle.shortest.proofs.Puts.{lent, given, Room, first-fits, ends-within, second-fits, both-fit, put-both}
-use Rattle.text.specs.Lines.{lineOf}
-use Rattle.text.specs.declared.Item.{Item}
+use Rattle.text.specs.Lines.{lineOf, placed, itemsOf}
+use Rattle.text.specs.declared.Line.{Line}
+use Rattle.text.proofs.Placing.{items-placed}
 use Rattle.report.specs.Rows.{sessionLine, columnsLine}
 use Rattle.report.specs.Report.{rowsText, ledgerText}
 
@@ -29,25 +30,25 @@ module _ (l : Ledger) (before : List ℕ) (fits : length (ledgerText l) ≤ leng
   front-room = record { joins = refl; fits = first-fits all-room }
 
   -- a line is put as its items are known,
-  module _ {items : List Item} (is : items ≡ sessionLine (l .session) (l .used)) where
-    pub session-fits : length (lineOf items) ≤ length before
-    session-fits = rw is (first-fits front-room)
+  module _ {line : Line} (is : line ≡ placed (sessionLine (l .session) (l .used))) where
+    pub session-fits : length (lineOf (itemsOf line)) ≤ length before
+    session-fits = rw (items-placed _ is) (first-fits front-room)
 
-    module _ {n : ℕ} {after : List ℕ} (p : Put (lineOf items) before n after) where
+    module _ {n : ℕ} {after : List ℕ} (p : Put (lineOf (itemsOf line)) before n after) where
       first : Put (session l) before n after
-      first = rw (← is) p
+      first = rw (← items-placed _ is) p
 
       pub session-ends : n ≤ length after
       session-ends = ends-within front-room first
 
       -- the columns behind it,
-      module _ {others : List Item} (are : others ≡ columnsLine) where
-        pub columns-fit : length (lineOf others) ≤ length (lent n after)
-        columns-fit = rw are (second-fits front-room first)
+      module _ {other : Line} (are : other ≡ placed columnsLine) where
+        pub columns-fit : length (lineOf (itemsOf other)) ≤ length (lent n after)
+        columns-fit = rw (items-placed _ are) (second-fits front-room first)
 
-        module _ {m : ℕ} {t : List ℕ} (q : Put (lineOf others) (lent n after) m t) where
+        module _ {m : ℕ} {t : List ℕ} (q : Put (lineOf (itemsOf other)) (lent n after) m t) where
           second : Put columns (lent n after) m t
-          second = rw (← are) q
+          second = rw (← items-placed _ are) q
 
           front : Put (session l ++ columns) before (n + m) (given n after t)
           front = put-both front-room first second

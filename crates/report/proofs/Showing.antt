@@ -13,8 +13,9 @@ use Rattle.ledger.specs.declared.Ledger.{Ledger}
 use Rattle.ledger.specs.declared.Session.{Session}
 use Rattle.ledger.specs.declared.Session.the-variants.{Open, Closed}
 use Rattle.shortest.proofs.Going.{Next}
-use Rattle.text.specs.Lines.{lineOf}
-use Rattle.text.specs.declared.Item.{Item}
+use Rattle.text.specs.Lines.{lineOf, placed, itemsOf}
+use Rattle.text.specs.declared.Line.{Line}
+use Rattle.text.proofs.Placing.{items-placed}
 use Rattle.text.proofs.Bounds.{line-bound}
 use Rattle.report.specs.Rows.{sessionLine, columnsLine, rowLine}
 use Rattle.report.specs.Report.{rowsText, ledgerText}
@@ -40,11 +41,11 @@ module _ (l : Ledger) (places : length (l .rows) ≡ 64) where
 
   module _ {n : ℕ} (e : n ≡ min (l .used) 64) (i : ℕ) where
     -- the text goes on with the i-th,
-    pub row-next : (d : Row) → i < n → {items : List Item} → items ≡ rowLine (getD (l .rows) i d) → Next (lineOf items) (rowsText (drop (i + 1) (held l))) (rowsText (drop i (held l)))
+    pub row-next : (d : Row) → i < n → {line : Line} → line ≡ placed (rowLine (getD (l .rows) i d)) → Next (lineOf (itemsOf line)) (rowsText (drop (i + 1) (held l))) (rowsText (drop i (held l)))
     unfolding held rowsText
     row-next d h f =
         record {
-          joins = rw (f, drop-cons (take (l .used) (l .rows)) i d (omega (arith, held-count)), add-one i, getD-take (l .used) (l .rows) i d (omega arith));
+          joins = rw (items-placed _ f, drop-cons (take (l .used) (l .rows)) i d (omega (arith, held-count)), add-one i, getD-take (l .used) (l .rows) i d (omega arith));
         }
 
     -- and behind the last it ends

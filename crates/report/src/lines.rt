@@ -1,6 +1,6 @@
 // The lines of a report.
 ghost use mathlib.Core.Path.{_≡_};
-ghost use Rattle.text.specs.Lines.{itemsOf};
+ghost use Rattle.text.specs.Lines.{placed};
 ghost use Rattle.report.specs.Rows.{sessionLine, columnsLine, stateItem, groupItem, objectItem, rowLine, faultLine};
 use ledger::Session;
 use row::Greatest;
@@ -11,7 +11,7 @@ use text::Line;
 use text::Word;
 
 pub fn session_line(session: Session, rows: u64) -> Line
-    ensures { λ r. ⌜ itemsOf r ≡ sessionLine session rows ⌝ }
+    ensures { λ r. ⌜ r ≡ placed (sessionLine session rows) ⌝ }
 {
     match session {
         Session::Open => text::of2(Item::Word(Word::Open), Item::Number(rows)),
@@ -24,7 +24,7 @@ pub fn session_line(session: Session, rows: u64) -> Line
 }
 
 pub fn columns_line() -> Line
-    ensures { λ r. ⌜ itemsOf r ≡ columnsLine ⌝ }
+    ensures { λ r. ⌜ r ≡ placed columnsLine ⌝ }
 {
     text::of1(Item::Word(Word::Columns))
 }
@@ -58,7 +58,7 @@ fn object_item(g: Greatest) -> Item
 }
 
 pub fn row_line(row: Row) -> Line
-    ensures { λ r. ⌜ itemsOf r ≡ rowLine row ⌝ }
+    ensures { λ r. ⌜ r ≡ placed (rowLine row) ⌝ }
 {
     let state = row.state;
     let g = row.greatest;
@@ -74,7 +74,7 @@ pub fn row_line(row: Row) -> Line
 
 // The whole report of a trace at fault, and the last line of its answers.
 pub fn fault_line(at: u64) -> Line
-    ensures { λ r. ⌜ itemsOf r ≡ faultLine at ⌝ }
+    ensures { λ r. ⌜ r ≡ placed (faultLine at) ⌝ }
 {
     text::of2(Item::Word(Word::TraceFaultAt), Item::Number(at))
 }

@@ -1,3 +1,4 @@
+pub mod Placing
 pub mod Decimals
 pub mod Copied
 pub mod Naming

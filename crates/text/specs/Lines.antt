@@ -6,6 +6,7 @@ use lib.ListN.{length, take}
 use lib.Dec.{leb}
 use Rattle.integer.specs.Answer.{pick, Answer, refused, Nothing, wrote, Written}
 use Rattle.integer.specs.Integer.{over}
+use Rattle.shortest.specs.Placing.{upTo}
 use Rattle.text.specs.Letters.{letters, decimalOf}
 use Rattle.text.specs.Words.{wordOf, nameOf}
 use Rattle.text.specs.declared.Item.{Item}
@@ -35,12 +36,23 @@ unfoldable pub lineOf : List Item → List ℕ
 lineOf [] = []
 lineOf (item ∷ rest) = endedOf item (isNone rest) ++ lineOf rest
 
--- the items in their places
+-- ---- the items in their places
+
 abbrev pub slot : Slot → Item
 slot s = s .item
 
+abbrev pub inSlot : Item → Slot
+inSlot item = record { item = item }
+
+-- A LINE'S ITEMS, each in its place; a place that is not used holds the number 0
+unfoldable pub placed : List Item → Line
+placed items = record { at = map inSlot (upTo 6 (Number 0) items); used = length items }
+
+-- and back: those that are used
 unfoldable pub itemsOf : Line → List Item
 itemsOf line = map slot (take (line .used) (line .at))
+
+-- ---- a text in a buffer
 
 -- text put into a buffer: 7 where it is too short
 unfoldable pub putOf : List ℕ → List ℕ → Written

@@ -1,11 +1,12 @@
-// A line, made of its items; measured, and put at the front of what is lent.
+// A line, made of its items; measured, and put at the front of what is lent. A place that is not used holds the number 0.
 ghost use mathlib.Core.Path.{_≡_};
 ghost use mathlib.Core.List.{[], _∷_};
-ghost use Prim.Native.Nat.{_≤_, min};
-ghost use lib.ListN.{length, take};
+ghost use Prim.Native.Nat.{_≤_, _-_, min};
+ghost use lib.ListN.{length, take, drop, replicate};
 ghost use Rattle.integer.specs.Answer.{Leaves};
 ghost use Rattle.shortest.specs.Putting.{Put};
-ghost use Rattle.text.specs.Lines.{itemOf, endedOf, lineOf, itemsOf, putOf, saying};
+ghost use Rattle.text.specs.Lines.{itemOf, endedOf, lineOf, placed, itemsOf, putOf, saying};
+ghost use Rattle.text.specs.declared.Item.the-variants.{Number};
 use crate::Item;
 use crate::Line;
 use crate::Putting;
@@ -16,9 +17,10 @@ use crate::words::put_word;
 
 // ---- the items of a line
 
-// The first of six items, so many as are used. A place that is not used holds the first item.
+// The first of six items, so many as are used.
 fn of(used: usize, a: Item, b: Item, c: Item, d: Item, e: Item, f: Item) -> Line
-    ensures { λ r. ⌜ itemsOf r ≡ take used (a ∷ b ∷ c ∷ d ∷ e ∷ f ∷ []) ⌝ }
+    requires { ⌜ (used ≤ 6) × (drop used (a ∷ b ∷ c ∷ d ∷ e ∷ f ∷ []) ≡ replicate (6 - used) (Number 0)) ⌝ }
+    ensures { λ r. ⌜ r ≡ placed (take used (a ∷ b ∷ c ∷ d ∷ e ∷ f ∷ [])) ⌝ }
 {
     let at = [
         Slot { item: a },
@@ -33,44 +35,49 @@ fn of(used: usize, a: Item, b: Item, c: Item, d: Item, e: Item, f: Item) -> Line
 
 // No items: a line of no bytes.
 pub fn of0() -> Line
-    ensures { λ r. ⌜ itemsOf r ≡ [] ⌝ }
+    ensures { λ r. ⌜ r ≡ placed [] ⌝ }
 {
-    let a = Item::Number(0);
-    of(0, a, a, a, a, a, a)
+    let z = Item::Number(0);
+    of(0, z, z, z, z, z, z)
 }
 
 pub fn of1(a: Item) -> Line
-    ensures { λ r. ⌜ itemsOf r ≡ a ∷ [] ⌝ }
+    ensures { λ r. ⌜ r ≡ placed (a ∷ []) ⌝ }
 {
-    of(1, a, a, a, a, a, a)
+    let z = Item::Number(0);
+    of(1, a, z, z, z, z, z)
 }
 
 pub fn of2(a: Item, b: Item) -> Line
-    ensures { λ r. ⌜ itemsOf r ≡ a ∷ b ∷ [] ⌝ }
+    ensures { λ r. ⌜ r ≡ placed (a ∷ b ∷ []) ⌝ }
 {
-    of(2, a, b, a, a, a, a)
+    let z = Item::Number(0);
+    of(2, a, b, z, z, z, z)
 }
 
 pub fn of3(a: Item, b: Item, c: Item) -> Line
-    ensures { λ r. ⌜ itemsOf r ≡ a ∷ b ∷ c ∷ [] ⌝ }
+    ensures { λ r. ⌜ r ≡ placed (a ∷ b ∷ c ∷ []) ⌝ }
 {
-    of(3, a, b, c, a, a, a)
+    let z = Item::Number(0);
+    of(3, a, b, c, z, z, z)
 }
 
 pub fn of4(a: Item, b: Item, c: Item, d: Item) -> Line
-    ensures { λ r. ⌜ itemsOf r ≡ a ∷ b ∷ c ∷ d ∷ [] ⌝ }
+    ensures { λ r. ⌜ r ≡ placed (a ∷ b ∷ c ∷ d ∷ []) ⌝ }
 {
-    of(4, a, b, c, d, a, a)
+    let z = Item::Number(0);
+    of(4, a, b, c, d, z, z)
 }
 
 pub fn of5(a: Item, b: Item, c: Item, d: Item, e: Item) -> Line
-    ensures { λ r. ⌜ itemsOf r ≡ a ∷ b ∷ c ∷ d ∷ e ∷ [] ⌝ }
+    ensures { λ r. ⌜ r ≡ placed (a ∷ b ∷ c ∷ d ∷ e ∷ []) ⌝ }
 {
-    of(5, a, b, c, d, e, a)
+    let z = Item::Number(0);
+    of(5, a, b, c, d, e, z)
 }
 
 pub fn of6(a: Item, b: Item, c: Item, d: Item, e: Item, f: Item) -> Line
-    ensures { λ r. ⌜ itemsOf r ≡ a ∷ b ∷ c ∷ d ∷ e ∷ f ∷ [] ⌝ }
+    ensures { λ r. ⌜ r ≡ placed (a ∷ b ∷ c ∷ d ∷ e ∷ f ∷ []) ⌝ }
 {
     of(6, a, b, c, d, e, f)
 }
