@@ -59,7 +59,7 @@ module _ (l : Ledger) where
   leaves (stayed q) = stays (rw (quiet q .1)) refl refl
   leaves (broken own rule p) = rw p (breaking own rule)
   leaves (counted w b) = stays refl (b .session) (b .part)
-  leaves (turned id f not-asking still b) = stays refl (b .session) (b .part)
+  leaves (turned id f w is b) = stays refl (b .session) (b .part)
   leaves (taken fresh b) = stays refl (b .session) (b .part)
   leaves (raised more) = stays refl refl refl
 

@@ -12,4 +12,5 @@ pub mod Doing
 pub mod Whole
 pub mod Foremost
 pub mod Promise
+pub mod Runs
 pub mod Theorems

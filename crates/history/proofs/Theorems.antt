@@ -1,9 +1,10 @@
 -- What holds of every history of a ledger. Each theorem with its sentence, and nothing else. Assumes nothing.
-use Prim.Native.Nat.{ℕ, _<_}
+use Prim.Native.Nat.{ℕ, _≤_, _<_}
 use mathlib.Core.Path.{_≡_}
 use mathlib.Core.Bool.{true, false, not}
 use mathlib.Core.List.{List, [], _∷_, _++_, map}
 use mathlib.Core.Logic.{_↔_}
+use lib.ListN.{length}
 use Rattle.field.specs.declared.Arrival.{Arrival}
 use Rattle.field.specs.declared.Place.{Place}
 use Rattle.subscription.specs.declared.Subscribe.{Subscribe}
@@ -14,6 +15,7 @@ use Rattle.row.specs.Places.{before}
 use Rattle.row.specs.declared.Greatest.the-variants.{Nowhere, At}
 use Rattle.ledger.specs.Answers.{only}
 use Rattle.ledger.specs.Ledgers.{held, rising, distinct, isLedger, isOpen}
+use Rattle.ledger.specs.Runs.{arrivalsIn, runOf}
 use Rattle.ledger.specs.Steps.{startOf, takeOf, arrivalOf}
 use Rattle.ledger.specs.declared.Ledger.{Ledger}
 use Rattle.ledger.specs.declared.Part.{Part}
@@ -26,6 +28,7 @@ use Rattle.history.specs.Rows.{greatestOf, rowsOf}
 use Rattle.history.specs.Closings.{anyBroken, firstBroken, kept}
 use Rattle.history.specs.Ledgers.{ToldBy}
 use Rattle.history.specs.Takings.{NoneTaken}
+use Rattle.history.specs.Runs.{Follows}
 use Rattle.history.proofs.Keeping.{run-keeps}
 use Rattle.history.proofs.Closing.{closed-later, open-after, kept-after}
 use Rattle.history.proofs.Exchanging.{messages-either, open-either}
@@ -33,6 +36,7 @@ use Rattle.history.proofs.AnyOrder.{run-exchanged, told-exchanged, betw
 use Rattle.history.proofs.Whole.{told-from-start, told-once}
 use Rattle.history.proofs.Foremost.{nowhere-only, none-nowhere, among, none-after}
 use Rattle.history.proofs.Promise.{promised}
+use Rattle.history.proofs.Runs.{run-follows}
 
 -- 1. Arrivals between two control messages may come in any order: the ledger ends the same.
 pub arrivals-in-any-order : (l : Ledger) (earlier : List Event) {xs ys : List Arrival} (later : List Event) → Reordered xs ys → run l (earlier ++ (map arrival xs ++ later)) ≡ run l (earlier ++ (map arrival ys ++ later))
@@ -112,3 +116,8 @@ rows-rise-and-aliases-differ part capacity maximum es e =
 -- What is a ledger stays one through any history.
 pub always-a-ledger : (l : Ledger) (es : List Event) → isLedger l ≡ true → isLedger (run l es) ≡ true
 always-a-ledger = run-keeps
+
+-- 7. A run of arrivals, at a ledger and with room for a number for each, leaves the ledger of the history of its arrivals, and the
+-- numbers that they are answered there.
+pub run-is-a-history : (l : Ledger) (ns before : List ℕ) → isLedger l ≡ true → length (arrivalsIn ns) ≤ length before → Follows l (map arrival (arrivalsIn ns)) before (runOf l ns before)
+run-is-a-history = run-follows

@@ -6,3 +6,4 @@ pub mod Rows
 pub mod Closings
 pub mod Ledgers
 pub mod Takings
+pub mod Runs

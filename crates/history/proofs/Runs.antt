@@ -1,0 +1,36 @@
+-- A run of arrivals is the history of its arrivals. Assumes nothing.
+use Prim.Native.Nat.{ℕ, _≤_}
+use mathlib.Core.Path.{_≡_, refl, sym, ap}
+use mathlib.Core.Bool.{true}
+use mathlib.Core.List.{List, [], _∷_, map}
+use borrow.Author.Tests.{le-leb}
+use lib.ListN.{length}
+use Rattle.field.specs.declared.Arrival.{Arrival}
+use Rattle.integer.specs.Answer.{wrote}
+use Rattle.integer.specs.Integer.{over}
+use Rattle.ledger.specs.Ledgers.{isLedger}
+use Rattle.ledger.specs.Runs.{arrivalsIn, behind, numbersOf, Run, runOf}
+use Rattle.ledger.specs.Steps.{arrivalOf}
+use Rattle.ledger.specs.declared.Ledger.{Ledger}
+use Rattle.history.specs.Events.{Event, arrival, run, Told, told}
+use Rattle.history.specs.Runs.{numberOf, Follows}
+
+pub behind-run : (l : Ledger) (xs : List Arrival) → behind l xs ≡ run l (map arrival xs)
+unfolding behind run
+behind-run l [] = refl
+behind-run l (a ∷ xs) = behind-run (arrivalOf l a .next) xs
+
+pub numbers-told : (l : Ledger) (xs : List Arrival) → numbersOf l xs ≡ map numberOf (told l (map arrival xs))
+unfolding numbersOf told
+numbers-told l [] = refl
+numbers-told l (a ∷ xs) = ap (λ (ns : List ℕ). arrivalOf l a .says .number ∷ ns) (numbers-told (arrivalOf l a .next) xs)
+
+-- where it is a ledger, and there is room for a number for each
+pub run-follows : (l : Ledger) (ns before : List ℕ) → isLedger l ≡ true → length (arrivalsIn ns) ≤ length before → Follows l (map arrival (arrivalsIn ns)) before (runOf l ns before)
+unfolding runOf
+run-follows l ns before w room =
+    let fits = le-leb (length (arrivalsIn ns)) (length before) room in
+    record {
+      next = rw (w, fits) (behind-run l (arrivalsIn ns));
+      holds = rw (w, fits) (ap (λ (xs : List ℕ). over xs before) (numbers-told l (arrivalsIn ns)));
+    }
