@@ -1,4 +1,4 @@
--- The answers of a trace: "a line for each field as it goes: the offset of its tag, what it is, and the answer".
+-- The answers of a trace: a line for each field as it goes, with the offset of its tag, what it is, and the answer.
 use Prim.Native.Nat.{ℕ, _+_}
 use mathlib.Core.List.{List, [], _∷_, _++_}
 use lib.ListN.{length, drop, take}
@@ -24,7 +24,7 @@ use Rattle.answers.specs.declared.Told.{Told}
 
 -- ---- a line
 
--- "Behind a 13 stands its rule"
+-- behind a 13 stands its rule
 abbrev pub answerItems : Said → List Item
 answerItems said = Number (said .number) ∷ pick (eqb (said .rule) 0) [] (Rule (said .rule) ∷ [])
 
@@ -34,8 +34,8 @@ offsetLine offset what said = Number offset ∷ what ∷ answerItems said
 abbrev pub malformedLine : ℕ → ℕ → Said → List Item
 malformedLine offset refusal said = Number offset ∷ Word AMalformed ∷ Number refusal ∷ answerItems said
 
--- "A message has its name as 004 spells it." "Bytes that the reader refuses show `malformed`, the reader's number, then the
--- ledger's answer". A fault has no line here
+-- a message has its name as 004 spells it; bytes that the reader refuses show `malformed`, the reader's number, then the ledger's
+-- answer. A fault has no line here
 abbrev pub lineBy : ℕ → Event → Said → List Item
 lineBy offset (Start part maximum) said = offsetLine offset (Word AStart) said
 lineBy offset (Control m) said = offsetLine offset (Name (saidOf m .type)) said
@@ -66,7 +66,7 @@ tell t field =
 abbrev pub telling : Progress → List ℕ → Telling
 telling p text = record { progress = p; text = text }
 
--- "At a fault the lines before it stand, then `trace fault at N`."
+-- at a fault the lines before it stand, then `trace fault at N`
 abbrev pub faultItems : Stage → List Item
 faultItems Empty = faultLine 0
 faultItems Running = []

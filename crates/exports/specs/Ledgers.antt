@@ -43,7 +43,7 @@ malformedIn before = answered (malformedOf (unpackOf before)) before
 unfoldable pub arrivalIn : Arrival → List ℕ → Doing
 arrivalIn a before = answered (arrivalOf (unpackOf before) a) before
 
--- a message read from the front of bytes: "info[0] bytes used, info[1] the rule", 0 where none is broken; 14 goes before 7, and
+-- a message read from the front of bytes. info[0]: the bytes used; info[1]: the rule, 0 where none is broken. 14 goes before 7, and
 -- neither changes anything
 abbrev pub telling : Came → ℕ → List ℕ → List ℕ → Doing
 telling c used before info =

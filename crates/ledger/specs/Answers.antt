@@ -95,7 +95,7 @@ isOwn Subscriber Publisher = false
 isOwn Publisher Subscriber = false
 isOwn Publisher Publisher = true
 
--- "13 breaks rule R1 to R7, number given; own message: same ledger; peer's: closed, rule kept, rows unchanged"
+-- 13, "breaks rule R1 to R7, number given": "own message: same ledger; peer's: closed, rule kept, rows unchanged"
 unfoldable pub breaks : Ledger → Bool → Rule → Came
 breaks l own rule =
     record { says = record { number = 13; rule = ruleNumber rule }; next = pick own l (closedBy l rule) }

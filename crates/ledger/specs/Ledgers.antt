@@ -1,4 +1,4 @@
--- What a ledger is: every condition of document 01's list, and nothing else. "Anything else is 'not a ledger'."
+-- What a ledger is: every condition of document 01's list, and nothing else. "Anything else" is no ledger.
 use Prim.Native.Nat.{ℕ, _+_}
 use mathlib.Core.Bool.{Bool, true, false, not}
 use mathlib.Core.List.{List, [], _∷_}

@@ -38,9 +38,9 @@ use Rattle.ledger.specs.declared.Found.the-variants.{At, Missing}
 
 -- ---- starting
 
--- "A ledger starts with its own end's part (subscriber or publisher), a row capacity and a maximum Subscribe ID." "15 start
--- refused: rows not 1 to 64, maximum above the greatest integer; no ledger": what is then handed back has no capacity, and
--- every call on it answers 14
+-- "A ledger starts with its own end's part (subscriber or publisher), a row capacity and a maximum Subscribe ID." 15,
+-- "start refused: rows not 1 to 64, maximum above the greatest integer": what is then handed back has no capacity, and every call on
+-- it answers 14
 abbrev pub refusedStart : Part → Came
 refusedStart part = record { says = only 15; next = emptyLedger part 0 0 }
 

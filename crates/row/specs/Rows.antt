@@ -98,7 +98,7 @@ pub record AtRow : Type 0 where
 abbrev pub leaving : ℕ → Row → AtRow
 leaving number row = record { number = number; rule = 0; row = row }
 
--- "19 row still pending", "17 outside the range", "16 arrival counted"; "With an active row and a place in range it is counted"
+-- 19, "row still pending"; 17, "outside the range"; 16, "arrival counted": "With an active row and a place in range it is counted"
 abbrev pub arriveIn : State → Row → Place → AtRow
 arriveIn Pending r place = leaving 19 r
 arriveIn Active r place = pick (inRange (r .range) place) (leaving 16 (countedRow r place)) (leaving 17 r)
