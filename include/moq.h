@@ -122,8 +122,8 @@ uint64_t moq_answers(const uint8_t *trace, size_t trace_len, uint8_t *out, size_
     18  no row has the alias
     19  the row is pending
 
-   `numbers` are the next ledger's with 8, with 16, with 13 where the peer broke the rule, and with the 0 of a run; with any other
-   number they stay as they are. */
+   Where a call's list has no "or", the first of it that holds is answered. `numbers` are the next ledger's with 8, with 16, with 13 where
+   the peer broke the rule, and with the 0 of a run; with any other number they stay as they are. */
 
 /* A new ledger with no row in use: 5, 15, 7, 8. 5: part is neither 0 nor 1. 15: rows isn't 1 to 64, or the maximum is above
    4,611,686,018,427,387,903. 7: numbers has fewer than 710 values. What it held before isn't looked at. */
