@@ -1,8 +1,8 @@
 //! The three bodies of the nine messages about announcements (004, sections
 //! 8.18 to 8.26). A Track Namespace Prefix has the sizes of a namespace.
 
+use crate::body::Body;
 use crate::fields::{Fields, Namespace, Parameters};
-use crate::message::Body;
 use crate::sink::Sink;
 
 /// The body of ANNOUNCE and SUBSCRIBE_ANNOUNCES (004, figures 19 and 24).

@@ -2,10 +2,10 @@
 //! holds nothing but a Subscribe ID.
 
 use crate::answer::FORBIDDEN;
+use crate::body::Body;
 use crate::fields::{
     is_forbidden_asked_order, is_forbidden_given_order, refuse, Fields, Parameters, Place, Track,
 };
-use crate::message::Body;
 use crate::sink::Sink;
 
 /// FETCH (004, figure 13).

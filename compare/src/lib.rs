@@ -9,6 +9,7 @@
 
 pub mod announce;
 pub mod answer;
+pub mod body;
 pub mod calls;
 pub mod cases;
 pub mod fetch;

@@ -2,6 +2,7 @@
 
 use crate::announce::{JustNamespace, NamespaceError, NamespaceParameters};
 use crate::answer::{BODY, FILL, FORBIDDEN, SHORT, SIZE, UNKNOWN};
+use crate::body::Body;
 use crate::fetch::{Fetch, FetchError, FetchOk, FetchType};
 use crate::fields::Fields;
 use crate::setup::{ClientSetup, Goaway, ServerSetup};
@@ -13,22 +14,6 @@ use crate::track::{TrackStatus, TrackStatusRequest};
 
 /// 01: "Length, at most 16,383".
 pub const MOST_BODY_BYTES: u64 = 16_383;
-
-/// The body of a message: its fields in the order of its figure in 004.
-pub trait Body<'a>: Sized {
-    /// Reads the fields from left to right, the first fault deciding.
-    fn read(fields: &mut Fields<'a>) -> Result<Self, u8>;
-
-    /// Puts the fields from left to right.
-    fn put<S: Sink>(&self, sink: &mut S);
-
-    /// Whether a field holds a value that 01 forbids, or a field is there
-    /// that doesn't belong to the others. Numbers above the greatest integer
-    /// are found by the measure.
-    fn is_forbidden(&self) -> bool {
-        false
-    }
-}
 
 /// The 26 control messages of 004's table 2.
 #[derive(Debug, Clone, Copy, PartialEq, Eq)]

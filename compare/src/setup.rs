@@ -1,7 +1,7 @@
 //! CLIENT_SETUP, SERVER_SETUP and GOAWAY (004, sections 8.2 and 8.3).
 
+use crate::body::Body;
 use crate::fields::{Fields, Parameters, Versions};
-use crate::message::Body;
 use crate::sink::Sink;
 
 /// CLIENT_SETUP (004, figure 3).

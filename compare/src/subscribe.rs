@@ -1,10 +1,10 @@
 //! The messages about subscriptions (004, sections 8.4 to 8.11), and the body
 //! of those that hold nothing but one Subscribe ID.
 
+use crate::body::Body;
 use crate::fields::{
     is_forbidden_asked_order, is_forbidden_given_order, refuse, Fields, Parameters, Place, Track,
 };
-use crate::message::Body;
 use crate::sink::Sink;
 
 /// The body of MAX_SUBSCRIBE_ID, SUBSCRIBES_BLOCKED, UNSUBSCRIBE and

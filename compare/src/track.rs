@@ -1,7 +1,7 @@
 //! TRACK_STATUS_REQUEST and TRACK_STATUS (004, sections 8.16 and 8.17).
 
+use crate::body::Body;
 use crate::fields::{refuse, Fields, Place, Track};
-use crate::message::Body;
 use crate::sink::Sink;
 
 /// TRACK_STATUS_REQUEST (004, figure 17).
