@@ -5,8 +5,7 @@
 mod clock;
 #[path = "../../src/bin/speed/integer.rs"]
 mod integer;
-#[allow(dead_code)]
-#[path = "../../src/bin/speed/ours.rs"]
+#[path = "../../src/bin/ours/mod.rs"]
 mod ours;
 mod quinn;
 

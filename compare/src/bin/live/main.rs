@@ -11,6 +11,7 @@ mod compare;
 #[cfg(exports)]
 mod ledgers;
 #[cfg(exports)]
+#[path = "../ours/mod.rs"]
 mod ours;
 #[cfg(exports)]
 mod run;

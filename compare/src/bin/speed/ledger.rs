@@ -27,7 +27,7 @@ fn single_by_numbers() {
     clock::compare(
         "arrival by numbers",
         SINGLE,
-        || each(&all, |[a, g, o]| ours::arrival(a, g, o, &mut mine)),
+        || each(&all, |[a, g, o]| ours::ledger_arrival(a, g, o, &mut mine)),
         || each(&all, |[a, g, o]| theirs(a, g, o, &mut other).into()),
     );
     assert!(mine == other, "the ledgers differ");
@@ -41,7 +41,7 @@ fn single_in_place() {
     clock::compare(
         "arrival in place",
         SINGLE,
-        || each(&all, |[a, g, o]| ours::arrival(a, g, o, &mut mine)),
+        || each(&all, |[a, g, o]| ours::ledger_arrival(a, g, o, &mut mine)),
         || each(&all, |[a, g, o]| theirs(&mut other, a, g, o).number.into()),
     );
     assert!(mine == numbers::of(&other), "the ledgers differ");
@@ -55,7 +55,7 @@ fn run() {
     clock::compare(
         "arrivals in a run",
         RUN,
-        || ours::arrivals(all.as_flattened(), &mut mine, &mut my_answers),
+        || ours::ledger_arrivals(all.as_flattened(), &mut mine, &mut my_answers),
         || {
             for (&[alias, group, object], answer) in all.iter().zip(&mut other_answers) {
                 *answer = other.step_arrival(alias, group, object).number;

@@ -9,6 +9,7 @@ mod integer;
 #[cfg(exports)]
 mod ledger;
 #[cfg(exports)]
+#[path = "../ours/mod.rs"]
 mod ours;
 #[cfg(exports)]
 mod quinn;

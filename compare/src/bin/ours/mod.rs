@@ -1,11 +1,39 @@
 //! The proved code, through its C interface (`include/moq.h`): a slice is a
-//! pointer and a count.
+//! pointer and a count. `speed` times some of these functions as they stand;
+//! behind them are calls that take slices.
 
-type Call = unsafe extern "C" fn(*const u8, usize, *mut u8, usize, *mut u64, usize) -> u64;
+#![allow(dead_code)] // Each program calls a part of it.
+
+/// An integer read from the front of bytes: answers 01's number, and behind a 0
+/// the number and the bytes used in `info`.
+pub type Read =
+    unsafe extern "C" fn(s: *const u8, s_len: usize, info: *mut u64, info_len: usize) -> u64;
+
+/// A number written at the front of `out`: answers 01's number, and behind a 0
+/// the bytes used in `info`.
+pub type Write = unsafe extern "C" fn(
+    n: u64,
+    out: *mut u8,
+    out_len: usize,
+    info: *mut u64,
+    info_len: usize,
+) -> u64;
+
+/// A message or header read from the front of `s` and written again in its
+/// shortest form at the front of `out`, or the text of a trace: answers 01's
+/// number, and behind a 0 tells in `info` what `include/moq.h` says.
+pub type Rewrite = unsafe extern "C" fn(
+    s: *const u8,
+    s_len: usize,
+    out: *mut u8,
+    out_len: usize,
+    info: *mut u64,
+    info_len: usize,
+) -> u64;
 
 extern "C" {
-    fn moq_integer_read(s: *const u8, s_len: usize, info: *mut u64, info_len: usize) -> u64;
-    fn moq_integer_write(
+    pub fn moq_integer_read(s: *const u8, s_len: usize, info: *mut u64, info_len: usize) -> u64;
+    pub fn moq_integer_write(
         n: u64,
         out: *mut u8,
         out_len: usize,
@@ -45,10 +73,10 @@ extern "C" {
     ) -> u64;
 }
 
-macro_rules! calls {
+macro_rules! rewrites {
     ($($name:ident)*) => {
         extern "C" {
-            $(fn $name(
+            $(pub fn $name(
                 s: *const u8,
                 s_len: usize,
                 out: *mut u8,
@@ -60,7 +88,7 @@ macro_rules! calls {
     };
 }
 
-calls! {
+rewrites! {
     moq_control_rewrite
     moq_datagram_rewrite
     moq_stream_rewrite
@@ -70,7 +98,7 @@ calls! {
     moq_answers
 }
 
-fn call(f: Call, s: &[u8], out: &mut [u8], info: &mut [u64]) -> u64 {
+fn rewrite(f: Rewrite, s: &[u8], out: &mut [u8], info: &mut [u64]) -> u64 {
     // Every pointer and count is that of one slice, and the slices are apart.
     unsafe {
         f(
@@ -104,32 +132,32 @@ pub fn integer_write(n: u64, out: &mut [u8], info: &mut [u64]) -> u64 {
 
 /// Into `info` the bytes used, the bytes written and the type.
 pub fn control(s: &[u8], out: &mut [u8], info: &mut [u64]) -> u64 {
-    call(moq_control_rewrite, s, out, info)
+    rewrite(moq_control_rewrite, s, out, info)
 }
 
 pub fn datagram(s: &[u8], out: &mut [u8], info: &mut [u64]) -> u64 {
-    call(moq_datagram_rewrite, s, out, info)
+    rewrite(moq_datagram_rewrite, s, out, info)
 }
 
 pub fn stream(s: &[u8], out: &mut [u8], info: &mut [u64]) -> u64 {
-    call(moq_stream_rewrite, s, out, info)
+    rewrite(moq_stream_rewrite, s, out, info)
 }
 
 pub fn subgroup_object(s: &[u8], out: &mut [u8], info: &mut [u64]) -> u64 {
-    call(moq_subgroup_object_rewrite, s, out, info)
+    rewrite(moq_subgroup_object_rewrite, s, out, info)
 }
 
 pub fn fetch_object(s: &[u8], out: &mut [u8], info: &mut [u64]) -> u64 {
-    call(moq_fetch_object_rewrite, s, out, info)
+    rewrite(moq_fetch_object_rewrite, s, out, info)
 }
 
 /// Into `info` the length of the text.
 pub fn report(trace: &[u8], out: &mut [u8], info: &mut [u64]) -> u64 {
-    call(moq_report, trace, out, info)
+    rewrite(moq_report, trace, out, info)
 }
 
 pub fn answers(trace: &[u8], out: &mut [u8], info: &mut [u64]) -> u64 {
-    call(moq_answers, trace, out, info)
+    rewrite(moq_answers, trace, out, info)
 }
 
 pub fn ledger_start(part: u64, rows: u64, maximum: u64, numbers: &mut [u64]) -> u64 {
