@@ -10,6 +10,7 @@ mod make;
 mod message;
 mod random;
 mod trace;
+mod track;
 
 pub use ledger::{Call, LedgerCase, Ledgers};
 pub use random::Random;

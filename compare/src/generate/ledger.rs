@@ -175,6 +175,7 @@ impl Ledgers {
     /// A control message that the ledger keeps, mostly; whole, mostly.
     fn message(&mut self) -> Vec<u8> {
         self.make.padded = self.make.random.one_in(3);
+        self.make.shared = true;
         let mut bytes = match self.make.random.below(12) {
             0..=4 => self.subscribe(),
             5..=8 => self.by_id(),

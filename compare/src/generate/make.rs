@@ -29,6 +29,8 @@ pub struct Make {
     pub wild: bool,
     /// Whether byte fields may be long.
     pub long: bool,
+    /// Whether two subscriptions may ask for one track.
+    pub shared: bool,
 }
 
 /// Writes the number in a form of `size` bytes (1, 2, 4 or 8), which it fits.
@@ -61,6 +63,7 @@ impl Make {
             padded: false,
             wild: false,
             long: false,
+            shared: false,
         }
     }
 
@@ -69,6 +72,7 @@ impl Make {
         self.padded = false;
         self.wild = false;
         self.long = false;
+        self.shared = false;
     }
 
     /// Writes this number, at times longer than needed.

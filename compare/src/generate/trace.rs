@@ -3,6 +3,7 @@
 use super::damage;
 use super::make::Make;
 use super::message::{self, VARIANTS};
+use super::track;
 use crate::integer::GREATEST;
 
 /// What the maker of a history believes of the subscriptions so far. It need
@@ -28,6 +29,7 @@ pub fn trace(make: &mut Make) -> Vec<u8> {
     };
     // Some histories are polite throughout, so that they go on for long.
     let rude = make.random.one_in(2);
+    make.shared = rude;
     for _ in 0..fields {
         let value = if rude && make.random.one_in(10) {
             broken_rule(make, &mut history)
@@ -126,7 +128,8 @@ pub(super) fn subscribe_as(make: &mut Make, id: u64, alias: u64) -> Value {
     let mut body = Vec::new();
     make.integer(&mut body, id);
     make.integer(&mut body, alias);
-    body.extend(b"\x01\x01m\x02ce\x80");
+    track::track(make, id, &mut body);
+    body.push(0x80);
     let filter = 2 + make.random.below(3);
     body.push(make.random.below(3) as u8);
     make.integer(&mut body, filter);
