@@ -97,15 +97,17 @@ fn call(ledger: &mut Ledger, text: &str) -> Option<Answer> {
         };
         return Some(ledger.arrive(alias, group, object));
     }
+    // Each subscription asks for a track of its own, which its ID names.
+    let name = values.first().map(u64::to_string).unwrap_or_default();
     let message = match word {
-        "subscribe" => subscribe(&values)?,
+        "subscribe" => subscribe(&values, name.as_bytes())?,
         "ok" => ok(&values)?,
         _ => by_id(word, &values)?,
     };
     Some(ledger.take(&message))
 }
 
-fn subscribe(values: &[u64]) -> Option<Message<'static>> {
+fn subscribe<'a>(values: &[u64], name: &'a [u8]) -> Option<Message<'a>> {
     let [subscribe_id, track_alias, group_order, filter_type, ref asked @ ..] = values[..] else {
         return None;
     };
@@ -123,10 +125,7 @@ fn subscribe(values: &[u64]) -> Option<Message<'static>> {
     Some(Message::Subscribe(Subscribe {
         subscribe_id,
         track_alias,
-        track: Track {
-            namespace,
-            name: b"ce",
-        },
+        track: Track { namespace, name },
         subscriber_priority: 128,
         group_order: u8::try_from(group_order).ok()?,
         filter_type,

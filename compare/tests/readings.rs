@@ -324,10 +324,10 @@ fn report_example() {
 
 #[test]
 fn answers_of_refusals() {
-    // A publisher's ledger: SUBSCRIBE, the same alias again, then bytes that
-    // are malformed, and a fault.
+    // A publisher's ledger: SUBSCRIBE, the same alias for another track, then
+    // bytes that are malformed, and a fault.
     let trace = "01 00 02 01 0A  02 00 0E 03 0C 03 07 01 01 6D 02 63 65 80 01 02 00 \
-        02 00 0E 03 0C 04 07 01 01 6D 02 63 65 80 01 02 00  02 00 01 3F  02 00 01 03";
+        02 00 0E 03 0C 04 07 01 01 6D 02 63 66 80 01 02 00  02 00 01 3F  02 00 01 03";
     let expected =
         "0 start 8\n5 SUBSCRIBE 8\n22 SUBSCRIBE 13 R4\n39 malformed 2 10\ntrace fault at 43\n";
     assert_eq!(report::answers(&bytes(trace)), expected.as_bytes());

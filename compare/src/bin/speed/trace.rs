@@ -30,8 +30,8 @@ pub fn measure() {
     });
 }
 
-/// A start, a SUBSCRIBE and a SUBSCRIBE_OK for each row, and arrivals whose
-/// groups rise with noise.
+/// A start, a SUBSCRIBE to a track of its own and a SUBSCRIBE_OK for each row,
+/// and arrivals whose groups rise with noise.
 fn trace() -> Vec<u8> {
     let mut trace = Vec::with_capacity(120 << 20);
     field(&mut trace, 1, &[&[0], &number(1_000)]);
@@ -39,7 +39,9 @@ fn trace() -> Vec<u8> {
         let body = [
             &number(id)[..],
             &number(1_000 + id),
-            b"\x01\x01m\x02ce\x80\x01\x02\x00",
+            b"\x01\x01m\x02c",
+            &[id as u8],
+            b"\x80\x01\x02\x00",
         ]
         .concat();
         field(&mut trace, 2, &[&[3], &number(body.len() as u64), &body]);
