@@ -76,7 +76,7 @@ unfoldable pub answersTo : Ledger → List Message → List Said
 answersTo l [] = []
 answersTo l (m ∷ ms) = takeOf l m .says ∷ answersTo (takeOf l m .next) ms
 
--- a SUBSCRIBE from the latest on, of a track that has neither bytes nor fields here
+-- a SUBSCRIBE from the latest on, of a track with one namespace field, which has no bytes here
 abbrev pub subscribing : ℕ → ℕ → Message
 subscribing id alias =
     Subscription
@@ -84,7 +84,7 @@ subscribing id alias =
     (record {
       id = id;
       alias = alias;
-      track = record { namespace = record { start = 0; end = 0; count = 0 }; name = nowhere };
+      track = record { namespace = record { start = 0; end = 1; count = 1 }; name = nowhere };
       priority = 0;
       order = 1;
       filter = Latest;
