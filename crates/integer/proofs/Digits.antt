@@ -5,12 +5,12 @@ use mathlib.Core.List.{List, [], _∷_, _++_, append-assoc}
 use native.Mathlib.Nat.{pow-suc, pow-succ', div-lt-iff-lt-mul, div-div-eq-div-mul, zero-lt-suc, not-suc-le-zero, le-refl, div-one, pow-le-pow-right}
 use native.Mathlib.Numerals.{add-one, sub-one}
 use native.Mathlib.Omega.{arith}
-use lib.Arith.{digits-lt}
-use lib.Dec.{lit<}
+use lib.Arith.{digits-lt, digits-div, digits-mod}
 use lib.ListN.{length, getD, take, drop, set, length-append, length-drop, length-set, take-append-drop, List·getD-append}
-use lib.Pow.{pow-add, pow-pos, pow-mono}
-use lib.Seq.{length-take-le, take-append-add, take-suc, drop-cons, getD-set-same, drop-set-lt}
-use Rattle.integer.specs.Integer.{spell, bytesOf, room}
+use lib.Pow.{pow-add}
+use lib.Seq.{length-take-le, take-append-add, take-suc, drop-cons, getD-take, getD-set-same, drop-set-lt}
+use Rattle.integer.specs.Bytes.{spell, bytesOf}
+use Rattle.integer.specs.Octets.{Octets}
 
 -- ---- what bytes spell
 
@@ -65,22 +65,6 @@ module _ (s : List ℕ) (h w : ℕ) (k : h ≤ w) (b : w ≤ length s) where
       let z = digits-lt (rw (length-take-le h s (omega arith)) at x) (rw length-second at y) in
       omega (arith, rw (← pow-add 256 h (w - h), e) at z, eight-fit w f)
 
--- ---- what a form has room for
-
-pub room-pos : (w : ℕ) → 0 < room w
-unfolding room
-room-pos w = pow-pos (8 * w - 2)
-
-pub room-suc : (k : ℕ) → room (suc k) ≡ 64 * 256 ^ k
-unfolding room
-room-suc zero = refl
-room-suc (suc k) =
-    ap (λ (e : ℕ). 2 ^ e) (omega arith) ∙ pow-add 2 (8 * suc k - 2) 8 ∙ rw (room-suc k, pow-succ' 256 k) (omega arith)
-
-pub room-top : (w : ℕ) → w ≤ 8 → room w ≤ 2 ^ 62
-unfolding room
-room-top w h = pow-mono {i = 8 * w - 2} {j = 62} (omega arith)
-
 -- ---- the bytes of a number
 
 pub length-bytesOf : (width n : ℕ) → length (bytesOf width n) ≡ width
@@ -96,13 +80,16 @@ spell-bytesOf (suc k) n h =
     rw (spell-snoc, spell-bytesOf k (n / 256) (div-lt-iff-lt-mul (zero-lt-suc 255) .1 (rw pow-suc at h))) (omega arith)
 
 -- the first of them
-pub head-bytesOf : (k n : ℕ) → n < 256 ^ suc k → getD (bytesOf (suc k) n) 0 0 ≡ n / 256 ^ k
+pub head-bytesOf : (width n : ℕ) → 0 < width → n < 256 ^ width → getD (bytesOf width n) 0 0 ≡ n / 256 ^ (width - 1)
 unfolding bytesOf
-head-bytesOf zero n h = omega (arith, div-one n)
-head-bytesOf (suc k) n h =
+head-bytesOf zero n some h = absurd (not-suc-le-zero some)
+head-bytesOf (suc zero) n some h = omega (arith, div-one n)
+head-bytesOf (suc (suc k)) n some h =
     rw (
       List·getD-append (bytesOf (suc k) (n / 256)) (n % 256 ∷ []) 0 0 (rw length-bytesOf (zero-lt-suc k)),
-      head-bytesOf k (n / 256) (div-lt-iff-lt-mul (zero-lt-suc 255) .1 (rw pow-suc at h)),
+      head-bytesOf (suc k) (n / 256) (zero-lt-suc k) (div-lt-iff-lt-mul (zero-lt-suc 255) .1 (rw pow-suc at h)),
+      sub-one,
+      sub-one,
       div-div-eq-div-mul,
       pow-succ',
     )
@@ -113,3 +100,29 @@ unfolding bytesOf
 put-next zero n out h k = absurd (not-suc-le-zero h)
 put-next (suc j) n out h k =
     rw (sub-one, append-assoc, drop-cons (set out j (n % 256)) j 0 (rw length-set k), getD-set-same, drop-set-lt (suc j) out j (n % 256) (le-refl (suc j)))
+
+-- ---- bytes are those of the number that they spell
+
+module _ (s : List ℕ) (o : Octets s) where
+  -- one byte more
+  spelt-suc : (i : ℕ) → i < length s → spell 0 (take (suc i) s) ≡ spell 0 (take i s) * 256 + getD s i 0
+  spelt-suc i h = rw (take-suc s i 0 h, spell-snoc)
+
+  -- so many bytes spell less than this,
+  spelt-fits : (i : ℕ) → i ≤ length s → spell 0 (take i s) < 256 ^ i
+  unfolding spell
+  spelt-fits zero h = zero-lt-suc 0
+  spelt-fits (suc i) h = rw (spelt-suc i h, pow-suc) (digits-lt (spelt-fits i (omega arith)) (o i))
+
+  -- and are the bytes of what they spell,
+  pub spelt : (i : ℕ) → i ≤ length s → bytesOf i (spell 0 (take i s)) ≡ take i s
+  unfolding bytesOf
+  spelt zero h = refl
+  spelt (suc i) h =
+      let m = spell 0 (take i s) in
+      rw (spelt-suc i h, digits-div m (o i), digits-mod m (o i), spelt i (omega arith), take-suc s i 0 h)
+
+  -- whose first is what is left of the number when those behind it are taken off
+  pub spelt-first : (w : ℕ) → 0 < w → w ≤ length s → getD s 0 0 ≡ spell 0 (take w s) / 256 ^ (w - 1)
+  spelt-first w some h =
+      sym (getD-take w s 0 0 some) ∙ ap (λ (x : List ℕ). getD x 0 0) (sym (spelt w h)) ∙ head-bytesOf w (spell 0 (take w s)) some (spelt-fits w h)

@@ -1,5 +1,7 @@
 pub mod Cases
 pub mod Digits
+pub mod Forms
+pub mod Editions
 pub mod Widths
 pub mod Front
 pub mod Laws

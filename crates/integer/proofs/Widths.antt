@@ -1,82 +1,71 @@
--- The four widths of RFC 9000: what their first byte, their room and their sizes have to do with each other.
--- Assumes nothing.
-use Prim.Native.Nat.{ℕ, zero, suc, _+_, _-_, _*_, _/_, _%_, _^_, _≤_, _<_}
-use mathlib.Core.Path.{_≡_, refl, ap, _∙_}
-use native.Mathlib.Nat.{mod-eq-of-lt}
+-- The table of RFC 9000, as the code that reads and writes by it meets it: what a first byte, a width and a range of numbers
+-- have to do with each other. Assumes nothing.
+use Prim.Native.Nat.{ℕ, _/_, _%_, _≤_, _<_}
+use mathlib.Core.Path.{_≡_, refl, ap}
 use native.Mathlib.Omega.{arith}
-use lib.Dec.{lit<, lit≤}
-use Rattle.integer.specs.Integer.{wide, room, tag, sizeOf, greatest}
+use lib.Dec.{T}
+use lib.Pow.{pow-pos}
+use Rattle.integer.specs.Edition.{Form, roomOf, shareOf, isEdition, begunBy, ofBytes, fewestFor}
+use Rattle.integer.specs.Integer.{rfc9000, wide, room, tag, sizeOf, greatest}
 use Rattle.integer.proofs.Cases.{pick-le}
+use Rattle.integer.proofs.Editions
+use Rattle.integer.proofs.Forms
+use Rattle.integer.proofs.Forms.{In}
 
-below-four : (P : ℕ → Type 0) → P 0 → P 1 → P 2 → P 3 → (e : ℕ) → e < 4 → P e
-below-four P a b c d zero h = a
-below-four P a b c d (suc zero) h = b
-below-four P a b c d (suc (suc zero)) h = c
-below-four P a b c d (suc (suc (suc zero))) h = d
-below-four P a b c d (suc (suc (suc (suc e)))) h = absurd (omega arith)
+-- it has what a table must have
+pub table : T (isEdition rfc9000)
+table = tt
 
--- what holds of the four widths holds of what a first byte gives
-pub wide-cases : (P : ℕ → Type 0) → P 1 → P 2 → P 4 → P 8 → (first : ℕ) → P (wide first)
+-- ---- a first byte, and the width that it gives
+
+pub record Width (w : ℕ) : Type 0 where
+  pub some : 0 < w
+  pub few : w ≤ 8
+
+pub wide-form : (first : ℕ) → Width (wide first)
 unfolding wide
-wide-cases P a b c d first = below-four (λ e. P (2 ^ e)) a b c d (first / 64 % 4) (omega arith)
+wide-form first =
+    let i = Forms.begun rfc9000 table first .0 in
+    record { some = Forms.some rfc9000 table i; few = Forms.few rfc9000 table i .0 }
 
-pub wide-at : (first e : ℕ) → first / 64 % 4 ≡ e → wide first ≡ 2 ^ e
+-- a row's share of the first bytes gives its width
+pub wide-at : {form : Form} → In form rfc9000 → (first : ℕ) → first % 256 / shareOf form ≡ form .tag → wide first ≡ form .bytes
 unfolding wide
-wide-at first e p = ap (λ (k : ℕ). 2 ^ k) p
+wide-at i first e = ap (λ (f : Form). f .bytes) (Forms.begun-is rfc9000 table i first e)
 
--- the top two bits of a byte are those of the width that it gives
-pub wide-tag : (first : ℕ) → first < 256 → tag (wide first) ≡ first / 64
-unfolding wide tag
-wide-tag first h =
-    below-four (λ e. tag (2 ^ e) ≡ e) refl refl refl refl (first / 64 % 4) (omega arith) ∙ mod-eq-of-lt (omega arith)
+pub room-pos : (w : ℕ) → 0 < room w
+unfolding room
+room-pos w = pow-pos (ofBytes rfc9000 w .bits)
+
+-- the room of the width is that of the form
+pub wide-room : (first : ℕ) → room (wide first) ≡ roomOf (begunBy rfc9000 first)
+unfolding wide room
+wide-room first = ap roomOf (Forms.of-bytes rfc9000 table (Forms.begun rfc9000 table first .0))
+
+-- ---- a number, and its size
 
 -- the size of a number, by its range: RFC 9000's table
 pub size-cases : (P : ℕ → Type 0) (n : ℕ) → (n ≤ 63 → P 1) → (63 < n → n ≤ 16_383 → P 2) → (16_383 < n → n ≤ 1_073_741_823 → P 4) → (1_073_741_823 < n → n ≤ greatest → P 8) → (greatest < n → P 0) → P (sizeOf n)
 unfolding sizeOf
 size-cases P n a b c d e =
-    pick-le P n 63 a (λ i. pick-le P n 16_383 (b i) (λ j. pick-le P n 1_073_741_823 (c j) (λ k. pick-le P n greatest (d k) e)))
+    pick-le Q n 63 a (λ i. pick-le Q n 16_383 (b i) (λ j. pick-le Q n 1_073_741_823 (c j) (λ k. pick-le Q n greatest (d k) e)))
+  where
+    Q : Form → Type 0
+    Q form = P (form .bytes)
 
--- a form of w bytes: its top two bits give its width back
-pub record Form (w : ℕ) : Type 0 where
-  pub some : 0 < w
-  pub few : w ≤ 8
-  pub small : tag w < 4
-  pub back : 2 ^ tag w ≡ w
+-- it is that of the form with the fewest bytes
+pub size-form : (n : ℕ) → n ≤ greatest → ofBytes rfc9000 (sizeOf n) ≡ fewestFor rfc9000 n
+unfolding sizeOf
+size-form n h = Forms.of-bytes rfc9000 table (Forms.fewest rfc9000 table n h .0)
 
--- each of the four is one
-four-forms : Form 1 × Form 2 × Form 4 × Form 8
-unfolding tag room
-four-forms = (
-  record { some = lit< tt; few = lit≤ tt; small = lit< tt; back = refl },
-  record { some = lit< tt; few = lit≤ tt; small = lit< tt; back = refl },
-  record { some = lit< tt; few = lit≤ tt; small = lit< tt; back = refl },
-  record { some = lit< tt; few = lit≤ tt; small = lit< tt; back = refl },
-)
-
-pub wide-form : (first : ℕ) → Form (wide first)
-wide-form = wide-cases Form (four-forms .0) (four-forms .1) (four-forms .2) (four-forms .3)
-
-pub size-form : (n : ℕ) → n ≤ greatest → Form (sizeOf n)
-size-form n h = size-cases Form n (λ a. four-forms .0) (λ a b. four-forms .1) (λ a b. four-forms .2) (λ a b. four-forms .3) (λ a. absurd (omega arith))
-
--- its size is room enough for a number,
+-- which has room for the number
 pub size-room : (n : ℕ) → n ≤ greatest → n < room (sizeOf n)
 unfolding room
-size-room n h =
-    size-cases (λ w. n < room w) n (λ a. omega arith) (λ a b. omega arith) (λ a b. omega arith) (λ a b. omega arith) (λ a. absurd (omega arith))
-
--- and no less would be
-pub size-least : (n first : ℕ) → n < room (wide first) → sizeOf n ≤ wide first
-unfolding room
-size-least n =
-    wide-cases (λ w. n < room w → sizeOf n ≤ w)
-    (λ h. size-cases (λ z. z ≤ 1) n (λ a. omega arith) (λ a b. omega arith) (λ a b. omega arith) (λ a b. omega arith) (λ a. omega arith))
-    (λ h. size-cases (λ z. z ≤ 2) n (λ a. omega arith) (λ a b. omega arith) (λ a b. omega arith) (λ a b. omega arith) (λ a. omega arith))
-    (λ h. size-cases (λ z. z ≤ 4) n (λ a. omega arith) (λ a b. omega arith) (λ a b. omega arith) (λ a b. omega arith) (λ a. omega arith))
-    (λ h. size-cases (λ z. z ≤ 8) n (λ a. omega arith) (λ a b. omega arith) (λ a b. omega arith) (λ a b. omega arith) (λ a. omega arith))
+size-room n h = rw (size-form n h) (Editions.room-for rfc9000 table n h)
 
 pub size-few : (n : ℕ) → sizeOf n ≤ 8
-size-few n = size-cases (λ w. w ≤ 8) n (λ a. lit≤ tt) (λ a b. lit≤ tt) (λ a b. lit≤ tt) (λ a b. lit≤ tt) (λ a. lit≤ tt)
+unfolding sizeOf
+size-few n = Forms.fewest-few rfc9000 table n
 
 -- the size by its range, one arm of the table at a time
 pub record Sizes (n : ℕ) : Type 0 where

@@ -1,14 +1,15 @@
 -- What a writer of integers does, answer by answer; and what those who call it may take from that. Assumes nothing.
 use Prim.Native.Nat.{ℕ, _+_, _*_, _≤_, _<_}
-use mathlib.Core.Path.{_≡_, refl, sym, ap, _∙_}
+use mathlib.Core.Path.{_≡_, sym, ap, _∙_}
 use mathlib.Core.List.{List, _++_}
 use lib.ListN.{length, drop}
 use borrow.Author.Tests.{le-leb, lt-leb}
 use Rattle.integer.specs.Answer.{Answer, Nothing, refused, wrote, Leaves}
-use Rattle.integer.specs.Integer.{room, tag, sizeOf, greatest, bytesOf, encOf, over, putOf, writeOf}
+use Rattle.integer.specs.Edition.{Form, ledBy}
+use Rattle.integer.specs.Integer.{rfc9000, room, tag, sizeOf, greatest, bytesOf, encOf, over, putOf, writeOf}
 use Rattle.integer.proofs.Digits.{length-bytesOf}
-use Rattle.integer.proofs.Widths.{size-some, size-room}
-use Rattle.integer.proofs.Laws.{length-enc}
+use Rattle.integer.proofs.Editions
+use Rattle.integer.proofs.Widths.{size-some, size-room, size-form}
 
 -- ---- a form that was chosen
 
@@ -26,12 +27,13 @@ put-done width n before after h e =
 
 pub write-great : (n : ℕ) (before : List ℕ) → greatest < n → Leaves (writeOf n before) (refused 5) before
 unfolding writeOf
-write-great n before h = let t = lt-leb n greatest h in record { says = rw t; holds = rw t }
+write-great n before h = Editions.write-great rfc9000 n before h
 
 -- up to the greatest, its form is put
 pub write-is : (n : ℕ) (before : List ℕ) → n ≤ greatest → writeOf n before ≡ putOf (sizeOf n) (tag (sizeOf n) * room (sizeOf n) + n) before
-unfolding writeOf
-write-is n before h = rw (le-leb n greatest h)
+unfolding writeOf tag room
+write-is n before h =
+    Editions.write-is rfc9000 n before h ∙ ap (λ (form : Form). putOf (sizeOf n) (ledBy form n) before) (sym (size-form n h))
 
 -- an arm of the choice: w is the size
 pub write-arm : (n w : ℕ) (before : List ℕ) → w ≡ sizeOf n → 0 < w → writeOf n before ≡ putOf w (tag w * room w + n) before
@@ -43,8 +45,5 @@ arm-fits n w e h = rw e (size-room n (size-some n (rw (← e) h)))
 -- ---- for callers: where there is room, the shortest form stands at the front, and every byte after it as it was
 
 pub written : (n : ℕ) (before : List ℕ) {after : List ℕ} {r : Answer Nothing} → Leaves (writeOf n before) r after → n ≤ greatest → length (encOf n) ≤ length before → (r ≡ wrote (length (encOf n))) × (after ≡ over (encOf n) before)
-unfolding putOf encOf
-written n before w g h =
-    let t = le-leb (sizeOf n) (length before) (rw length-enc at h) in
-    let e = write-is n before g in
-    (w .says ∙ rw (e, t, length-enc), w .holds ∙ rw (e, t))
+unfolding writeOf encOf
+written n before w g h = Editions.written rfc9000 n before w g h

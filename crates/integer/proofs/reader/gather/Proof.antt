@@ -1,14 +1,14 @@
 -- `gather` meets its contract: the two halves spell what the whole does. Assumes nothing.
 use Prim.Native.Nat.{ℕ, _+_, _-_, _*_, _/_, _^_, _≤_, _<_}
-use mathlib.Core.Path.{_≡_, refl, sym}
+use mathlib.Core.Path.{_≡_, sym}
 use native.Mathlib.Omega.{arith}
 use borrow.Author.Needs.{needs}
 use lib.ListN.{drop, length-take}
 use lib.Seq.{length-take-le}
-use Rattle.integer.specs.Integer.{wide, spell}
-use Rattle.integer.proofs.Digits.{parts-spell, parts-fit, room-pos}
-use Rattle.integer.proofs.Widths.{wide-form}
-use Rattle.integer.proofs.Front.{short, joined}
+use Rattle.integer.specs.Integer.{wide}
+use Rattle.integer.proofs.Digits.{parts-spell, parts-fit}
+use Rattle.integer.proofs.Widths.{wide-form, room-pos}
+use Rattle.integer.proofs.Front.{short, enough}
 use Rattle.integer.proofs.reader.gather.Statement.{statement}
 use Rattle.integer.proofs.reader.gather.Tie as tie
 
@@ -62,7 +62,7 @@ returns-2 c =
     let a = c .before .before .before .before .before .before in
     let w = a .args .width in
     let e = parts-spell (a .args .s .now) (w / 2) w (omega arith) (omega arith) in
-    sym (joined (record { width = a .pre .0; within = omega arith; value = rw (a .pre .1, a .pre .2, c .before .before .spelled .ensures .0, c .spelled2 .ensures .0, e) }))
+    rw (a .pre .1, a .pre .2, c .before .before .spelled .ensures .0, c .spelled2 .ensures .0, e) (sym (enough (a .args .s .now) (a .pre .0) (omega arith)))
 
 pub gather-spec : {M : Type 1} → statement M
 gather-spec =

@@ -1,10 +1,10 @@
 -- `read` meets its contract: each arm's range of the first byte gives its width. Assumes nothing.
-use Prim.Native.Nat.{ℕ, _<_}
-use mathlib.Core.Path.{_≡_, refl, sym}
+use mathlib.Core.Path.{refl, sym}
 use native.Mathlib.Omega.{arith}
 use borrow.Author.Needs.{needs}
 use lib.ListN.{getD}
 use Rattle.integer.specs.Integer.{room}
+use Rattle.integer.proofs.Forms.{here, there}
 use Rattle.integer.proofs.Front.{short}
 use Rattle.integer.proofs.Widths.{wide-at, wide-form}
 use Rattle.integer.proofs.reader.read.Statement.{statement}
@@ -18,19 +18,19 @@ shared-slice-read-first c = search needs
 
 asks : tie.Need-gather-requires
 unfolding room
-asks c κs = (sym (wide-at _ 0 (omega arith)), refl, refl)
+asks c κs = (sym (wide-at here _ (omega arith)), refl, refl)
 
 asks-2 : tie.Need-gather-requires-2
 unfolding room
-asks-2 c κs = (sym (wide-at _ 1 (omega arith)), refl, refl)
+asks-2 c κs = (sym (wide-at (there here) _ (omega arith)), refl, refl)
 
 asks-3 : tie.Need-gather-requires-3
 unfolding room
-asks-3 c κs = (sym (wide-at _ 2 (omega arith)), refl, refl)
+asks-3 c κs = (sym (wide-at (there (there here)) _ (omega arith)), refl, refl)
 
 asks-4 : tie.Need-gather-requires-4
 unfolding room
-asks-4 c κs = (sym (wide-at _ 3 (omega (arith, c .before .before .before .shared-slice-known2 .given 0))), refl, refl)
+asks-4 c κs = (sym (wide-at (there (there (there here))) _ (omega (arith, c .before .before .before .shared-slice-known2 .given 0))), refl, refl)
 
 returns-2 : tie.Need-returns-2
 returns-2 c = search needs
