@@ -17,7 +17,8 @@ use Rattle.integer.specs.Edition.{Form, Edition, roomOf, shareOf, longes
 use Rattle.integer.specs.Octets.{Octets}
 use Rattle.integer.proofs.Cases.{pick-le}
 use Rattle.integer.proofs.Digits.{length-bytesOf, spell-bytesOf, head-bytesOf, spelt, spelt-first}
-use Rattle.integer.proofs.Forms.{In, facts, some, split, leading, begun, begun-is, of-bytes, fewest, fewest-least, few}
+use Rattle.integer.proofs.Tables.{In}
+use Rattle.integer.proofs.Forms.{facts, some, split, leading, begun, begun-is, of-bytes, fewest, fewest-least, few}
 
 -- ---- a whole integer at the front of bytes, by its parts
 

@@ -13,7 +13,7 @@ use Rattle.integer.specs.declared.Writing.{Writing}
 use Rattle.integer.specs.declared.Writing.the-variants.{Done, TooGreat, TooShort}
 use Rattle.integer.proofs.Cases.{apart}
 use Rattle.integer.proofs.Editions
-use Rattle.integer.proofs.Forms.{In}
+use Rattle.integer.proofs.Tables.{In}
 use Rattle.integer.proofs.Widths.{table, size-few}
 
 -- ---- the shortest form is read back, whatever follows it

@@ -1,5 +1,6 @@
 pub mod Cases
 pub mod Digits
+pub mod Tables
 pub mod Forms
 pub mod Editions
 pub mod Widths

@@ -10,7 +10,7 @@ use Rattle.integer.specs.Integer.{rfc9000, wide, room, tag, sizeOf, grea
 use Rattle.integer.proofs.Cases.{pick-le}
 use Rattle.integer.proofs.Editions
 use Rattle.integer.proofs.Forms
-use Rattle.integer.proofs.Forms.{In}
+use Rattle.integer.proofs.Tables.{In}
 
 -- it has what a table must have
 pub table : T (isEdition rfc9000)

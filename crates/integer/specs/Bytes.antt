@@ -1,5 +1,5 @@
--- Bytes and numbers: "the rest, most significant first, is the number". A byte string is a list of numbers; nothing here
--- asks that they are below 256.
+-- Bytes and numbers: "the rest, most significant first, is the number". A byte string is a list of numbers; nothing
+-- here asks that they are below 256.
 use Prim.Native.Nat.{ℕ, zero, suc, _+_, _*_, _/_, _%_}
 use mathlib.Core.List.{List, [], _∷_, _++_}
 use lib.ListN.{length, drop}

@@ -1,5 +1,5 @@
--- An edition of the integers: a table of forms, and what it is to read and to write a number by it. A table's rows have the
--- columns of RFC 9000's own, so that the two can be read side by side.
+-- An edition of the integers: a table of forms, and what it is to read and to write a number by it. A row has the
+-- columns of RFC 9000's own table, so that the two can be read side by side.
 use Prim.Native.Nat.{ℕ, suc, _+_, _-_, _*_, _/_, _%_, _^_}
 use mathlib.Core.Bool.{Bool, _&&_}
 use mathlib.Core.List.{List, [], _∷_}
@@ -10,8 +10,8 @@ use Rattle.integer.specs.Bytes.{spell, bytesOf, over}
 
 -- ---- the table
 
--- A form: the leading bits of its first byte, which tell it from the others; how many bytes it has; how many of their bits
--- are left for the number; and the greatest number that these hold.
+-- A form: the leading bits of its first byte, which tell it from the others; how many bytes it has; how many of their
+-- bits are left for the number; and the greatest number that these hold.
 pub record Form : Type 0 where
   pub tag : ℕ
   pub bytes : ℕ
@@ -52,7 +52,7 @@ abbrev pub firstOf : (Form → Bool) → Edition → Form
 firstOf takes [] = noForm
 firstOf takes (form ∷ forms) = pick (takes form) form (firstOf takes forms)
 
--- by a first byte: its leading bits are the form's
+-- by a first byte: its leading bits are the form's (of a number above 255 only the low byte counts)
 unfoldable pub begunBy : Edition → ℕ → Form
 begunBy edition first = firstOf (λ form. eqb (first % 256 / shareOf form) (form .tag)) edition
 
@@ -66,7 +66,8 @@ fewestFor edition n = firstOf (λ form. leb n (form .greatest)) edition
 
 -- ---- reading
 
--- the integer at the front of bytes, and the bytes it takes; 1 where it is cut
+-- the integer at the front of bytes, and the bytes it takes; 1 where it is cut. The remainder is what the bytes spell
+-- without the leading bits
 unfoldable pub readBy : Edition → List ℕ → Answer ℕ
 readBy edition s =
     let form = begunBy edition (getD s 0 0) in

@@ -2,7 +2,8 @@
 use Prim.Native.Nat.{ℕ}
 use mathlib.Core.List.{List, [], _∷_}
 use Rattle.integer.specs.Answer.{Answer, whole, refused, Nothing, wrote, Written}
-use Rattle.integer.specs.Edition.{Edition, row, roomOf, longest, begunBy, ofBytes, fewestFor, readBy, encBy, writeBy}
+use Rattle.integer.specs.Edition.{Edition, row, roomOf, longest, begunBy, ofBytes, fewestFor}
+use Rattle.integer.specs.Edition.{readBy, encBy, writeBy}
 use Rattle.integer.specs.declared.Reading.{Reading}
 use Rattle.integer.specs.declared.Reading.the-variants.{Whole, More}
 use Rattle.integer.specs.declared.Writing.{Writing}

@@ -4,7 +4,7 @@ use native.Mathlib.Omega.{arith}
 use borrow.Author.Needs.{needs}
 use lib.ListN.{getD}
 use Rattle.integer.specs.Integer.{room}
-use Rattle.integer.proofs.Forms.{here, there}
+use Rattle.integer.proofs.Tables.{here, there}
 use Rattle.integer.proofs.Front.{short}
 use Rattle.integer.proofs.Widths.{wide-at, wide-form}
 use Rattle.integer.proofs.reader.read.Statement.{statement}
