@@ -49,15 +49,15 @@ fn filled(body: BodyRead, end: usize) -> Reading
     match body {
         BodyRead::Whole(m, last) => {
             if last == end {
-                Reading::Whole(m, end)
+                return Reading::Whole(m, end);
             } else {
-                Reading::Unfilled
+                return Reading::Unfilled;
             }
         }
         BodyRead::No(fault) => match fault {
-            Fault::Cut => Reading::Unfilled,
-            Fault::Forbidden => Reading::Forbidden,
-            Fault::Oversize => Reading::Oversize,
+            Fault::Cut => return Reading::Unfilled,
+            Fault::Forbidden => return Reading::Forbidden,
+            Fault::Oversize => return Reading::Oversize,
         },
     }
 }
@@ -68,20 +68,23 @@ fn read_body(kind: Kind, s: &[u8], at: usize) -> BodyRead
 {
     match kind {
         Kind::Subscription(k) => match subscription::read(k, s, at) {
-            SubscriptionRead::Whole(m, end) => BodyRead::Whole(Message::Subscription(m), end),
-            SubscriptionRead::No(fault) => BodyRead::No(fault),
+            SubscriptionRead::Whole(m, end) => return BodyRead::Whole(
+                Message::Subscription(m),
+                end,
+            ),
+            SubscriptionRead::No(fault) => return BodyRead::No(fault),
         },
         Kind::Fetch(k) => match fetch::read(k, s, at) {
-            FetchRead::Whole(m, end) => BodyRead::Whole(Message::Fetch(m), end),
-            FetchRead::No(fault) => BodyRead::No(fault),
+            FetchRead::Whole(m, end) => return BodyRead::Whole(Message::Fetch(m), end),
+            FetchRead::No(fault) => return BodyRead::No(fault),
         },
         Kind::Announce(k) => match announce::read(k, s, at) {
-            AnnounceRead::Whole(m, end) => BodyRead::Whole(Message::Announce(m), end),
-            AnnounceRead::No(fault) => BodyRead::No(fault),
+            AnnounceRead::Whole(m, end) => return BodyRead::Whole(Message::Announce(m), end),
+            AnnounceRead::No(fault) => return BodyRead::No(fault),
         },
         Kind::Session(k) => match session::read(k, s, at) {
-            SessionRead::Whole(m, end) => BodyRead::Whole(Message::Session(m), end),
-            SessionRead::No(fault) => BodyRead::No(fault),
+            SessionRead::Whole(m, end) => return BodyRead::Whole(Message::Session(m), end),
+            SessionRead::No(fault) => return BodyRead::No(fault),
         },
     }
 }

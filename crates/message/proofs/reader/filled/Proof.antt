@@ -8,8 +8,7 @@ pub filled-spec : {M : Type 1} → statement M
 filled-spec =
     tie.close
     (tie.spec
-    (λ c. search needs) (λ c. search needs) (λ c. search needs) (λ c. search needs) (λ c. search needs) (λ c. search filling-whole)
-    (λ c. search filling-over)
-    (λ c. search filling-cut)
-    (λ c. search filling-forbidden)
-    (λ c. search filling-oversize))
+    (λ c. search needs) (λ c. search filling-whole) (λ c. search filling-over) (λ c. search needs)
+    (λ c. search needs) (λ c. search filling-cut)
+    (λ c. search needs) (λ c. search filling-forbidden)
+    (λ c. search needs) (λ c. search filling-oversize))

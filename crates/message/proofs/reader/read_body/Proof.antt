@@ -8,11 +8,7 @@ pub read-body-spec : {M : Type 1} → statement M
 read-body-spec =
     tie.close
     (tie.spec
-    (λ c. search needs) (λ c κs. search needs) (λ c. search needs) (λ c. search needs) (λ c. search needs) (λ c κs. search needs) (λ c. search needs) (λ c. search needs) (λ c. search needs) (λ c κs. search needs) (λ c. search needs) (λ c. search needs) (λ c. search needs) (λ c κs. search needs) (λ c. search needs) (λ c. search needs) (λ c. search as-subscription)
-    (λ c. search as-subscription)
-    (λ c. search as-fetch)
-    (λ c. search as-fetch)
-    (λ c. search as-announce)
-    (λ c. search as-announce)
-    (λ c. search as-session)
-    (λ c. search as-session))
+    (λ c. search needs) (λ c κs. search needs) (λ c. search needs) (λ c. search as-subscription) (λ c. search needs) (λ c. search as-subscription)
+    (λ c. search needs) (λ c κs. search needs) (λ c. search needs) (λ c. search as-fetch) (λ c. search needs) (λ c. search as-fetch)
+    (λ c. search needs) (λ c κs. search needs) (λ c. search needs) (λ c. search as-announce) (λ c. search needs) (λ c. search as-announce)
+    (λ c. search needs) (λ c κs. search needs) (λ c. search needs) (λ c. search as-session) (λ c. search needs) (λ c. search as-session))
