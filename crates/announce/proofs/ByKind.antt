@@ -9,8 +9,8 @@ use Rattle.layout.specs.Layout.{done, scan}
 use Rattle.layout.specs.Typed.{led, typed}
 use Rattle.layout.proofs.Family.{behind-no, behind-whole}
 use Rattle.layout.proofs.Steps.{To, Stops}
-use Rattle.shortest.specs.Writing.{placed}
-use Rattle.shortest.specs.declared.Fields.{Fields}
+use Rattle.measure.specs.Fields.{placed}
+use Rattle.measure.specs.declared.Fields.{Fields}
 use Rattle.announce.specs.Layouts.{rest, numberOf}
 use Rattle.announce.specs.declared.kinds.AnnounceKind.{AnnounceKind}
 

@@ -1,6 +1,6 @@
 // A message as its fields, in the order of its layout.
 ghost use mathlib.Core.Path.{_≡_};
-ghost use Rattle.shortest.specs.Writing.{placed};
+ghost use Rattle.measure.specs.Fields.{placed};
 ghost use Rattle.announce.specs.Layouts.{numberOf};
 ghost use Rattle.announce.specs.Told.{saidOf};
 use crate::AnnounceMessage;
@@ -10,8 +10,8 @@ use crate::kinds::Naming;
 use crate::kinds::Refusing;
 use field::Kind;
 use field::Piece;
-use shortest::Fields;
-use shortest::places;
+use measure::Fields;
+use measure::places;
 
 // The number of its type.
 pub fn number(m: AnnounceMessage) -> u64

@@ -18,10 +18,11 @@ use Rattle.message.specs.declared.Message.{Message}
 use Rattle.message.specs.declared.Message.the-variants.{Fetch, Subscription}
 use Rattle.fetch.specs.Allowed.{allowedOf as fetchAllowed}
 use Rattle.fetch.specs.declared.FetchMessage.the-variants.{FetchCancel}
-use Rattle.shortest.specs.Judging.{right, sized}
-use Rattle.shortest.specs.Writing.{rightAll, sizedAll, encodeAll, writtenOf, frame}
+use Rattle.measure.specs.Judging.{right, sized}
+use Rattle.measure.specs.Measuring.{rightAll, sizedAll, encodeAll}
+use Rattle.shortest.specs.Writing.{writtenOf, frame}
 use Rattle.field.specs.Value.{mean, encField, encode}
-use Rattle.shortest.specs.Small.{smallSpan, smallList, smallPiece, smallAll}
+use Rattle.measure.specs.Small.{smallSpan, smallList, smallPiece, smallAll}
 use Rattle.field.specs.Value.{nowhere}
 use Rattle.field.specs.Rules.{askable, givable}
 use Rattle.subscription.specs.Layouts.{filter, delivery, subscribe, content, subscribeOk}

@@ -1,6 +1,6 @@
 // A message as its fields, in the order of its layout; and whether its values are permitted.
 ghost use mathlib.Core.Path.{_≡_};
-ghost use Rattle.shortest.specs.Writing.{placed};
+ghost use Rattle.measure.specs.Fields.{placed};
 ghost use Rattle.fetch.specs.Told.{joiningType, fetchPieces, statusPieces, saidOf};
 ghost use Rattle.fetch.specs.Allowed.{allowedOf};
 use crate::Fetch;
@@ -11,8 +11,8 @@ use crate::rules::is_status;
 use crate::rules::may_hold;
 use field::Kind;
 use field::Piece;
-use shortest::Fields;
-use shortest::places;
+use measure::Fields;
+use measure::places;
 
 // The number of its type.
 pub fn number(m: FetchMessage) -> u64

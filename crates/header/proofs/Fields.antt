@@ -16,7 +16,7 @@ use Rattle.layout.specs.Layout.{Layout, scan}
 use Rattle.layout.proofs.Back.{both-true, ScanBack, scan-back}
 use Rattle.layout.proofs.Scanned.{scanned}
 use Rattle.layout.proofs.Shortest.{scanned-shortest}
-use Rattle.shortest.specs.Writing.{rightAll, sizedAll, encodeAll}
+use Rattle.measure.specs.Measuring.{rightAll, sizedAll, encodeAll}
 use Rattle.shortest.proofs.Good.{all-good}
 use Rattle.shortest.proofs.Again.{scanned-right}
 use Rattle.shortest.proofs.Fitting.{fitting, fitting-permitted, permitted-fitting}

@@ -11,7 +11,7 @@ use Rattle.integer.specs.Answer.{Answer, whole as answered, refused}
 use Rattle.integer.proofs.Cases.{pick-by}
 use Rattle.field.specs.Outcome.{both}
 use Rattle.layout.specs.Typed.{Typed}
-use Rattle.shortest.proofs.Tests.{both-false}
+use Rattle.measure.proofs.Tests.{both-false}
 use Rattle.header.specs.Layouts.{datagrams}
 use Rattle.header.specs.Reading.{headedOf, closed, datagramOf}
 use Rattle.header.specs.Told.{datagramSaid}

@@ -15,7 +15,7 @@ use Rattle.field.specs.Value.{mean}
 use Rattle.field.specs.declared.Piece.{Piece}
 use Rattle.layout.specs.Layout.{Layout, scan}
 use Rattle.layout.specs.Typed.{Typed}
-use Rattle.shortest.specs.Writing.{sizedAll}
+use Rattle.measure.specs.Measuring.{sizedAll}
 use Rattle.shortest.proofs.Fitting.{fitting}
 use Rattle.header.specs.Layouts as layouts
 use Rattle.header.specs.Layouts.{Named, datagrams, streams}

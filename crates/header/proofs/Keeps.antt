@@ -17,7 +17,7 @@ use Rattle.field.proofs.Found.{number-at}
 use Rattle.layout.specs.Layout.{Layout, scan}
 use Rattle.layout.specs.Typed.{Typed}
 use Rattle.layout.specs.Same.{Same}
-use Rattle.shortest.specs.Writing.{sizedAll, encodeAll}
+use Rattle.measure.specs.Measuring.{sizedAll, encodeAll}
 use Rattle.shortest.proofs.Fitting.{fitting}
 use Rattle.header.specs.Layouts.{Named, known}
 use Rattle.header.specs.Reading.{headedOf}

@@ -16,7 +16,7 @@ use Rattle.layout.specs.Typed.{Typed}
 use Rattle.layout.specs.Same.{Same}
 use Rattle.layout.proofs.Scanned.{scanned}
 use Rattle.layout.proofs.Shortest.{scanned-shortest}
-use Rattle.shortest.specs.Writing.{encodeAll}
+use Rattle.measure.specs.Measuring.{encodeAll}
 use Rattle.shortest.proofs.Passed.{was-written}
 use Rattle.shortest.proofs.Alike.{wrote-bytes, encoded-alike}
 use Rattle.header.specs.Layouts.{Named}

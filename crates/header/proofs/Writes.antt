@@ -11,8 +11,9 @@ use Rattle.field.specs.Value.{mean, encField, encode}
 use Rattle.field.specs.declared.Piece.{Piece}
 use Rattle.field.specs.declared.Piece.the-variants.{Number}
 use Rattle.layout.specs.Typed.{Typed}
-use Rattle.shortest.specs.Judging.{right, sized}
-use Rattle.shortest.specs.Writing.{rightAll, sizedAll, encodeAll, writtenOf, bareOf}
+use Rattle.measure.specs.Judging.{right, sized}
+use Rattle.measure.specs.Measuring.{rightAll, sizedAll, encodeAll}
+use Rattle.shortest.specs.Writing.{writtenOf, bareOf}
 use Rattle.header.specs.Told.{datagramSaid, streamSaid, payloadPieces, subgroupObjectPieces, fetchObjectPieces}
 use Rattle.header.specs.Allowed.{datagramAllowed, payloadAllowed}
 use Rattle.header.specs.Writing.{headerWritten, datagramWritten, streamWritten, subgroupObjectWritten, fetchObjectWritten}

@@ -6,7 +6,8 @@ use Rattle.integer.specs.Answer.{Written}
 use Rattle.integer.specs.Integer.{encOf}
 use Rattle.field.specs.Outcome.{both}
 use Rattle.field.specs.declared.Piece.{Piece}
-use Rattle.shortest.specs.Writing.{rightAll, encodeAll, writtenOf}
+use Rattle.measure.specs.Measuring.{rightAll, encodeAll}
+use Rattle.shortest.specs.Writing.{writtenOf}
 use Rattle.header.specs.Told.{datagramSaid, streamSaid, subgroupObjectPieces, fetchObjectPieces}
 use Rattle.header.specs.Allowed.{datagramAllowed, payloadAllowed}
 use Rattle.header.specs.declared.Datagram.{Datagram}

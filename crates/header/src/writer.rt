@@ -10,7 +10,7 @@ use crate::Payload;
 use crate::StreamHeader;
 use crate::SubgroupObject;
 use crate::rules::is_status;
-use shortest::Middle;
+use measure::Middle;
 use shortest::Writing;
 
 // bytes is what the extension headers point into.

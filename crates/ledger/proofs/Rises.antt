@@ -9,7 +9,7 @@ use lib.Dec.{leb, ltb, eqb}
 use Rattle.integer.specs.Answer.{pick}
 use Rattle.integer.proofs.Cases.{pick-by}
 use Rattle.field.specs.Outcome.{both}
-use Rattle.shortest.proofs.Tests.{both-first, both-second}
+use Rattle.measure.proofs.Tests.{both-first, both-second}
 use Rattle.row.specs.Rows.{unusedRow, isRow, isUnused, isPending, isNowhere}
 use Rattle.row.specs.Ranges.{isKnown}
 use Rattle.row.specs.declared.Row.{Row}

@@ -8,8 +8,8 @@ use Rattle.integer.specs.Integer.{greatest}
 use Rattle.field.specs.declared.Kind.the-variants.{Parameters}
 use Rattle.field.specs.declared.Piece.{Piece}
 use Rattle.field.specs.declared.Piece.the-variants.{Number, List as Listing}
-use Rattle.shortest.specs.Small.{smallPiece, smallAll}
-use Rattle.shortest.proofs.Tests.{both-first, both-second}
+use Rattle.measure.specs.Small.{smallPiece, smallAll}
+use Rattle.measure.proofs.Tests.{both-first, both-second}
 use Rattle.subscription.specs.Told.{filterPieces, contentPieces}
 use Rattle.subscription.specs.declared.Filter.{Filter}
 use Rattle.subscription.specs.declared.Filter.the-variants.{Latest, From, Range as Until}

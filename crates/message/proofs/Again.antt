@@ -14,7 +14,7 @@ use Rattle.field.specs.Outcome.{both}
 use Rattle.field.proofs.Found.{number-at}
 use Rattle.layout.proofs.Scanned.{scanned}
 use Rattle.layout.proofs.Shortest.{scanned-shortest}
-use Rattle.shortest.specs.Writing.{rightAll, sizedAll, encodeAll}
+use Rattle.measure.specs.Measuring.{rightAll, sizedAll, encodeAll}
 use Rattle.shortest.proofs.Again.{scanned-right}
 use Rattle.shortest.proofs.Longer.{longer-found}
 use Rattle.shortest.proofs.Passed.{Passes}

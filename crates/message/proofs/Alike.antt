@@ -10,7 +10,8 @@ use Rattle.integer.specs.Integer.{greatest}
 use Rattle.layout.specs.Typed.{Typed}
 use Rattle.layout.specs.Same.{Same}
 use Rattle.layout.proofs.Back.{both-true}
-use Rattle.shortest.specs.Writing.{rightAll, encodeAll, frame}
+use Rattle.measure.specs.Measuring.{rightAll, encodeAll}
+use Rattle.shortest.specs.Writing.{frame}
 use Rattle.shortest.proofs.Passed.{was-written}
 use Rattle.shortest.proofs.Alike as shortest
 use Rattle.message.specs.Types.{saidOf}

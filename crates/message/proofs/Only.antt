@@ -12,7 +12,7 @@ use Rattle.layout.specs.Typed.{Typed}
 use Rattle.layout.specs.Same.{Same}
 use Rattle.layout.proofs.Scanned.{scanned}
 use Rattle.layout.proofs.Shortest.{scanned-shortest}
-use Rattle.shortest.specs.Writing.{encodeAll}
+use Rattle.measure.specs.Measuring.{encodeAll}
 use Rattle.shortest.proofs.Longer.{longer-found}
 use Rattle.shortest.proofs.Framed.{least-frame}
 use Rattle.message.specs.Types.{layoutOf, saidOf}

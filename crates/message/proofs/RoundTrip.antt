@@ -21,7 +21,8 @@ use Rattle.layout.specs.Same.{Same}
 use Rattle.layout.proofs.Back.{both-true, scan-back}
 use Rattle.layout.proofs.Scanned.{scanned}
 use Rattle.layout.proofs.Stable.{values-stay}
-use Rattle.shortest.specs.Writing.{rightAll, encodeAll, frame}
+use Rattle.measure.specs.Measuring.{rightAll, encodeAll}
+use Rattle.shortest.specs.Writing.{frame}
 use Rattle.shortest.proofs.Good.{all-good}
 use Rattle.shortest.proofs.Passed.{was-written}
 use Rattle.message.specs.Types.{known, layoutOf, saidOf}

@@ -2,10 +2,10 @@
 use mathlib.Core.Path.{_≡_, refl, sym, ap, _∙_}
 use mathlib.Core.Bool.{Bool, true, false, not}
 use borrow.Author.Tests.{not-true, not-false}
-use Rattle.shortest.specs.Small.{smallAll}
-use Rattle.shortest.specs.Writing.{placed, fieldsOf}
-use Rattle.shortest.specs.declared.Fields.{Fields}
-use Rattle.shortest.proofs.Placed.{fields-placed}
+use Rattle.measure.specs.Small.{smallAll}
+use Rattle.measure.specs.Fields.{placed, fieldsOf}
+use Rattle.measure.specs.declared.Fields.{Fields}
+use Rattle.measure.proofs.Placed.{fields-placed}
 use Rattle.message.specs.Types.{saidOf}
 use Rattle.message.specs.Writing.{allowedOf}
 use Rattle.message.specs.Sound.{soundOf}

@@ -5,9 +5,10 @@ use mathlib.Core.List.{List}
 use mathlib.Core.Bool.{Bool, true, false, not}
 use borrow.Author.Tests.{not-true, not-false}
 use Rattle.integer.specs.Answer.{Answer, refused, Nothing, Leaves}
-use Rattle.shortest.specs.Writing.{placed, fieldsOf, writtenOf, framedOf}
-use Rattle.shortest.specs.declared.Fields.{Fields}
-use Rattle.shortest.proofs.Placed.{fields-placed}
+use Rattle.measure.specs.Fields.{placed, fieldsOf}
+use Rattle.shortest.specs.Writing.{writtenOf, framedOf}
+use Rattle.measure.specs.declared.Fields.{Fields}
+use Rattle.measure.proofs.Placed.{fields-placed}
 use Rattle.message.specs.Types.{saidOf}
 use Rattle.message.specs.Reading.{longest}
 use Rattle.message.specs.Writing.{allowedOf, writeOf}

@@ -1,7 +1,7 @@
 -- "A ledger call answers 5 for a value forbidden above or a number over the greatest integer."
 use mathlib.Core.Bool.{Bool}
 use Rattle.field.specs.Outcome.{both}
-use Rattle.shortest.specs.Small.{smallAll}
+use Rattle.measure.specs.Small.{smallAll}
 use Rattle.message.specs.Types.{saidOf}
 use Rattle.message.specs.Writing.{allowedOf}
 use Rattle.message.specs.declared.Message.{Message}

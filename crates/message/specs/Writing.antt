@@ -7,7 +7,8 @@ use lib.Dec.{leb}
 use Rattle.integer.specs.Answer.{Written}
 use Rattle.integer.specs.Integer.{greatest}
 use Rattle.field.specs.Outcome.{both}
-use Rattle.shortest.specs.Writing.{rightAll, sizedAll, encodeAll, writtenOf, frame}
+use Rattle.measure.specs.Measuring.{rightAll, sizedAll, encodeAll}
+use Rattle.shortest.specs.Writing.{writtenOf, frame}
 use Rattle.subscription.specs.Allowed.{allowedOf as subscriptionAllowed}
 use Rattle.fetch.specs.Allowed.{allowedOf as fetchAllowed}
 use Rattle.message.specs.Types.{saidOf}

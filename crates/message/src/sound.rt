@@ -11,5 +11,5 @@ pub fn is_sound(m: Message) -> bool
     if !is_allowed(m) {
         return false;
     }
-    shortest::are_small(fields(m))
+    measure::are_small(fields(m))
 }

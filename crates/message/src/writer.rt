@@ -1,12 +1,13 @@
 // A message is written as its shortest form. 5, 6, 3 and 7 in this order, each over the whole message; a refusal writes nothing.
 ghost use mathlib.Core.Path.{_≡_};
 ghost use Rattle.integer.specs.Answer.{Leaves};
-ghost use Rattle.shortest.specs.Writing.{placed, answering};
+ghost use Rattle.measure.specs.Fields.{placed};
+ghost use Rattle.shortest.specs.Writing.{answering};
 ghost use Rattle.message.specs.Types.{saidOf};
 ghost use Rattle.message.specs.Writing.{allowedOf, writeOf};
 use crate::LONGEST;
 use crate::Message;
-use shortest::Fields;
+use measure::Fields;
 use shortest::Writing;
 
 // bytes is what the parts of the message point into.

@@ -9,7 +9,8 @@ use Rattle.integer.specs.Answer.{Answer, whole, refused, Written}
 use Rattle.integer.specs.Integer.{greatest}
 use Rattle.field.specs.Outcome.{both}
 use Rattle.field.specs.Value.{mean}
-use Rattle.shortest.specs.Writing.{rightAll, sizedAll, encodeAll, writtenOf}
+use Rattle.measure.specs.Measuring.{rightAll, sizedAll, encodeAll}
+use Rattle.shortest.specs.Writing.{writtenOf}
 use Rattle.message.specs.Types.{saidOf}
 use Rattle.message.specs.Reading.{longest, readOf}
 use Rattle.message.specs.Writing.{allowedOf, writeOf}

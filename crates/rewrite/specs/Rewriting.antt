@@ -9,7 +9,8 @@ use Rattle.integer.specs.Answer.{pick, Answer, whole, refused}
 use Rattle.integer.specs.Integer.{encOf, over}
 use Rattle.field.specs.declared.Piece.{Piece}
 use Rattle.layout.specs.Typed.{Typed}
-use Rattle.shortest.specs.Writing.{encodeAll, frame}
+use Rattle.measure.specs.Measuring.{encodeAll}
+use Rattle.shortest.specs.Writing.{frame}
 use Rattle.message.specs.Reading.{readOf}
 use Rattle.header.specs.Reading.{datagramOf, streamOf, subgroupObjectOf, fetchObjectOf}
 

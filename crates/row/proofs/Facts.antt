@@ -4,7 +4,7 @@ use mathlib.Core.Path.{_≡_}
 use mathlib.Core.Bool.{true}
 use borrow.Author.Tests.{leb-true, le-leb}
 use lib.Dec.{leb}
-use Rattle.shortest.proofs.Tests.{both-first, both-second}
+use Rattle.measure.proofs.Tests.{both-first, both-second}
 use Rattle.row.specs.Places.{small}
 use Rattle.row.specs.Ranges.{smallRange}
 use Rattle.row.specs.Rows.{top, agree, suits, isRow}

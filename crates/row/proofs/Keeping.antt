@@ -11,7 +11,7 @@ use Rattle.field.specs.Outcome.{both}
 use Rattle.field.specs.declared.Place.{Place}
 use Rattle.subscription.specs.declared.Content.{Content}
 use Rattle.subscription.specs.declared.Content.the-variants.{Nothing, Largest}
-use Rattle.shortest.proofs.Tests.{both-first, both-second}
+use Rattle.measure.proofs.Tests.{both-first, both-second}
 use Rattle.row.specs.Places.{before, small, smallPlace}
 use Rattle.row.specs.Ranges.{inRange, isKnown, smallRange, latest, moved, settledOf}
 use Rattle.row.specs.Rows.{top, agree, suits, isRow, pendingRow, greater, risen, countedRow, AtRow, leaving, arriveIn, arriveOf, activeRow, breaksR6, openIn, openOf}

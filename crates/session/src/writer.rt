@@ -1,12 +1,12 @@
 // A message as its fields, in the order of its layout.
 ghost use mathlib.Core.Path.{_≡_};
-ghost use Rattle.shortest.specs.Writing.{placed};
+ghost use Rattle.measure.specs.Fields.{placed};
 ghost use Rattle.session.specs.Told.{saidOf};
 use crate::SessionMessage;
 use field::Kind;
 use field::Piece;
-use shortest::Fields;
-use shortest::places;
+use measure::Fields;
+use measure::places;
 
 // The number of its type.
 pub fn number(m: SessionMessage) -> u64

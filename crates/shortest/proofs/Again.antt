@@ -22,9 +22,9 @@ use Rattle.field.proofs.Shortest.{list-fits}
 use Rattle.layout.specs.Layout.{Layout, scan}
 use Rattle.layout.proofs.Scanned.{Scanned, at-end, one-more, taken, left, scanned}
 use Rattle.layout.proofs.Good.{field-good}
-use Rattle.shortest.specs.Judging.{rightSpan, rightList, right, sized}
-use Rattle.shortest.specs.Writing.{rightAll, sizedAll}
-use Rattle.shortest.proofs.Spans.{lies-right}
+use Rattle.measure.specs.Judging.{rightSpan, rightList, right, sized}
+use Rattle.measure.specs.Measuring.{rightAll, sizedAll}
+use Rattle.measure.proofs.Spans.{lies-right}
 use Rattle.shortest.proofs.Good.{sized-good}
 
 -- ---- each kind of field is right

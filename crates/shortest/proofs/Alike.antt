@@ -15,9 +15,10 @@ use Rattle.field.specs.Outcome.{both}
 use Rattle.field.specs.Value.{Value, mean, encode}
 use Rattle.field.specs.declared.Piece.{Piece}
 use Rattle.layout.specs.Permitted.{good}
-use Rattle.shortest.specs.Judging.{right}
-use Rattle.shortest.specs.Writing.{rightAll, sizedAll, encodeAll, writtenOf}
-use Rattle.shortest.proofs.Tests.{both-first, both-second}
+use Rattle.measure.specs.Judging.{right}
+use Rattle.measure.specs.Measuring.{rightAll, sizedAll, encodeAll}
+use Rattle.measure.proofs.Tests.{both-first, both-second}
+use Rattle.shortest.specs.Writing.{writtenOf}
 use Rattle.shortest.proofs.Good.{sized-good}
 use Rattle.shortest.proofs.Passed.{Wrote}
 

@@ -12,9 +12,9 @@ use Rattle.field.specs.Entries.{size}
 use Rattle.field.specs.Value.{part, encText}
 use Rattle.field.specs.declared.Span.{Span}
 use Rattle.field.proofs.Lengths.{length-part}
-use Rattle.shortest.specs.Judging.{rightSpan}
+use Rattle.measure.specs.Judging.{rightSpan}
+use Rattle.measure.proofs.Spans.{lies, text-is}
 use Rattle.shortest.specs.Putting.{Put}
-use Rattle.shortest.proofs.Spans.{lies, text-is}
 use Rattle.shortest.proofs.Puts.{lent, given, Room, second-fits, both-fit, put-both}
 
 -- one more byte of x stands where the first i did

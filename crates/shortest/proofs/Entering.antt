@@ -18,14 +18,14 @@ use Rattle.field.specs.declared.Fault.{Fault}
 use Rattle.field.specs.declared.Kind.{Kind}
 use Rattle.field.proofs.Found.{EntryAt, entry-at}
 use Rattle.field.proofs.Lengths.{length-part}
-use Rattle.shortest.specs.Judging.{rightList}
+use Rattle.measure.specs.Judging.{rightList}
+use Rattle.measure.proofs.Runs.{Run, run-first, run-next, items-next, items-none}
+use Rattle.measure.proofs.Lists.{holds}
 use Rattle.shortest.specs.Putting.{Put, encHead}
 use Rattle.shortest.proofs.Puts.{lent, given}
 use Rattle.shortest.proofs.Copies.{copy-put}
 use Rattle.shortest.proofs.Items.{head-is}
 use Rattle.shortest.proofs.Going.{Going, Next, going-start, going-within, going-end, next-fits, going-sum, going-next}
-use Rattle.shortest.proofs.Runs.{Run, run-first, run-next, items-next, items-none}
-use Rattle.shortest.proofs.Lists.{holds}
 
 -- so many entries from an offset on are there, and left to be put
 pub record Entering (kind : Kind) (s all before out : List ℕ) (at here left : ℕ) : Type 0 where

@@ -7,15 +7,15 @@ use lib.ListN.{length}
 use Rattle.field.specs.Outcome.{both}
 use Rattle.field.specs.Value.{mean, encField, encode}
 use Rattle.field.specs.declared.Piece.{Piece}
-use Rattle.shortest.specs.Judging.{right}
+use Rattle.measure.specs.Judging.{right}
+use Rattle.measure.specs.Measuring.{rightAll, encodeAll}
+use Rattle.measure.proofs.Tests.{both-first, both-second}
+use Rattle.measure.proofs.Rows.{Row}
+use Rattle.measure.proofs.Joins.{right-joined, encode-joined}
 use Rattle.shortest.specs.Putting.{Put}
-use Rattle.shortest.specs.Writing.{rightAll, encodeAll}
-use Rattle.shortest.proofs.Tests.{both-first, both-second}
 use Rattle.shortest.proofs.Puts.{lent, given, first-fits}
 use Rattle.shortest.proofs.Pieces.{Asks}
 use Rattle.shortest.proofs.Going.{Going, Next, going-start, going-end, next-fits, going-sum, going-next}
-use Rattle.shortest.proofs.Rows.{Row}
-use Rattle.shortest.proofs.Joins.{right-joined, encode-joined}
 
 -- fields that are right are left to be put
 pub record Filling (s all before out : List ℕ) (at : ℕ) (left : List Piece) : Type 0 where

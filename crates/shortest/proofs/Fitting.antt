@@ -10,7 +10,7 @@ use Rattle.field.specs.Value.{Value}
 use Rattle.layout.specs.Layout.{Layout, done, forbidden, field, when}
 use Rattle.layout.specs.Permitted.{good, formOf, handed, code, permitted}
 use Rattle.layout.proofs.Back.{both-true as both-parts}
-use Rattle.shortest.proofs.Tests.{both-true}
+use Rattle.measure.proofs.Tests.{both-true}
 use Rattle.shortest.proofs.Good.{AllGood, more}
 
 -- values are of the forms that a layout asks for, and pass its tests

@@ -16,12 +16,12 @@ use Rattle.field.specs.declared.Piece.the-variants.{Number, Byte, Bytes, List a
 use Rattle.field.proofs.Lengths.{length-part}
 use Rattle.layout.specs.Permitted.{goodList, good}
 use Rattle.layout.proofs.Good.{good-items}
-use Rattle.shortest.specs.Judging.{rightSpan, rightList, right, sizedList, sized}
-use Rattle.shortest.specs.Writing.{rightAll, sizedAll}
-use Rattle.shortest.proofs.Tests.{both-first, both-second}
-use Rattle.shortest.proofs.Spans.{lies}
-use Rattle.shortest.proofs.Runs.{items-length}
-use Rattle.shortest.proofs.Lists.{holds}
+use Rattle.measure.specs.Judging.{rightSpan, rightList, right, sizedList, sized}
+use Rattle.measure.specs.Measuring.{rightAll, sizedAll}
+use Rattle.measure.proofs.Tests.{both-first, both-second}
+use Rattle.measure.proofs.Spans.{lies}
+use Rattle.measure.proofs.Runs.{items-length}
+use Rattle.measure.proofs.Lists.{holds}
 
 -- ---- one field
 

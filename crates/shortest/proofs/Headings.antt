@@ -4,14 +4,15 @@ use mathlib.Core.Path.{_≡_, _∙_}
 use mathlib.Core.List.{List, [], _++_, map}
 use lib.ListN.{length}
 use Rattle.field.specs.declared.Piece.the-variants.{Number}
-use Rattle.shortest.specs.Judging.{joined}
+use Rattle.measure.specs.Judging.{joined}
+use Rattle.measure.specs.Fields.{middlePieces, headed}
+use Rattle.measure.specs.Measuring.{encodeAll, measureAll}
+use Rattle.measure.specs.declared.Measured.{Measured}
+use Rattle.measure.specs.declared.Middle.{Middle}
+use Rattle.measure.proofs.Joins.{measure-joined, numbers-right, numbers-encode, numbers-judged}
 use Rattle.shortest.specs.Putting.{Put}
-use Rattle.shortest.specs.Writing.{encodeAll, measureAll, middlePieces, headed}
-use Rattle.shortest.specs.declared.Measured.{Measured}
-use Rattle.shortest.specs.declared.Middle.{Middle}
 use Rattle.shortest.proofs.Puts.{lent, given}
 use Rattle.shortest.proofs.Going.{going-within, left-fits, last-sum, going-last}
-use Rattle.shortest.proofs.Joins.{measure-joined, numbers-right, numbers-encode, numbers-judged}
 use Rattle.shortest.proofs.Filling.{Filling, AllAsk, first-asks, first-filled, several-ask, several-sum, several-filled}
 
 -- numbers ask the same over any bytes

@@ -10,7 +10,7 @@ use Rattle.field.specs.declared.Piece.{Piece}
 use Rattle.layout.specs.Layout.{Layout, scan}
 use Rattle.layout.proofs.Scanned.{scanned}
 use Rattle.layout.proofs.Stable.{whole-stays, values-stay}
-use Rattle.shortest.specs.Writing.{encodeAll}
+use Rattle.measure.specs.Measuring.{encodeAll}
 
 module _ (l : Layout) (s : List ℕ) (end at : ℕ) {ps : List Piece} {last : ℕ} (found : scan l (take end s) at ≡ whole ps last) where
   -- It is found in the whole string,

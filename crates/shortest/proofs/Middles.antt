@@ -1,58 +1,25 @@
--- What stands between the numbers of a header, by what it is: how it is judged, and what its shortest form is made of.
+-- What stands between the numbers of a header, by what it is: what its shortest form is made of, and what its writer asks.
 -- Assumes nothing.
-use Prim.Native.Nat.{ℕ, _+_, _≤_, _<_}
+use Prim.Native.Nat.{ℕ, _≤_, _<_}
 use mathlib.Core.Path.{_≡_, refl, sym, _∙_}
 use mathlib.Core.Bool.{true}
 use mathlib.Core.List.{List, [], _∷_, append-nil}
-use native.Mathlib.Omega.{arith}
 use lib.ListN.{length}
 use Rattle.field.specs.Value.{part, mean, encText, encField, encode}
 use Rattle.field.specs.declared.Span.{Span}
 use Rattle.field.specs.declared.Piece.{Piece}
 use Rattle.field.specs.declared.Piece.the-variants.{Byte, Bytes}
-use Rattle.shortest.specs.Judging.{rightSpan, right, fit, judged, joined, measureSpan}
+use Rattle.measure.specs.Judging.{rightSpan, right}
+use Rattle.measure.specs.Fields.{middlePieces}
+use Rattle.measure.specs.Measuring.{rightAll, encodeAll}
+use Rattle.measure.specs.declared.Middle.{Middle}
+use Rattle.measure.specs.declared.Middle.the-variants.{Nothing, Byte as OneByte, Bytes as SomeBytes, Both}
+use Rattle.measure.proofs.Tests.{both-first}
+use Rattle.measure.proofs.Joins.{alone-right, alone-is}
 use Rattle.shortest.specs.Putting.{Put}
-use Rattle.shortest.specs.Writing.{rightAll, sizedAll, encodeAll, measureAll, middlePieces}
-use Rattle.shortest.specs.declared.Measured.the-variants.{Takes}
-use Rattle.shortest.specs.declared.Middle.{Middle}
-use Rattle.shortest.specs.declared.Middle.the-variants.{Nothing, Byte as OneByte, Bytes as SomeBytes, Both}
-use Rattle.shortest.proofs.Tests.{both-first}
-use Rattle.shortest.proofs.Judges.{fit-within}
 use Rattle.shortest.proofs.Puts.{Room}
-use Rattle.shortest.proofs.Pieces.{Asks, byte-fits, bytes-judged, byte-is, bytes-is, byte-asks, bytes-asks}
-use Rattle.shortest.proofs.Joins.{measure-joined, alone-right, alone-is, alone-judged}
+use Rattle.shortest.proofs.Pieces.{Asks, byte-is, bytes-is, byte-asks, bytes-asks}
 use Rattle.shortest.proofs.Filling.{AllAsk}
-
--- ---- how it is judged
-
--- a byte alone,
-byte-judged : (s : List ℕ) (b room : ℕ) → fit (1 + 0) room ≡ measureAll s (Byte b ∷ []) room
-byte-judged s b room = byte-fits s room refl ∙ alone-judged s (Byte b) room
-
--- and a part
-part-judged : (s : List ℕ) (p : Span) (room : ℕ) → measureSpan s p room ≡ measureAll s (Bytes p ∷ []) room
-part-judged s p room = bytes-judged s room refl ∙ alone-judged s (Bytes p) room
-
-module _ (s : List ℕ) {m : Middle} (room : ℕ) where
-  -- nothing takes no bytes,
-  pub nothing-fits : m ≡ Nothing → Takes 0 ≡ measureAll s (middlePieces m) room
-  unfolding measureAll rightAll sizedAll encodeAll encode judged
-  nothing-fits e = rw e (fit-within 0 room (omega arith))
-
-  -- a byte one,
-  pub one-byte-fits : {b : ℕ} → m ≡ OneByte b → fit (1 + 0) room ≡ measureAll s (middlePieces m) room
-  one-byte-fits {b} e = rw e (byte-judged s b room)
-
-  -- bytes are judged as their part is,
-  pub some-bytes-judged : {p : Span} → m ≡ SomeBytes p → measureSpan s p room ≡ measureAll s (middlePieces m) room
-  some-bytes-judged {p} e = rw e (part-judged s p room)
-
-  -- and both are judged as one
-  pub both-judged : {b : ℕ} {p : Span} → m ≡ Both b p → joined (fit (1 + 0) room) (measureSpan s p room) room ≡ measureAll s (middlePieces m) room
-  both-judged {b} {p} e =
-      rw (e, byte-judged s b room, part-judged s p room) (measure-joined s (Byte b ∷ []) (Bytes p ∷ []) room)
-
--- ---- its shortest form, and what its writer asks
 
 -- a field alone asks what it does
 alone-asks : (s : List ℕ) (p : Piece) {room : ℕ} → AllAsk s (p ∷ []) room → Asks s p room

@@ -1,35 +1,12 @@
--- One possible answer: 01's number and values, of a judgement and of what a writer answers, lose nothing. Assumes nothing.
+-- One possible answer: 01's number and values of what a writer answers lose nothing. Assumes nothing.
 use Prim.Native.Nat.{ℕ}
 use mathlib.Core.Path.{_≡_, refl, sym, ap, _∙_}
 use mathlib.Core.List.{List}
 use lib.Dec.{eqb}
 use Rattle.integer.specs.Answer.{pick, Answer, whole, refused, Nothing, Written, Leaves}
-use Rattle.shortest.specs.Writing.{saying, answering}
-use Rattle.shortest.specs.declared.Measured.{Measured}
-use Rattle.shortest.specs.declared.Measured.the-variants.{Takes, TooLong, Oversize, Forbidden}
+use Rattle.shortest.specs.Writing.{answering}
 use Rattle.shortest.specs.declared.Writing.{Writing}
 use Rattle.shortest.specs.declared.Writing.the-variants.{Done, Forbidden as Barred, Oversize as Great, TooLong as Long, TooShort}
-
--- ---- a judgement
-
--- the judgement that was said
-heard : Answer Nothing → Measured
-heard (whole nothing used) = Takes used
-heard (refused n) = pick (eqb n 5) Forbidden (pick (eqb n 6) Oversize TooLong)
-
--- is the one that was meant
-heard-saying : (a : Measured) → heard (saying a) ≡ a
-unfolding heard
-heard-saying (Takes n) = refl
-heard-saying TooLong = refl
-heard-saying Oversize = refl
-heard-saying Forbidden = refl
-
--- so two judgements that say the same are the same
-pub saying-once : (a b : Measured) → saying a ≡ saying b → a ≡ b
-saying-once a b e = sym (heard-saying a) ∙ ap heard e ∙ heard-saying b
-
--- ---- what a writer answers
 
 -- the answer that was heard
 answered : Answer Nothing → Writing

@@ -12,12 +12,13 @@ use Rattle.integer.specs.Integer.{sizeOf, greatest, encOf}
 use Rattle.integer.proofs.Laws.{length-enc}
 use Rattle.field.specs.Outcome.{both}
 use Rattle.field.specs.declared.Piece.{Piece}
-use Rattle.shortest.specs.Judging.{judged}
+use Rattle.measure.specs.Judging.{judged}
+use Rattle.measure.specs.Measuring.{rightAll, sizedAll, encodeAll, measureAll}
+use Rattle.measure.specs.declared.Measured.{Measured}
+use Rattle.measure.specs.declared.Measured.the-variants.{Takes, TooLong, Oversize, Forbidden}
+use Rattle.measure.proofs.Judges.{Taken, judged-takes, judged-wrong, judged-great, judged-long}
 use Rattle.shortest.specs.Putting.{Put}
-use Rattle.shortest.specs.Writing.{rightAll, sizedAll, encodeAll, measureAll, writtenOf, frame, framedOf}
-use Rattle.shortest.specs.declared.Measured.{Measured}
-use Rattle.shortest.specs.declared.Measured.the-variants.{Takes, TooLong, Oversize, Forbidden}
-use Rattle.shortest.proofs.Judges.{Taken, judged-takes, judged-wrong, judged-great, judged-long}
+use Rattle.shortest.specs.Writing.{writtenOf, frame, framedOf}
 use Rattle.shortest.proofs.Puts.{Room}
 
 -- ---- every answer, for a header and for a message

@@ -7,42 +7,18 @@ ghost use Prim.Native.Nat.{_≤_};
 ghost use lib.ListN.{length};
 ghost use Rattle.integer.specs.Answer.{Leaves};
 ghost use Rattle.field.specs.declared.Piece.the-variants.{Number};
+ghost use Rattle.measure.specs.Fields.{middlePieces, headed};
+ghost use Rattle.measure.specs.Measuring.{rightAll, encodeAll};
 ghost use Rattle.shortest.specs.Putting.{Put};
-ghost use Rattle.shortest.specs.Writing.{rightAll, encodeAll, measureAll, middlePieces, headed, bareOf, answering};
-use crate::Measured;
-use crate::Middle;
+ghost use Rattle.shortest.specs.Writing.{bareOf, answering};
 use crate::Writing;
-use crate::judging::add;
-use crate::judging::join;
-use crate::judging::measure_number;
-use crate::judging::measure_span;
 use crate::putting::put_number;
 use crate::putting::put_text;
-
-// How many bytes numbers take, which may be room at most. They point into no bytes.
-fn measure_numbers(ns: &[u64], room: usize) -> Measured
-    ensures { λ r. ⌜ r ≡ measureAll [] (map Number (now (ns .entry))) room ⌝ }
-{
-    let mut found = Measured::Takes(0);
-    let mut i: usize = 0;
-    while i < ns.len() {
-        found = join(found, measure_number(ns[i], room), room);
-        i += 1;
-    }
-    found
-}
-
-// How many bytes what stands between them takes.
-fn measure_middle(bytes: &[u8], m: Middle, room: usize) -> Measured
-    ensures { λ r. ⌜ r ≡ measureAll (now (bytes .entry)) (middlePieces m) room ⌝ }
-{
-    match m {
-        Middle::Nothing => Measured::Takes(0),
-        Middle::Byte(_) => add(1, 0, room),
-        Middle::Bytes(p) => measure_span(bytes, p, room),
-        Middle::Both(_, p) => join(add(1, 0, room), measure_span(bytes, p, room), room),
-    }
-}
+use measure::Measured;
+use measure::Middle;
+use measure::join;
+use measure::measure_middle;
+use measure::measure_numbers;
 
 // Each number into what is left of the output.
 fn put_numbers(out: &mut [u8], ns: &[u64]) -> usize

@@ -6,16 +6,16 @@ ghost use lib.ListN.{length};
 ghost use Rattle.integer.specs.Answer.{Leaves};
 ghost use Rattle.integer.specs.Integer.{encOf, greatest, over};
 ghost use Rattle.field.specs.Value.{part, contents, mean, encText, encItems, encList, encField};
-ghost use Rattle.shortest.specs.Judging.{rightSpan, rightList, right};
+ghost use Rattle.measure.specs.Judging.{rightSpan, rightList, right};
+ghost use Rattle.measure.specs.Measuring.{saying};
 ghost use Rattle.shortest.specs.Putting.{Put, encHead};
-ghost use Rattle.shortest.specs.Writing.{putOf, saying};
-use crate::Measured;
-use crate::judging::measure;
+ghost use Rattle.shortest.specs.Writing.{putOf};
 use field::Entries;
 use field::EntryRead;
 use field::Kind;
 use field::Piece;
 use field::Span;
+use measure::Measured;
 
 // An integer.
 pub fn put_number(out: &mut [u8], n: u64) -> usize
@@ -139,7 +139,7 @@ pub fn put(out: &mut [u8], bytes: &[u8], p: Piece) -> Measured
     ensures { λ r. ⌜ Leaves (putOf (now (bytes .entry)) p (now (out .entry))) (saying r) (now (out .exit)) ⌝ }
 {
     let room = out.len();
-    match measure(bytes, p, room) {
+    match measure::measure(bytes, p, room) {
         Measured::Takes(n) => {
             put_piece(out, bytes, p);
             Measured::Takes(n)

@@ -7,22 +7,16 @@ ghost use Prim.Native.Nat.{_≤_};
 ghost use lib.ListN.{length};
 ghost use Rattle.integer.specs.Answer.{Leaves};
 ghost use Rattle.integer.specs.Integer.{encOf, greatest};
+ghost use Rattle.measure.specs.Fields.{tenOf, fieldsOf};
+ghost use Rattle.measure.specs.Measuring.{rightAll, encodeAll};
 ghost use Rattle.shortest.specs.Putting.{Put};
-ghost use Rattle.shortest.specs.Writing.{tenOf, fieldsOf, rightAll, encodeAll, framedOf, answering};
-use crate::Fields;
-use crate::Measured;
+ghost use Rattle.shortest.specs.Writing.{framedOf, answering};
 use crate::Writing;
-use crate::judging::join;
-use crate::judging::measure;
 use crate::putting::put_number;
 use crate::putting::put_piece;
-
-// How many fields there are: no more than there are places.
-pub fn ten(used: usize) -> usize
-    ensures { λ r. ⌜ r ≡ tenOf used ⌝ }
-{
-    if used < 10 { used } else { 10 }
-}
+use measure::Fields;
+use measure::Measured;
+use measure::places::ten;
 
 // Type and Length; behind them the body begins.
 fn put_front(out: &mut [u8], kind: u64, n: u64) -> usize
@@ -70,7 +64,7 @@ pub fn write_framed(out: &mut [u8], bytes: &[u8], f: Fields, longest: u32) -> Wr
     while i < count {
         let slot = f.at[i];
         let p = slot.piece;
-        found = join(found, measure(bytes, p, room), room);
+        found = measure::join(found, measure::measure(bytes, p, room), room);
         i += 1;
     }
     match found {

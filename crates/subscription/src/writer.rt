@@ -1,6 +1,6 @@
 // A message as its fields, in the order of its layout; and whether its values are permitted.
 ghost use mathlib.Core.Path.{_≡_};
-ghost use Rattle.shortest.specs.Writing.{placed};
+ghost use Rattle.measure.specs.Fields.{placed};
 ghost use Rattle.subscription.specs.Told.{subscribePieces, okPieces, updatePieces, saidOf};
 ghost use Rattle.subscription.specs.Allowed.{allowedFilter, allowedOf};
 use crate::Content;
@@ -12,8 +12,8 @@ use crate::SubscriptionMessage;
 use crate::rules::ends_after;
 use field::Kind;
 use field::Piece;
-use shortest::Fields;
-use shortest::places;
+use measure::Fields;
+use measure::places;
 
 // The number of its type.
 pub fn number(m: SubscriptionMessage) -> u64

@@ -6,7 +6,7 @@ use lib.ListN.{length, take}
 use lib.Dec.{leb}
 use Rattle.integer.specs.Answer.{pick, Answer, refused, Nothing, wrote, Written}
 use Rattle.integer.specs.Integer.{over}
-use Rattle.shortest.specs.Placing.{upTo}
+use Rattle.measure.specs.Placing.{upTo}
 use Rattle.text.specs.Letters.{letters, decimalOf}
 use Rattle.text.specs.Words.{wordOf, nameOf}
 use Rattle.text.specs.declared.Item.{Item}

@@ -1,7 +1,7 @@
 -- `fields` meets its contract. Assumes nothing.
 use borrow.Author.Needs.{needs}
 use Rattle.layout.proofs.Said.{told-of}
-use Rattle.shortest.specs.Writing.{placed}
+use Rattle.measure.specs.Fields.{placed}
 use Rattle.announce.specs.Told.{saidOf}
 use Rattle.announce.proofs.ByKind.{numbered}
 use Rattle.announce.proofs.writer.fields.Statement.{statement}

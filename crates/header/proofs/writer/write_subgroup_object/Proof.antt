@@ -1,6 +1,6 @@
 -- `write_subgroup_object` meets its contract: the numbers and what stands between them are its fields. Assumes nothing.
 use borrow.Author.Needs.{needs}
-use Rattle.shortest.specs.Writing.{headed}
+use Rattle.measure.specs.Fields.{headed}
 use Rattle.header.specs.Writing.{subgroupObjectWritten}
 use Rattle.header.proofs.Writes.{not-allowed, subgroup-object-written}
 use Rattle.header.proofs.writer.write_subgroup_object.Statement.{statement}

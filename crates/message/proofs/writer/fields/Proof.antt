@@ -1,7 +1,7 @@
 -- `fields` meets its contract: each family gives its own. Assumes nothing.
 use borrow.Author.Needs.{needs}
 use Rattle.layout.proofs.Said.{told-of}
-use Rattle.shortest.specs.Writing.{placed}
+use Rattle.measure.specs.Fields.{placed}
 use Rattle.message.specs.Types.{saidOf}
 use Rattle.message.proofs.writer.fields.Statement.{statement}
 use Rattle.message.proofs.writer.fields.Tie as tie

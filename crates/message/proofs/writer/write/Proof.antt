@@ -1,7 +1,7 @@
 -- `write` meets its contract: the fields of each family are framed. Assumes nothing.
 use borrow.Author.Needs.{needs}
 use Rattle.layout.proofs.Said.{told-of}
-use Rattle.shortest.specs.Writing.{placed}
+use Rattle.measure.specs.Fields.{placed}
 use Rattle.message.specs.Types.{saidOf}
 use Rattle.message.proofs.Writes.{not-allowed, is-framed}
 use Rattle.message.proofs.writer.write.Statement.{statement}

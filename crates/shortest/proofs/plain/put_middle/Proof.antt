@@ -4,8 +4,9 @@ use native.Mathlib.Omega.{arith}
 use borrow.Author.Needs.{needs}
 use lib.ListN.{set}
 use Rattle.field.specs.Value.{part, encText}
+use Rattle.measure.specs.Fields.{middlePieces}
+use Rattle.measure.specs.Measuring.{encodeAll}
 use Rattle.shortest.specs.Putting.{Put}
-use Rattle.shortest.specs.Writing.{encodeAll, middlePieces}
 use Rattle.shortest.proofs.Puts.{put-length, Room, first-fits, ends-within, second-fits, both-fit, put-both, byte-put}
 use Rattle.shortest.proofs.Middles.{nothing-put, one-byte-is, some-bytes-is, one-byte-asks, some-bytes-ask, both-room, both-right}
 use Rattle.shortest.proofs.plain.put_middle.Statement.{statement}

@@ -7,10 +7,10 @@ use borrow.Author.Needs.{needs}
 use lib.ListN.{length}
 use Rattle.field.specs.Value.{mean, encField}
 use Rattle.field.specs.declared.Piece.the-variants.{Number}
-use Rattle.shortest.specs.Writing.{encodeAll}
+use Rattle.measure.specs.Measuring.{encodeAll}
+use Rattle.measure.proofs.Rows.{numbersFrom, numbers-first, numbers-row}
 use Rattle.shortest.proofs.Pieces.{number-asks}
 use Rattle.shortest.proofs.Going.{going-length, going-within}
-use Rattle.shortest.proofs.Rows.{numbersFrom, numbers-first, numbers-row}
 use Rattle.shortest.proofs.Filling.{Filling, filling-start, filling-end, field-asks, field-sum, field-next}
 use Rattle.shortest.proofs.plain.put_numbers.Statement.{statement}
 use Rattle.shortest.proofs.plain.put_numbers.Tie as tie

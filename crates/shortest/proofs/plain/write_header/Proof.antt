@@ -3,7 +3,9 @@ use mathlib.Core.Path.{_≡_}
 use native.Mathlib.Omega.{arith}
 use borrow.Author.Needs.{needs}
 use lib.ListN.{length}
-use Rattle.shortest.specs.Writing.{measureAll, headed, bareOf}
+use Rattle.measure.specs.Fields.{headed}
+use Rattle.measure.specs.Measuring.{measureAll}
+use Rattle.shortest.specs.Writing.{bareOf}
 use Rattle.shortest.proofs.Filling.{AllAsk}
 use Rattle.shortest.proofs.Headings.{headed-judged, front-asks, front-within, middle-asks, middle-sum, middle-within, back-asks, back-sum, headed-put}
 use Rattle.shortest.proofs.Written.{taken, bare-forbidden, bare-oversize, bare-over, bare-done}

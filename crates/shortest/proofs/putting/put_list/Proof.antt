@@ -1,8 +1,9 @@
 -- `put_list` meets its contract: a count, and behind it the entries. Assumes nothing.
 use native.Mathlib.Omega.{arith}
 use borrow.Author.Needs.{needs}
+use Rattle.measure.proofs.Lists.{holds}
 use Rattle.shortest.proofs.Puts.{first-fits, ends-within, second-fits, both-fit, put-both}
-use Rattle.shortest.proofs.Lists.{holds, list-room}
+use Rattle.shortest.proofs.Pieces.{list-room}
 use Rattle.shortest.proofs.putting.put_list.Statement.{statement}
 use Rattle.shortest.proofs.putting.put_list.Tie as tie
 

@@ -1,7 +1,7 @@
 -- `put_text` meets its contract: a length, and behind it the bytes. Assumes nothing.
 use native.Mathlib.Omega.{arith}
 use borrow.Author.Needs.{needs}
-use Rattle.shortest.proofs.Spans.{lies}
+use Rattle.measure.proofs.Spans.{lies}
 use Rattle.shortest.proofs.Puts.{first-fits, ends-within}
 use Rattle.shortest.proofs.Copies.{text-room, bytes-fit, text-sum, text-put}
 use Rattle.shortest.proofs.putting.put_text.Statement.{statement}

@@ -5,9 +5,10 @@ use native.Mathlib.Omega.{arith}
 use borrow.Author.Needs.{needs}
 use lib.ListN.{length, length-map}
 use Rattle.field.specs.declared.Piece.the-variants.{Byte}
-use Rattle.shortest.specs.Writing.{fieldsOf, encodeAll}
+use Rattle.measure.specs.Fields.{fieldsOf}
+use Rattle.measure.specs.Measuring.{encodeAll}
+use Rattle.measure.proofs.Rows.{ten-most, fieldsFrom, from-first, fields-row}
 use Rattle.shortest.proofs.Going.{going-length, going-within}
-use Rattle.shortest.proofs.Rows.{ten-most, fieldsFrom, from-first, fields-row}
 use Rattle.shortest.proofs.Filling.{Filling, filling-start, filling-end, field-asks, field-sum, field-next}
 use Rattle.shortest.proofs.writer.put_all.Statement.{statement}
 use Rattle.shortest.proofs.writer.put_all.Tie as tie

@@ -8,12 +8,14 @@ use lib.ListN.{length, getD, length-map}
 use Rattle.integer.specs.Integer.{greatest}
 use Rattle.integer.proofs.Widths.{size-few}
 use Rattle.field.specs.declared.Piece.the-variants.{Byte}
-use Rattle.shortest.specs.Writing.{slot, fieldsOf, tenOf, measureAll, framedOf}
-use Rattle.shortest.specs.declared.Slot.{Slot}
+use Rattle.measure.specs.Fields.{slot, fieldsOf, tenOf}
+use Rattle.measure.specs.Measuring.{measureAll}
+use Rattle.measure.specs.declared.Slot.{Slot}
+use Rattle.measure.proofs.Rows.{Row, ten-most, fieldsFrom, from-first, fields-row}
+use Rattle.measure.proofs.Single.{judgement}
+use Rattle.measure.proofs.SoFar.{SoFar, none-judged, judged-next, judged-all}
+use Rattle.shortest.specs.Writing.{framedOf}
 use Rattle.shortest.proofs.Puts.{first-fits, ends-within, second-fits, both-fit, put-both}
-use Rattle.shortest.proofs.Rows.{Row, ten-most, fieldsFrom, from-first, fields-row}
-use Rattle.shortest.proofs.Single.{judgement}
-use Rattle.shortest.proofs.SoFar.{SoFar, none-judged, judged-next, judged-all}
 use Rattle.shortest.proofs.Written.{taken, kind-great, fields-forbidden, fields-oversize, done, Message, message-room, message-long, message-short, message}
 use Rattle.shortest.proofs.writer.write_framed.Statement.{statement}
 use Rattle.shortest.proofs.writer.write_framed.Tie as tie

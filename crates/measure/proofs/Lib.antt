@@ -1,0 +1,15 @@
+pub mod Tests
+pub mod Sizes
+pub mod Judges
+pub mod Spans
+pub mod Runs
+pub mod Lists
+pub mod Pieces
+pub mod Once
+pub mod Single
+pub mod Placed
+pub mod Rows
+pub mod SoFar
+pub mod Joins
+pub mod Middles
+pub mod AllSmall

@@ -1,0 +1,5 @@
+pub mod Judging
+pub mod Measuring
+pub mod Placing
+pub mod Fields
+pub mod Small
