@@ -12,7 +12,7 @@ use lib.ListN.{length, length-append}
 use Rattle.integer.specs.Answer.{pick}
 use Rattle.integer.proofs.Cases.{pick-by}
 use Rattle.text.specs.Letters.{letters, decimalOf}
-use Rattle.text.specs.Words.{wordOf, firstNames, laterNames, lastNames, nameIn, nameOf}
+use Rattle.text.specs.Words.{wordOf, names, nameIn, nameOf}
 use Rattle.text.specs.Lines.{itemOf, endedOf, isNone, lineOf, itemsOf}
 use Rattle.text.specs.declared.Word.{Word as Wording}
 use Rattle.text.specs.declared.Word.the-variants.{Open, Closed, Columns, Pending, Active, Nothing, TraceFaultAt, Start, Malformed, Arrival}
@@ -55,8 +55,8 @@ within n (row ∷ rows) type =
     (λ e h. absurd (let z : _≡_ {A = ℕ} 0 1 = cc in omega arith))
 
 pub name-bound : (type : ℕ) → length (nameOf type) ≤ 25
-unfolding nameOf firstNames laterNames lastNames areWithin letters
-name-bound type = within 25 (firstNames ++ (laterNames ++ lastNames)) type refl
+unfolding nameOf names areWithin letters
+name-bound type = within 25 names type refl
 
 -- so no item is longer than the columns,
 pub item-bound : (item : Item) → length (itemOf item) ≤ 33

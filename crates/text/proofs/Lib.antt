@@ -2,6 +2,7 @@ pub mod Placing
 pub mod Decimals
 pub mod Copied
 pub mod Naming
+pub mod Standing
 pub mod Ended
 pub mod Following
 pub mod Bounds

@@ -1,3 +1,4 @@
 pub mod Letters
 pub mod Words
+pub mod Parts
 pub mod Lines

@@ -1,7 +1,7 @@
 -- The words of the programs, and the names of the control messages as source document 004 spells them.
 use Prim.Native.Nat.{ℕ}
 use Prim.Native.String.{String}
-use mathlib.Core.List.{List, [], _∷_, _++_}
+use mathlib.Core.List.{List, [], _∷_}
 use lib.Dec.{eqb}
 use Rattle.integer.specs.Answer.{pick}
 use Rattle.text.specs.Letters.{letters}
@@ -20,9 +20,9 @@ wordOf Start = letters "start"
 wordOf Malformed = letters "malformed"
 wordOf Arrival = letters "arrival"
 
--- each control message: the number of its type, and its name; in three parts, as the code has them
-unfoldable pub firstNames : List (ℕ × String)
-firstNames =
+-- each control message: the number of its type, and its name
+unfoldable pub names : List (ℕ × String)
+names =
     (0x2, "SUBSCRIBE_UPDATE") ∷
     (0x3, "SUBSCRIBE") ∷
     (0x4, "SUBSCRIBE_OK") ∷
@@ -33,10 +33,6 @@ firstNames =
     (0x9, "UNANNOUNCE") ∷
     (0xA, "UNSUBSCRIBE") ∷
     (0xB, "SUBSCRIBE_DONE") ∷
-    []
-
-unfoldable pub laterNames : List (ℕ × String)
-laterNames =
     (0xC, "ANNOUNCE_CANCEL") ∷
     (0xD, "TRACK_STATUS_REQUEST") ∷
     (0xE, "TRACK_STATUS") ∷
@@ -45,10 +41,6 @@ laterNames =
     (0x12, "SUBSCRIBE_ANNOUNCES_OK") ∷
     (0x13, "SUBSCRIBE_ANNOUNCES_ERROR") ∷
     (0x14, "UNSUBSCRIBE_ANNOUNCES") ∷
-    []
-
-unfoldable pub lastNames : List (ℕ × String)
-lastNames =
     (0x15, "MAX_SUBSCRIBE_ID") ∷
     (0x16, "FETCH") ∷
     (0x17, "FETCH_CANCEL") ∷
@@ -65,4 +57,4 @@ nameIn [] type = []
 nameIn (row ∷ rows) type = pick (eqb type (row .0)) (letters (row .1)) (nameIn rows type)
 
 unfoldable pub nameOf : ℕ → List ℕ
-nameOf type = nameIn (firstNames ++ (laterNames ++ lastNames)) type
+nameOf type = nameIn names type

@@ -1,11 +1,105 @@
-// Words, put at the front of what is lent.
+// Words and the names of control messages: parts of one text, in which they stand one behind the other.
 ghost use mathlib.Core.Path.{_≡_};
-ghost use mathlib.Core.List.{_++_};
-ghost use Prim.Native.Nat.{_≤_};
+ghost use Prim.Native.Nat.{_≤_, _-_};
 ghost use lib.ListN.{length};
 ghost use Rattle.shortest.specs.Putting.{Put};
-ghost use Rattle.text.specs.Words.{wordOf, laterNames, lastNames, nameIn, nameOf};
+ghost use Rattle.text.specs.Words.{wordOf, nameOf};
+ghost use Rattle.text.specs.Parts.{Stands, Lies, partOf};
 use crate::Word;
+
+// All of them, first the words and then the names.
+const ALL: [u8; 446] = *b"\
+    open\
+    closed\
+    ID ALIAS STATE GROUP OBJECT COUNT\
+    pending\
+    active\
+    -\
+    trace fault at\
+    start\
+    malformed\
+    arrival\
+    SUBSCRIBE_UPDATE\
+    SUBSCRIBE\
+    SUBSCRIBE_OK\
+    SUBSCRIBE_ERROR\
+    ANNOUNCE\
+    ANNOUNCE_OK\
+    ANNOUNCE_ERROR\
+    UNANNOUNCE\
+    UNSUBSCRIBE\
+    SUBSCRIBE_DONE\
+    ANNOUNCE_CANCEL\
+    TRACK_STATUS_REQUEST\
+    TRACK_STATUS\
+    GOAWAY\
+    SUBSCRIBE_ANNOUNCES\
+    SUBSCRIBE_ANNOUNCES_OK\
+    SUBSCRIBE_ANNOUNCES_ERROR\
+    UNSUBSCRIBE_ANNOUNCES\
+    MAX_SUBSCRIBE_ID\
+    FETCH\
+    FETCH_CANCEL\
+    FETCH_OK\
+    FETCH_ERROR\
+    SUBSCRIBES_BLOCKED\
+    CLIENT_SETUP\
+    SERVER_SETUP";
+
+// A part of that text: from the first number up to the second.
+pub struct Part(pub usize, pub usize);
+
+pub fn word_part(word: Word) -> Part
+    ensures { λ r. ⌜ Stands (wordOf word) (r .0) (r .1) ⌝ }
+{
+    match word {
+        Word::Open => Part(0, 4),
+        Word::Closed => Part(4, 10),
+        Word::Columns => Part(10, 43),
+        Word::Pending => Part(43, 50),
+        Word::Active => Part(50, 56),
+        Word::Nothing => Part(56, 57),
+        Word::TraceFaultAt => Part(57, 71),
+        Word::Start => Part(71, 76),
+        Word::Malformed => Part(76, 85),
+        Word::Arrival => Part(85, 92),
+    }
+}
+
+// The name of a control message, by the number of its type. Another number has none.
+pub fn name_part(kind: u64) -> Part
+    ensures { λ r. ⌜ Stands (nameOf kind) (r .0) (r .1) ⌝ }
+{
+    match kind {
+        0x2 => Part(92, 108),
+        0x3 => Part(108, 117),
+        0x4 => Part(117, 129),
+        0x5 => Part(129, 144),
+        0x6 => Part(144, 152),
+        0x7 => Part(152, 163),
+        0x8 => Part(163, 177),
+        0x9 => Part(177, 187),
+        0xA => Part(187, 198),
+        0xB => Part(198, 212),
+        0xC => Part(212, 227),
+        0xD => Part(227, 247),
+        0xE => Part(247, 259),
+        0x10 => Part(259, 265),
+        0x11 => Part(265, 284),
+        0x12 => Part(284, 306),
+        0x13 => Part(306, 331),
+        0x14 => Part(331, 352),
+        0x15 => Part(352, 368),
+        0x16 => Part(368, 373),
+        0x17 => Part(373, 385),
+        0x18 => Part(385, 393),
+        0x19 => Part(393, 404),
+        0x1A => Part(404, 422),
+        0x40 => Part(422, 434),
+        0x41 => Part(434, 446),
+        _ => Part(0, 0),
+    }
+}
 
 fn copy(out: &mut [u8], s: &[u8]) -> usize
     requires { ⌜ length (now s) ≤ length (now out) ⌝ }
@@ -20,76 +114,12 @@ fn copy(out: &mut [u8], s: &[u8]) -> usize
     n
 }
 
-pub fn put_word(out: &mut [u8], word: Word) -> usize
-    requires { ⌜ length (wordOf word) ≤ length (now out) ⌝ }
-    ensures { λ r. ⌜ Put (wordOf word) (now (out .entry)) r (now (out .exit)) ⌝ }
+// A part at the front of what is lent.
+pub fn put_part(out: &mut [u8], part: Part) -> usize
+    requires { ⌜ Lies (part .0) (part .1) × (part .1 - part .0 ≤ length (now out)) ⌝ }
+    ensures { λ r. ⌜ Put (partOf (part .0) (part .1)) (now (out .entry)) r (now (out .exit)) ⌝ }
 {
-    match word {
-        Word::Open => copy(out, b"open"),
-        Word::Closed => copy(out, b"closed"),
-        Word::Columns => copy(out, b"ID ALIAS STATE GROUP OBJECT COUNT"),
-        Word::Pending => copy(out, b"pending"),
-        Word::Active => copy(out, b"active"),
-        Word::Nothing => copy(out, b"-"),
-        Word::TraceFaultAt => copy(out, b"trace fault at"),
-        Word::Start => copy(out, b"start"),
-        Word::Malformed => copy(out, b"malformed"),
-        Word::Arrival => copy(out, b"arrival"),
-    }
-}
-
-// The name of a control message, by the number of its type. In three parts, since one check of 26 arms takes long.
-pub fn put_name(out: &mut [u8], kind: u64) -> usize
-    requires { ⌜ length (nameOf kind) ≤ length (now out) ⌝ }
-    ensures { λ r. ⌜ Put (nameOf kind) (now (out .entry)) r (now (out .exit)) ⌝ }
-{
-    match kind {
-        0x2 => copy(out, b"SUBSCRIBE_UPDATE"),
-        0x3 => copy(out, b"SUBSCRIBE"),
-        0x4 => copy(out, b"SUBSCRIBE_OK"),
-        0x5 => copy(out, b"SUBSCRIBE_ERROR"),
-        0x6 => copy(out, b"ANNOUNCE"),
-        0x7 => copy(out, b"ANNOUNCE_OK"),
-        0x8 => copy(out, b"ANNOUNCE_ERROR"),
-        0x9 => copy(out, b"UNANNOUNCE"),
-        0xA => copy(out, b"UNSUBSCRIBE"),
-        0xB => copy(out, b"SUBSCRIBE_DONE"),
-        _ => put_later(out, kind),
-    }
-}
-
-// The types from 0xC on.
-fn put_later(out: &mut [u8], kind: u64) -> usize
-    requires { ⌜ length (nameIn (laterNames ++ lastNames) kind) ≤ length (now out) ⌝ }
-    ensures { λ r. ⌜ Put (nameIn (laterNames ++ lastNames) kind) (now (out .entry)) r (now (out .exit)) ⌝ }
-{
-    match kind {
-        0xC => copy(out, b"ANNOUNCE_CANCEL"),
-        0xD => copy(out, b"TRACK_STATUS_REQUEST"),
-        0xE => copy(out, b"TRACK_STATUS"),
-        0x10 => copy(out, b"GOAWAY"),
-        0x11 => copy(out, b"SUBSCRIBE_ANNOUNCES"),
-        0x12 => copy(out, b"SUBSCRIBE_ANNOUNCES_OK"),
-        0x13 => copy(out, b"SUBSCRIBE_ANNOUNCES_ERROR"),
-        0x14 => copy(out, b"UNSUBSCRIBE_ANNOUNCES"),
-        _ => put_last(out, kind),
-    }
-}
-
-// The types from 0x15 on.
-fn put_last(out: &mut [u8], kind: u64) -> usize
-    requires { ⌜ length (nameIn lastNames kind) ≤ length (now out) ⌝ }
-    ensures { λ r. ⌜ Put (nameIn lastNames kind) (now (out .entry)) r (now (out .exit)) ⌝ }
-{
-    match kind {
-        0x15 => copy(out, b"MAX_SUBSCRIBE_ID"),
-        0x16 => copy(out, b"FETCH"),
-        0x17 => copy(out, b"FETCH_CANCEL"),
-        0x18 => copy(out, b"FETCH_OK"),
-        0x19 => copy(out, b"FETCH_ERROR"),
-        0x1A => copy(out, b"SUBSCRIBES_BLOCKED"),
-        0x40 => copy(out, b"CLIENT_SETUP"),
-        0x41 => copy(out, b"SERVER_SETUP"),
-        _ => copy(out, b""),
-    }
+    let start = part.0;
+    let end = part.1;
+    copy(out, &ALL[start..end])
 }
