@@ -4,12 +4,12 @@ use mathlib.Core.Path.{_≡_}
 use mathlib.Core.List.{List, _++_}
 use lib.ListN.{length, take, drop}
 use lib.Dec.{leb}
-use Rattle.integer.specs.Answer.{pick, Answer, refused, Nothing, wrote}
+use Rattle.integer.specs.Answer.{guard, Answer, refused, Nothing, wrote}
 use Rattle.integer.specs.Integer.{over}
 
 -- what a pass does with text behind so many bytes of it: it says whether both take so many bytes at most; and in a buffer of so many
 -- bytes the text then stands there
 pub record Adds (text : List ℕ) (at room : ℕ) (before : List ℕ) (said : Answer Nothing) (after : List ℕ) : Type 0 where
-  pub says : said ≡ pick (leb (at + length text) room) (wrote (at + length text)) (refused 7)
+  pub says : said ≡ guard (leb (at + length text) room) (refused 7) (wrote (at + length text))
   pub keeps : length after ≡ length before
   pub holds : length before ≡ room → at + length text ≤ room → after ≡ take at before ++ over text (drop at before)

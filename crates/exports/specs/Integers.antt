@@ -2,7 +2,7 @@
 use Prim.Native.Nat.{ℕ}
 use mathlib.Core.List.{List, [], _∷_}
 use lib.Dec.{leb}
-use Rattle.integer.specs.Answer.{pick, Answer, whole, refused}
+use Rattle.integer.specs.Answer.{guard, Answer, whole, refused}
 use Rattle.integer.specs.Integer.{greatest, sizeOf, encOf, readOf}
 use Rattle.rewrite.specs.Rewriting.{Doing, putting, refusing}
 
@@ -16,4 +16,4 @@ integerRead s info = telling (readOf s) info
 
 -- info[0]: the bytes written. 5 where the number is too great, then 7
 unfoldable pub integerWritten : ℕ → List ℕ → List ℕ → Doing
-integerWritten n out info = pick (leb n greatest) (putting (encOf n) (sizeOf n ∷ []) out info) (refusing 5 out info)
+integerWritten n out info = guard (leb n greatest) (refusing 5 out info) (putting (encOf n) (sizeOf n ∷ []) out info)

@@ -4,7 +4,7 @@ use Prim.Native.Nat.{ℕ}
 use mathlib.Core.List.{List, [], _∷_}
 use lib.ListN.{length}
 use lib.Dec.{leb, eqb}
-use Rattle.integer.specs.Answer.{pick, number}
+use Rattle.integer.specs.Answer.{guard, pick, number}
 use Rattle.integer.specs.Integer.{over}
 use Rattle.field.specs.declared.Arrival.{Arrival}
 use Rattle.message.specs.Made.{answerOf}
@@ -23,15 +23,13 @@ use Rattle.rewrite.specs.Rewriting.{Doing, refusing}
 -- a new ledger: 5 for a part that is none, 15, and 7 where it has no room
 abbrev pub beginning : Came → List ℕ → Doing
 beginning c before =
-    pick (eqb (c .says .number) 8)
-    (pick (leb (length (numbersOf (c .next))) (length before))
-    (record { says = 8; out = over (numbersOf (c .next)) before; info = [] })
-    (refusing 7 before []))
-    (refusing (c .says .number) before [])
+    guard (eqb (c .says .number) 8) (refusing (c .says .number) before [])
+    (guard (leb (length (numbersOf (c .next))) (length before)) (refusing 7 before [])
+    (record { says = 8; out = over (numbersOf (c .next)) before; info = [] }))
 
 unfoldable pub started : ℕ → ℕ → ℕ → List ℕ → Doing
 started part rows maximum before =
-    pick (leb part 1) (beginning (startOf (partOf part) rows maximum) before) (refusing 5 before [])
+    guard (leb part 1) (refusing 5 before []) (beginning (startOf (partOf part) rows maximum) before)
 
 -- 01's number, and the numbers of the next ledger
 abbrev pub answered : Came → List ℕ → Doing
@@ -48,9 +46,8 @@ arrivalIn a before = answered (arrivalOf (unpackOf before) a) before
 abbrev pub telling : Came → ℕ → List ℕ → List ℕ → Doing
 telling c used before info =
     pick (eqb (c .says .number) 14) (refusing 14 before info)
-    (pick (leb 2 (length info))
-    (record { says = c .says .number; out = keptIn before (c .next); info = over (used ∷ c .says .rule ∷ []) info })
-    (refusing 7 before info))
+    (guard (leb 2 (length info)) (refusing 7 before info)
+    (record { says = c .says .number; out = keptIn before (c .next); info = over (used ∷ c .says .rule ∷ []) info }))
 
 -- "Only a whole message reaches the ledger; every other reading ends there"
 abbrev pub takenBy : Reading → List ℕ → List ℕ → Doing

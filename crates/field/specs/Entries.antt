@@ -4,7 +4,7 @@ use mathlib.Core.List.{List}
 use mathlib.Core.Bool.{Bool, true, false}
 use lib.ListN.{length, drop}
 use lib.Dec.{leb}
-use Rattle.integer.specs.Answer.{pick}
+use Rattle.integer.specs.Answer.{guard}
 use Rattle.integer.specs.Integer.{readOf, onRead, greatest}
 use Rattle.field.specs.Outcome.{Outcome, whole, no, andThen, both}
 use Rattle.field.specs.declared.Fault.the-variants.{Cut, Oversize}
@@ -27,9 +27,8 @@ numberAt s at = onRead (readOf (drop at s)) (λ n used. whole n (at + used)) (no
 unfoldable pub textAt : ℕ → List ℕ → ℕ → Outcome Span
 textAt most s at =
     andThen (numberAt s at) λ n start.
-    pick (leb n most)
-    (pick (leb n (length s - start)) (whole (record { start = start; end = start + n }) (start + n)) (no Cut))
-    (no Oversize)
+    guard (leb n most) (no Oversize)
+    (guard (leb n (length s - start)) (no Cut) (whole (record { start = start; end = start + n }) (start + n)))
 
 -- an entry that has a number and may hold `most` bytes
 unfoldable pub numberedAt : ℕ → ℕ → List ℕ → ℕ → Outcome Entry
@@ -81,7 +80,6 @@ pub record Listed : Type 0 where
 unfoldable pub listAt : Kind → List ℕ → ℕ → Outcome Listed
 listAt kind s at =
     andThen (numberAt s at) λ count first.
-    pick (few kind count)
+    guard (few kind count) (no Oversize)
     (andThen (entriesAt true kind count 0 s first) λ held end.
     whole (record { entries = record { start = first; end = end; count = count }; held = held }) end)
-    (no Oversize)

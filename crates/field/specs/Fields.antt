@@ -4,7 +4,7 @@ use mathlib.Core.List.{List}
 use mathlib.Core.Bool.{true}
 use lib.ListN.{length, getD}
 use lib.Dec.{ltb}
-use Rattle.integer.specs.Answer.{pick}
+use Rattle.integer.specs.Answer.{guard}
 use Rattle.integer.specs.Integer.{greatest}
 use Rattle.field.specs.Outcome.{Outcome, whole, no, andThen}
 use Rattle.field.specs.Entries.{numberAt, textAt, mostOf, listAt}
@@ -25,7 +25,7 @@ pub data Form : Type 0 where
 
 unfoldable pub fieldAt : Form → List ℕ → ℕ → Outcome Piece
 fieldAt integer s at = andThen (numberAt s at) λ n end. whole (Number n) end
-fieldAt byte s at = pick (ltb at (length s)) (whole (Byte (getD s at 0)) (at + 1)) (no Cut)
+fieldAt byte s at = guard (ltb at (length s)) (no Cut) (whole (Byte (getD s at 0)) (at + 1))
 fieldAt bytes s at = andThen (textAt greatest s at) λ p end. whole (Bytes p) end
 fieldAt (list kind) s at = andThen (listAt kind s at) λ l end. whole (Listing kind (l .entries)) end
 fieldAt track s at =

@@ -9,6 +9,10 @@ abbrev pub pick {ℓ} : {A : Type ℓ} → Bool → A → A → A
 pick true a b = a
 pick false a b = b
 
+-- a test, what is answered where it fails, and the rest: so refusals stand in the order in which they are looked for
+abbrev pub guard {ℓ} : {A : Type ℓ} → Bool → A → A → A
+guard test refusal rest = pick test rest refusal
+
 -- An answer is 0, with what was read and the bytes used; or the number of a refusal, and nothing with it.
 pub data Answer (A : Type 0) : Type 0 where
   whole : A → ℕ → Answer A
@@ -30,6 +34,10 @@ wrote used = whole tt used
 pub record Written : Type 0 where
   pub says : Answer Nothing
   pub holds : List ℕ
+
+-- a refusal, and the buffer as it was
+abbrev pub unwritten : ℕ → List ℕ → Written
+unwritten number before = record { says = refused number; holds = before }
 
 pub record Leaves (w : Written) (said : Answer Nothing) (after : List ℕ) : Type 0 where
   pub says : said ≡ w .says

@@ -5,7 +5,7 @@ use mathlib.Core.Bool.{Bool, _&&_}
 use mathlib.Core.List.{List, [], _∷_}
 use lib.ListN.{length, getD, take}
 use lib.Dec.{leb, ltb, eqb}
-use Rattle.integer.specs.Answer.{pick, Answer, whole, refused, wrote, Written}
+use Rattle.integer.specs.Answer.{guard, unwritten, pick, Answer, whole, refused, wrote, Written}
 use Rattle.integer.specs.Bytes.{spell, bytesOf, over}
 
 -- ---- the table
@@ -72,7 +72,7 @@ unfoldable pub readBy : Edition → List ℕ → Answer ℕ
 readBy edition s =
     let form = begunBy edition (getD s 0 0) in
     let width = form .bytes in
-    pick (leb width (length s)) (whole (spell 0 (take width s) % roomOf form) width) (refused 1)
+    guard (leb width (length s)) (refused 1) (whole (spell 0 (take width s) % roomOf form) width)
 
 -- ---- writing
 
@@ -89,17 +89,14 @@ encBy edition n =
 -- a form that was chosen, put into a buffer: 7 where it is too short
 unfoldable pub putOf : ℕ → ℕ → List ℕ → Written
 putOf width n before =
-    pick (leb width (length before))
+    guard (leb width (length before)) (unwritten 7 before)
     (record { says = wrote width; holds = over (bytesOf width n) before })
-    (record { says = refused 7; holds = before })
 
 -- a number put into a buffer: 5 where it is too great, then 7
 unfoldable pub writeBy : Edition → ℕ → List ℕ → Written
 writeBy edition n before =
     let form = fewestFor edition n in
-    pick (leb n (longest edition .greatest))
-    (putOf (form .bytes) (ledBy form n) before)
-    (record { says = refused 5; holds = before })
+    guard (leb n (longest edition .greatest)) (unwritten 5 before) (putOf (form .bytes) (ledBy form n) before)
 
 -- ---- what a table must have, so that reader and writer agree
 

@@ -2,7 +2,7 @@
 use Prim.Native.Nat.{ℕ}
 use mathlib.Core.Bool.{Bool, true, false}
 use lib.Dec.{eqb}
-use Rattle.integer.specs.Answer.{pick}
+use Rattle.integer.specs.Answer.{guard, pick}
 use Rattle.ledger.specs.Ledgers.{isLedger, isOpen}
 use Rattle.ledger.specs.declared.Part.{Part}
 use Rattle.ledger.specs.declared.Part.the-variants.{Subscriber, Publisher}
@@ -104,7 +104,7 @@ breaks l own rule =
 
 -- 0 where the rest is next
 unfoldable pub stops : Bool → Bool → Bool → ℕ
-stops isLedger sound opened = pick isLedger (pick sound (pick opened 0 10) 5) 14
+stops isLedger sound opened = guard isLedger 14 (guard sound 5 (guard opened 10 0))
 
 unfoldable pub gateOf : Ledger → Bool → ℕ
 gateOf l sound = stops (isLedger l) sound (isOpen (l .session))

@@ -4,7 +4,7 @@ use mathlib.Core.Path.{_≡_}
 use mathlib.Core.List.{List, [], _∷_}
 use lib.ListN.{length}
 use lib.Dec.{leb}
-use Rattle.integer.specs.Answer.{pick, Answer, refused, Nothing, wrote}
+use Rattle.integer.specs.Answer.{guard, Answer, refused, Nothing, wrote}
 use Rattle.integer.specs.Integer.{over}
 use Rattle.field.specs.declared.Arrival.{Arrival}
 use Rattle.ledger.specs.Ledgers.{isLedger}
@@ -51,11 +51,9 @@ noRun l before number = record { says = refused number; next = l; holds = before
 unfoldable pub runOf : Ledger → List ℕ → List ℕ → Run
 runOf l run before =
     let came = arrivalsIn run in
-    pick (isLedger l)
-    (pick (leb (length came) (length before))
-    (record { says = wrote (length came); next = behind l came; holds = over (numbersOf l came) before })
-    (noRun l before 7))
-    (noRun l before 14)
+    guard (isLedger l) (noRun l before 14)
+    (guard (leb (length came) (length before)) (noRun l before 7)
+    (record { says = wrote (length came); next = behind l came; holds = over (numbersOf l came) before }))
 
 abbrev pub saying : Filled → Answer Nothing
 saying (Done count) = wrote count

@@ -4,7 +4,7 @@ use mathlib.Core.Bool.{Bool, true, false, not}
 use mathlib.Core.List.{List, [], _∷_, _++_}
 use lib.ListN.{take, drop, getD, set}
 use lib.Dec.{leb, ltb, eqb}
-use Rattle.integer.specs.Answer.{pick}
+use Rattle.integer.specs.Answer.{guard, pick}
 use Rattle.field.specs.Outcome.{both}
 use Rattle.field.specs.declared.Arrival.{Arrival}
 use Rattle.field.specs.declared.Place.{Place}
@@ -46,7 +46,8 @@ refusedStart part = record { says = only 15; next = emptyLedger part 0 0 }
 
 unfoldable pub startOf : Part → ℕ → ℕ → Came
 startOf part capacity maximum =
-    pick (both (leb 1 capacity) (both (leb capacity 64) (small maximum))) (done (emptyLedger part capacity maximum)) (refusedStart part)
+    guard (both (leb 1 capacity) (both (leb capacity 64) (small maximum))) (refusedStart part)
+    (done (emptyLedger part capacity maximum))
 
 -- ---- rows in their places
 

@@ -4,7 +4,7 @@ use mathlib.Core.List.{List}
 use mathlib.Core.Bool.{Bool, true, false}
 use lib.ListN.{length}
 use lib.Dec.{leb, eqb}
-use Rattle.integer.specs.Answer.{pick}
+use Rattle.integer.specs.Answer.{guard, pick}
 use Rattle.integer.specs.Integer.{greatest}
 use Rattle.field.specs.Outcome.{Outcome, whole, no, both}
 use Rattle.field.specs.Entries.{size, entriesAt, few}
@@ -61,7 +61,7 @@ unfoldable pub fit : ℕ → ℕ → Measured
 fit n room = pick (leb n room) (Takes n) TooLong
 
 unfoldable pub judged : Bool → Bool → ℕ → ℕ → Measured
-judged isRight isSized n room = pick isRight (pick isSized (fit n room) Oversize) Forbidden
+judged isRight isSized n room = guard isRight Forbidden (guard isSized Oversize (fit n room))
 
 unfoldable pub measureSpan : List ℕ → Span → ℕ → Measured
 measureSpan s p room = judged (rightSpan s p) true (length (encText (part s p))) room

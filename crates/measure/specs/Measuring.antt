@@ -4,7 +4,7 @@ use mathlib.Core.List.{List, [], _∷_, map}
 use mathlib.Core.Bool.{Bool, true}
 use lib.ListN.{length}
 use lib.Dec.{leb}
-use Rattle.integer.specs.Answer.{pick, Answer, refused, Nothing, wrote}
+use Rattle.integer.specs.Answer.{guard, Answer, refused, Nothing, wrote}
 use Rattle.field.specs.Outcome.{both}
 use Rattle.field.specs.Value.{mean, encField, encode}
 use Rattle.field.specs.declared.Piece.{Piece}
@@ -35,7 +35,7 @@ measureAll s ps room = judged (rightAll s ps) (sizedAll s ps) (length (encodeAll
 unfoldable pub measuredOf : List ℕ → Piece → ℕ → Answer Nothing
 measuredOf s p room =
     let n = length (encField (mean s p)) in
-    pick (right s p) (pick (sized s p) (pick (leb n room) (wrote n) (refused 7)) (refused 6)) (refused 5)
+    guard (right s p) (refused 5) (guard (sized s p) (refused 6) (guard (leb n room) (refused 7) (wrote n)))
 
 -- 01's number and values of what is answered
 abbrev pub saying : Measured → Answer Nothing

@@ -4,7 +4,7 @@ use Prim.Native.Nat.{ℕ, _+_, _-_}
 use mathlib.Core.List.{List}
 use lib.ListN.{length, take}
 use lib.Dec.{leb, eqb}
-use Rattle.integer.specs.Answer.{pick, Answer, whole as answered, refused}
+use Rattle.integer.specs.Answer.{guard, Answer, whole as answered, refused}
 use Rattle.field.specs.Outcome.{Outcome, whole, no, number}
 use Rattle.field.specs.Entries.{numberAt}
 use Rattle.field.specs.Value.{onFound}
@@ -22,20 +22,20 @@ longest = 16_383
 
 -- a body that ends at `end` must be filled: 4 where its fields end before, or are cut
 abbrev pub filledBy : ℕ → Outcome Typed → Answer Typed
-filledBy end (whole m last) = pick (eqb last end) (answered m end) (refused 4)
+filledBy end (whole m last) = guard (eqb last end) (refused 4) (answered m end)
 filledBy end (no fault) = refused (number 4 fault)
 
 -- the body of a message of a type, from an offset on, when its Length is known
 unfoldable pub bodyOf : List ℕ → ℕ → ℕ → ℕ → Answer Typed
 bodyOf s type size at =
-    pick (leb size longest)
-    (pick (leb size (length s - at)) (filledBy (at + size) (typed type (scan (layoutOf type) (take (at + size) s) at))) (refused 1))
-    (refused 3)
+    guard (leb size longest) (refused 3)
+    (guard (leb size (length s - at)) (refused 1)
+    (filledBy (at + size) (typed type (scan (layoutOf type) (take (at + size) s) at))))
 
 unfoldable pub readOf : List ℕ → Answer Typed
 readOf s =
     onFound (numberAt s 0)
-    (λ type next. pick (known type) (onFound (numberAt s next) (λ size at. bodyOf s type size at) (refused 1)) (refused 2))
+    (λ type next. guard (known type) (refused 2) (onFound (numberAt s next) (λ size at. bodyOf s type size at) (refused 1)))
     (refused 1)
 
 -- ---- 01's number and values of what is answered

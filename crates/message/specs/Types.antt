@@ -2,7 +2,7 @@
 use Prim.Native.Nat.{ℕ}
 use mathlib.Core.Bool.{Bool, true, false}
 use lib.Dec.{leb, eqb}
-use Rattle.integer.specs.Answer.{pick, Answer, whole, refused}
+use Rattle.integer.specs.Answer.{guard, pick, Answer, whole, refused}
 use Rattle.layout.specs.Layout.{Layout, done, forbidden, failure, parameters}
 use Rattle.layout.specs.Typed.{Typed}
 use Rattle.subscription.specs.Layouts.{numberOf as subscriptionNumber, subscribeUpdate, subscribe, subscribeOk, subscribeError, subscribeDone, only}
@@ -66,7 +66,7 @@ numberOf (Session k) = sessionNumber k
 
 -- a number and what is known of it: 2 where it is no type
 unfoldable pub typeOf : ℕ → Answer ℕ
-typeOf type = pick (known type) (whole type 0) (refused 2)
+typeOf type = guard (known type) (refused 2) (whole type 0)
 
 abbrev pub toldType : Found → Answer ℕ
 toldType (Known k) = whole (numberOf k) 0

@@ -5,7 +5,7 @@ use mathlib.Core.Path.{_≡_}
 use mathlib.Core.List.{List, [], _∷_, _++_}
 use lib.ListN.{length}
 use lib.Dec.{leb}
-use Rattle.integer.specs.Answer.{pick, Answer, whole, refused}
+use Rattle.integer.specs.Answer.{guard, Answer, whole, refused}
 use Rattle.integer.specs.Integer.{encOf, over}
 use Rattle.field.specs.declared.Piece.{Piece}
 use Rattle.layout.specs.Typed.{Typed}
@@ -26,11 +26,9 @@ refusing number out info = record { says = number; out = out; info = info }
 -- bytes into `out` and values into `info`, where both fit
 unfoldable pub putting : List ℕ → List ℕ → List ℕ → List ℕ → Doing
 putting bytes values out info =
-    pick (leb (length values) (length info))
-    (pick (leb (length bytes) (length out))
-    (record { says = 0; out = over bytes out; info = over values info })
-    (refusing 7 out info))
-    (refusing 7 out info)
+    guard (leb (length values) (length info)) (refusing 7 out info)
+    (guard (leb (length bytes) (length out)) (refusing 7 out info)
+    (record { says = 0; out = over bytes out; info = over values info }))
 
 -- info[0]: the bytes used; info[1]: the bytes written; info[2]: the type, 0 for the header of an object
 abbrev pub rewriting : {A : Type 0} → Answer A → (A → List ℕ) → (A → ℕ) → List ℕ → List ℕ → Doing

@@ -2,7 +2,7 @@
 use Prim.Native.Nat.{ℕ, _+_}
 use mathlib.Core.Bool.{Bool, true, false, not}
 use lib.Dec.{leb, ltb, eqb}
-use Rattle.integer.specs.Answer.{pick}
+use Rattle.integer.specs.Answer.{guard, pick}
 use Rattle.field.specs.Outcome.{both}
 use Rattle.field.specs.declared.Place.{Place}
 use Rattle.subscription.specs.declared.Content.{Content}
@@ -101,7 +101,7 @@ leaving number row = record { number = number; rule = 0; row = row }
 -- 19, "row still pending"; 17, "outside the range"; 16, "arrival counted": "With an active row and a place in range it is counted"
 abbrev pub arriveIn : State → Row → Place → AtRow
 arriveIn Pending r place = leaving 19 r
-arriveIn Active r place = pick (inRange (r .range) place) (leaving 16 (countedRow r place)) (leaving 17 r)
+arriveIn Active r place = guard (inRange (r .range) place) (leaving 17 r) (leaving 16 (countedRow r place))
 
 unfoldable pub arriveOf : Row → Place → AtRow
 arriveOf r place = arriveIn (r .state) r place

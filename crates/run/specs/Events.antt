@@ -5,7 +5,7 @@ use Prim.Native.Nat.{ℕ}
 use mathlib.Core.List.{List}
 use lib.ListN.{length, getD}
 use lib.Dec.{eqb}
-use Rattle.integer.specs.Answer.{pick}
+use Rattle.integer.specs.Answer.{guard, pick}
 use Rattle.field.specs.Entries.{numberAt}
 use Rattle.field.specs.Fields.{placeAt}
 use Rattle.field.specs.Value.{onFound}
@@ -19,7 +19,7 @@ use Rattle.run.specs.declared.Event.the-variants.{Start, Control, Malfor
 
 -- what fills its field exactly
 abbrev pub filling : List ℕ → ℕ → Event → Event
-filling value end event = pick (eqb end (length value)) event Fault
+filling value end event = guard (eqb end (length value)) Fault event
 
 -- tag 1
 abbrev pub partBy : ℕ → ℕ → Event

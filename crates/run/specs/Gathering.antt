@@ -6,7 +6,7 @@ use mathlib.Core.Bool.{Bool, true, false}
 use mathlib.Core.List.{List}
 use lib.ListN.{length, take, drop}
 use lib.Dec.{eqb}
-use Rattle.integer.specs.Answer.{pick}
+use Rattle.integer.specs.Answer.{guard}
 use Rattle.trace.specs.Fields.{isWhole}
 use Rattle.trace.specs.declared.Field.{Field}
 use Rattle.run.specs.Events.{arrivedBy}
@@ -26,7 +26,7 @@ isRunning (Faulty at) = false
 
 -- a field that is an arrival
 unfoldable pub arrivalIn : List ℕ → Field → Event
-arrivalIn s f = pick (eqb (f .tag) 3) (arrivedBy (take (f .end - f .start) (drop (f .start) s))) Fault
+arrivalIn s f = guard (eqb (f .tag) 3) Fault (arrivedBy (take (f .end - f .start) (drop (f .start) s)))
 
 -- arrivals from an offset on: feeding them all is feeding what is behind them to the ledger behind them
 pub record Gathers (s : List ℕ) (at : ℕ) (g : Gathered) (before after : List ℕ) : Type 0 where

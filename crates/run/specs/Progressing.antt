@@ -3,7 +3,7 @@ use Prim.Native.Nat.{ℕ, _+_, _-_, _%_, _^_}
 use mathlib.Core.List.{List, []}
 use lib.ListN.{length}
 use lib.Dec.{eqb}
-use Rattle.integer.specs.Answer.{pick}
+use Rattle.integer.specs.Answer.{guard}
 use Rattle.ledger.specs.Ledgers.{emptyLedger}
 use Rattle.ledger.specs.Answers.{Said, Came, same}
 use Rattle.ledger.specs.Steps.{startOf, takeOf, malformedOf, arrivalOf}
@@ -104,7 +104,7 @@ fed p s = feed step (holding p []) s
 -- its end: "an empty input" is a fault at 0, and so is a field that is cut, at its tag
 abbrev pub endStage : Stage → ℕ → ℕ → Stage
 endStage Empty offset left = Faulty 0
-endStage Running offset left = pick (eqb left 0) Running (Faulty offset)
+endStage Running offset left = guard (eqb left 0) (Faulty offset) Running
 endStage (Faulty at) offset left = Faulty at
 
 unfoldable pub endOf : Progress → ℕ → Progress

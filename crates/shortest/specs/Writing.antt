@@ -4,7 +4,7 @@ use mathlib.Core.List.{List, _++_}
 use mathlib.Core.Bool.{Bool, true}
 use lib.ListN.{length}
 use lib.Dec.{leb}
-use Rattle.integer.specs.Answer.{pick, Answer, refused, Nothing, wrote, Written}
+use Rattle.integer.specs.Answer.{guard, unwritten, Answer, refused, Nothing, wrote, Written}
 use Rattle.integer.specs.Integer.{encOf, greatest, over}
 use Rattle.field.specs.Outcome.{both}
 use Rattle.field.specs.Value.{mean, encField}
@@ -19,15 +19,11 @@ use Rattle.shortest.specs.declared.Writing.the-variants.{Done, Forbidden
 -- bytes that were judged, put into a buffer: 5, 6, 3, 7 in this order; every byte after them stays, and a refusal changes none
 unfoldable pub writtenOf : Bool → Bool → Bool → List ℕ → List ℕ → Written
 writtenOf isRight isSized isShort bytes before =
-    pick isRight
-    (pick isSized
-    (pick isShort
-    (pick (leb (length bytes) (length before))
-    (record { says = wrote (length bytes); holds = over bytes before })
-    (record { says = refused 7; holds = before }))
-    (record { says = refused 3; holds = before }))
-    (record { says = refused 6; holds = before }))
-    (record { says = refused 5; holds = before })
+    guard isRight (unwritten 5 before)
+    (guard isSized (unwritten 6 before)
+    (guard isShort (unwritten 3 before)
+    (guard (leb (length bytes) (length before)) (unwritten 7 before)
+    (record { says = wrote (length bytes); holds = over bytes before }))))
 
 -- A FIELD alone
 unfoldable pub putOf : List ℕ → Piece → List ℕ → Written

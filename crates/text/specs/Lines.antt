@@ -4,7 +4,7 @@ use mathlib.Core.Bool.{Bool, true, false}
 use mathlib.Core.List.{List, [], _∷_, _++_, map}
 use lib.ListN.{length, take}
 use lib.Dec.{leb}
-use Rattle.integer.specs.Answer.{pick, Answer, refused, Nothing, wrote, Written}
+use Rattle.integer.specs.Answer.{guard, unwritten, pick, Answer, refused, Nothing, wrote, Written}
 use Rattle.integer.specs.Integer.{over}
 use Rattle.measure.specs.Placing.{upTo}
 use Rattle.text.specs.Letters.{letters, decimalOf}
@@ -57,9 +57,8 @@ itemsOf line = map slot (take (line .used) (line .at))
 -- text put into a buffer: 7 where it is too short
 unfoldable pub putOf : List ℕ → List ℕ → Written
 putOf text before =
-    pick (leb (length text) (length before))
+    guard (leb (length text) (length before)) (unwritten 7 before)
     (record { says = wrote (length text); holds = over text before })
-    (record { says = refused 7; holds = before })
 
 -- 01's number and values of what is answered
 abbrev pub saying : Putting → Answer Nothing

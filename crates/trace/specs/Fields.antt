@@ -4,7 +4,7 @@ use mathlib.Core.Bool.{Bool}
 use mathlib.Core.List.{List}
 use lib.ListN.{length, getD, drop}
 use lib.Dec.{leb}
-use Rattle.integer.specs.Answer.{pick}
+use Rattle.integer.specs.Answer.{guard}
 use Rattle.field.specs.Outcome.{both}
 use Rattle.trace.specs.declared.FieldRead.{FieldRead}
 use Rattle.trace.specs.declared.FieldRead.the-variants.{Whole, Cut}
@@ -26,4 +26,5 @@ isWhole s = both (leb 3 (length s)) (leb (sizeOf s) (length s))
 -- the field at an offset: its tag, and where its value stands
 unfoldable pub fieldOf : List ℕ → ℕ → FieldRead
 fieldOf s at =
-    pick (isWhole (drop at s)) (Whole (record { tag = tagOf (drop at s); start = at + 3; end = at + sizeOf (drop at s) })) Cut
+    guard (isWhole (drop at s)) Cut
+    (Whole (record { tag = tagOf (drop at s); start = at + 3; end = at + sizeOf (drop at s) }))
