@@ -65,20 +65,20 @@ fn due(stage: Stage, e: Event) -> Event
 {
     match stage {
         Stage::Empty => match e {
-            Event::Start(part, maximum) => Event::Start(part, maximum),
-            Event::Control(_) => Event::Fault,
-            Event::Malformed(_) => Event::Fault,
-            Event::Arrived(_) => Event::Fault,
-            Event::Fault => Event::Fault,
+            Event::Start(_, _) => return e,
+            Event::Control(_) => return Event::Fault,
+            Event::Malformed(_) => return Event::Fault,
+            Event::Arrived(_) => return Event::Fault,
+            Event::Fault => return Event::Fault,
         },
         Stage::Running => match e {
-            Event::Start(_, _) => Event::Fault,
-            Event::Control(m) => Event::Control(m),
-            Event::Malformed(n) => Event::Malformed(n),
-            Event::Arrived(a) => Event::Arrived(a),
-            Event::Fault => Event::Fault,
+            Event::Start(_, _) => return Event::Fault,
+            Event::Control(_) => return e,
+            Event::Malformed(_) => return e,
+            Event::Arrived(_) => return e,
+            Event::Fault => return Event::Fault,
         },
-        Stage::Faulty(_) => Event::Fault,
+        Stage::Faulty(_) => return Event::Fault,
     }
 }
 
