@@ -31,6 +31,19 @@ unfolding rowsText
 rows-bound [] = le-refl 0
 rows-bound (r ∷ rs) = omega (arith, length-append (lineOf (rowLine r)) (rowsText rs), line-bound (rowLine r), rows-bound rs)
 
+-- a report is the session's line, the columns and the rows,
+ledger-length : (l : Ledger) → length (ledgerText l) ≡ length (lineOf (sessionLine (l .session) (l .used))) + length (lineOf columnsLine) + length (rowsText (held l))
+unfolding ledgerText
+ledger-length l =
+    let a = lineOf (sessionLine (l .session) (l .used)) in
+    let b = lineOf columnsLine in
+    omega (arith, length-append a (b ++ rowsText (held l)), length-append b (rowsText (held l)))
+
+-- each of which is counted
+pub ledger-counted : (l : Ledger) {first second : Line} → first ≡ placed (sessionLine (l .session) (l .used)) → second ≡ placed columnsLine → {a b c : ℕ} → a ≡ length (lineOf (itemsOf first)) → b ≡ length (lineOf (itemsOf second)) → c ≡ length (rowsText (held l)) → a + b + c ≡ length (ledgerText l)
+ledger-counted l f g i j k =
+    omega (arith, ledger-length l, ap (λ items. length (lineOf items)) (items-placed _ f), ap (λ items. length (lineOf items)) (items-placed _ g))
+
 -- ---- a ledger's rows
 
 module _ (l : Ledger) (places : length (l .rows) ≡ 64) where
@@ -53,10 +66,10 @@ module _ (l : Ledger) (places : length (l .rows) ≡ 64) where
     unfolding rowsText
     rows-end h = rw (drop-of-length-le (held l) {i = i} (omega (arith, held-count)))
 
-  -- no report is longer
+  -- no rows take more,
+  pub held-bound : length (rowsText (held l)) ≤ 13_056
+  held-bound = omega (arith, rows-bound (held l), held-count)
+
+  -- and no report is longer
   pub ledger-bound : length (ledgerText l) ≤ 13_464
-  unfolding ledgerText
-  ledger-bound =
-      let a = lineOf (sessionLine (l .session) (l .used)) in
-      let b = lineOf columnsLine in
-      omega (arith, length-append a (b ++ rowsText (held l)), length-append b (rowsText (held l)), session-bound (l .session) (l .used), line-bound columnsLine, rows-bound (held l), held-count)
+  ledger-bound = omega (arith, ledger-length l, session-bound (l .session) (l .used), line-bound columnsLine, held-bound)

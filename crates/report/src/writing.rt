@@ -1,4 +1,4 @@
-// The text of a report, put at the front of what is lent.
+// The text of a report, measured, and put at the front of what is lent.
 ghost use mathlib.Core.Path.{_≡_};
 ghost use Prim.Native.Nat.{_≤_, min};
 ghost use lib.ListN.{length};
@@ -18,6 +18,44 @@ use run::Stage;
 use text::Line;
 use text::Putting;
 
+// How many rows there are: no more than there are places.
+fn sixty_four(used: usize) -> usize
+    ensures { λ r. ⌜ r ≡ min used 64 ⌝ }
+{
+    if used < 64 { used } else { 64 }
+}
+
+// ---- measuring
+
+// How many bytes the lines of the rows in use take.
+fn measure_rows(l: Ledger) -> usize
+    ensures { λ r. ⌜ r ≡ length (rowsText (held l)) ⌝ }
+{
+    let used = sixty_four(l.used);
+    let mut sum: usize = 0;
+    let mut i: usize = 0;
+    while i < used {
+        let row = l.rows[i];
+        let k = text::measure(row_line(row));
+        sum = sum + k;
+        i += 1;
+    }
+    sum
+}
+
+// The session, the columns, the rows.
+fn measure_ledger(l: Ledger) -> usize
+    ensures { λ r. ⌜ r ≡ length (ledgerText l) ⌝ }
+{
+    let session = l.session;
+    let a = text::measure(session_line(session, l.used as u64));
+    let b = text::measure(columns_line());
+    let c = measure_rows(l);
+    a + b + c
+}
+
+// ---- putting
+
 // A line that fits.
 fn put_line(out: &mut [u8], line: Line) -> usize
     requires { ⌜ length (lineOf (itemsOf line)) ≤ length (now out) ⌝ }
@@ -27,13 +65,6 @@ fn put_line(out: &mut [u8], line: Line) -> usize
         return 0;
     };
     n
-}
-
-// How many rows there are: no more than there are places.
-fn sixty_four(used: usize) -> usize
-    ensures { λ r. ⌜ r ≡ min used 64 ⌝ }
-{
-    if used < 64 { used } else { 64 }
 }
 
 // A line for each row in use.
@@ -66,12 +97,11 @@ fn put_ledger(out: &mut [u8], l: Ledger) -> usize
     at + c
 }
 
-// It is measured by being put where nobody looks: no report takes more than 13,464 bytes, 204 for each of 66 lines.
+// It is measured first, and only then put.
 fn write_ledger(out: &mut [u8], l: Ledger) -> Putting
     ensures { λ r. ⌜ Leaves (putOf (ledgerText l) (now (out .entry))) (saying r) (now (out .exit)) ⌝ }
 {
-    let mut nowhere = [0u8; 13464];
-    if out.len() < put_ledger(&mut nowhere, l) {
+    if out.len() < measure_ledger(l) {
         return Putting::TooShort;
     }
     Putting::Done(put_ledger(out, l))

@@ -27,6 +27,9 @@ pub number-bound : (n : ℕ) → length (decimalOf n) ≤ 20
 unfolding decimalOf
 number-bound n = decimal-few 20 n
 
+pub number-few : (n : ℕ) {k : ℕ} → k ≡ length (decimalOf n) → k ≤ 20
+number-few n e = omega (arith, number-bound n)
+
 -- the longest of the words are the columns
 pub word-bound : (word : Wording) → length (wordOf word) ≤ 33
 unfolding wordOf letters
@@ -65,6 +68,9 @@ item-bound (Number n) = omega (arith, number-bound n)
 item-bound (Word word) = word-bound word
 item-bound (Rule n) = omega (arith, number-bound n)
 item-bound (Name type) = omega (arith, name-bound type)
+
+pub item-few : (item : Item) {k : ℕ} → k ≡ length (itemOf item) → k ≤ 33
+item-few item e = omega (arith, item-bound item)
 
 -- and a line takes at most one byte more for each
 pub line-bound : (items : List Item) → length (lineOf items) ≤ 34 * length items

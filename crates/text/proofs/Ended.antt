@@ -32,7 +32,12 @@ module _ {item : Item} where
   unfolding itemOf
   name-is e = rw e
 
-  -- a rule is a letter, and then its number, which is put into what is left
+  -- a rule is a letter, and then its number: so it has one byte more,
+  pub rule-size : {n k : ℕ} → item ≡ Rule n → k ≡ length (decimalOf n) → 1 + k ≡ length (itemOf item)
+  unfolding itemOf letters
+  rule-size e h = rw e (omega arith)
+
+  -- and the number is put into what is left
   module _ {n : ℕ} (before : List ℕ) (h : length (itemOf item) ≤ length before) (e : item ≡ Rule n) where
     room : Room (82 ∷ []) (decimalOf n) (itemOf item) before
     unfolding itemOf letters

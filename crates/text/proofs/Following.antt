@@ -1,7 +1,7 @@
 -- The items of a line, one behind the other. Assumes nothing.
 use Prim.Native.Nat.{ℕ, _+_, _≤_, _<_, min}
 use mathlib.Core.Path.{_≡_, refl, sym, ap, _∙_}
-use mathlib.Core.Bool.{true, false}
+use mathlib.Core.Bool.{Bool, true, false}
 use mathlib.Core.List.{List, [], _∷_, _++_, append-nil}
 use mathlib.Core.Logic.{⊎-elim}
 use native.Mathlib.Nat.{eq-or-lt-of-le}
@@ -17,6 +17,11 @@ use Rattle.text.specs.Lines.{itemOf, endedOf, isNone, lineOf, slot, item
 use Rattle.text.specs.declared.Item.{Item}
 use Rattle.text.specs.declared.Slot.{Slot}
 use Rattle.text.specs.declared.Line.{Line}
+
+-- one byte stands behind an item
+pub ended-size : (item : Item) (last : Bool) {k : ℕ} → k ≡ length (itemOf item) → k + 1 ≡ length (endedOf item last)
+unfolding endedOf
+ended-size item last e = omega (arith, length-append (itemOf item) (pick last 10 32 ∷ []))
 
 none-behind : (items : List Item) (i : ℕ) → length items ≤ i → isNone (drop i items) ≡ true
 unfolding isNone

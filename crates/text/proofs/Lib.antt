@@ -5,5 +5,6 @@ pub mod Naming
 pub mod Standing
 pub mod Ended
 pub mod Following
+pub mod Counted
 pub mod Bounds
 pub mod Outcomes

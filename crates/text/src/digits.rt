@@ -6,7 +6,7 @@ ghost use Rattle.text.specs.Letters.{decimalOf};
 ghost use Rattle.shortest.specs.Putting.{Put};
 
 // How many digits n has.
-fn places(n: u64) -> usize
+pub fn places(n: u64) -> usize
     ensures { λ r. ⌜ r ≡ length (decimalOf n) ⌝ }
 {
     let mut count: usize = 1;

@@ -11,8 +11,10 @@ use crate::Item;
 use crate::Line;
 use crate::Putting;
 use crate::Slot;
+use crate::digits::places;
 use crate::digits::put_number;
 use crate::words::name_part;
+use crate::words::part_size;
 use crate::words::put_part;
 use crate::words::word_part;
 
@@ -83,6 +85,44 @@ pub fn of6(a: Item, b: Item, c: Item, d: Item, e: Item, f: Item) -> Line
     of(6, a, b, c, d, e, f)
 }
 
+// ---- measuring
+
+// How many bytes an item takes.
+fn size(item: Item) -> usize
+    ensures { λ r. ⌜ r ≡ length (itemOf item) ⌝ }
+{
+    match item {
+        Item::Number(n) => places(n),
+        Item::Word(word) => part_size(word_part(word)),
+        Item::Rule(n) => 1 + places(n),
+        Item::Name(kind) => part_size(name_part(kind)),
+    }
+}
+
+// How many items there are: no more than there are places.
+fn six(used: usize) -> usize
+    ensures { λ r. ⌜ r ≡ min used 6 ⌝ }
+{
+    if used < 6 { used } else { 6 }
+}
+
+// How many bytes a line takes: each item, and one behind it.
+pub fn measure(line: Line) -> usize
+    ensures { λ r. ⌜ r ≡ length (lineOf (itemsOf line)) ⌝ }
+{
+    let n = six(line.used);
+    let mut sum: usize = 0;
+    let mut i: usize = 0;
+    while i < n {
+        let slot = line.at[i];
+        let item = slot.item;
+        let k = size(item) + 1;
+        sum = sum + k;
+        i += 1;
+    }
+    sum
+}
+
 // ---- putting
 
 fn put_item(out: &mut [u8], item: Item) -> usize
@@ -111,13 +151,6 @@ fn put_ended(out: &mut [u8], item: Item, last: bool) -> usize
     k + 1
 }
 
-// How many items there are: no more than there are places.
-fn six(used: usize) -> usize
-    ensures { λ r. ⌜ r ≡ min used 6 ⌝ }
-{
-    if used < 6 { used } else { 6 }
-}
-
 // Each item into what is left of the output.
 fn put_items(out: &mut [u8], line: Line) -> usize
     requires { ⌜ length (lineOf (itemsOf line)) ≤ length (now out) ⌝ }
@@ -134,14 +167,6 @@ fn put_items(out: &mut [u8], line: Line) -> usize
         at = at + k;
     }
     at
-}
-
-// How many bytes a line takes. It is put where nobody looks; no line takes more than 204.
-pub fn measure(line: Line) -> usize
-    ensures { λ r. ⌜ r ≡ length (lineOf (itemsOf line)) ⌝ }
-{
-    let mut nowhere = [0u8; 204];
-    put_items(&mut nowhere, line)
 }
 
 // A line at the front of out; every byte after it stays, and where it doesn't fit none is changed.

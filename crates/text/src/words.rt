@@ -101,6 +101,14 @@ pub fn name_part(kind: u64) -> Part
     }
 }
 
+// How many bytes a part takes.
+pub fn part_size(part: Part) -> usize
+    requires { ⌜ part .0 ≤ part .1 ⌝ }
+    ensures { λ r. ⌜ r ≡ part .1 - part .0 ⌝ }
+{
+    part.1 - part.0
+}
+
 fn copy(out: &mut [u8], s: &[u8]) -> usize
     requires { ⌜ length (now s) ≤ length (now out) ⌝ }
     ensures { λ r. ⌜ Put (now (s .entry)) (now (out .entry)) r (now (out .exit)) ⌝ }
