@@ -1,7 +1,7 @@
--- The parts of the one text in which words and names stand. Assumes nothing.
+-- The parts of the texts in which words and names stand. Assumes nothing.
 use Prim.Native.Nat.{ℕ, _-_, _≤_}
-use mathlib.Core.Path.{_≡_, refl, sym, ap, _∙_}
-use mathlib.Core.Bool.{Bool, true, false}
+use mathlib.Core.Path.{_≡_, sym, ap, _∙_}
+use mathlib.Core.Bool.{true}
 use mathlib.Core.List.{List}
 use native.Mathlib.Omega.{arith}
 use borrow.Author.Tests.{leb-true}
@@ -9,25 +9,24 @@ use lib.Dec.{leb}
 use lib.ListN.{length, drop, length-drop}
 use lib.Seq.{length-take-le}
 use Rattle.shortest.specs.Putting.{Put}
-use Rattle.text.specs.Parts.{allText, partOf, Lies, Stands}
+use Rattle.text.specs.Parts.{partOf, Lies, Stands}
 
 -- a part by its two numbers, which are compared by computing
-pub standing : (start end : ℕ) {text : List ℕ} → leb start end ≡ true → leb end (length allText) ≡ true → partOf start end ≡ text → Stands text start end
-standing start end a b e =
-    record { lies = record { rises = leb-true start end a; within = leb-true end (length allText) b }; is = e }
+pub standing : (start end : ℕ) {all word : List ℕ} → leb start end ≡ true → leb end (length all) ≡ true → partOf all start end ≡ word → Stands all word start end
+standing start end {all} a b e =
+    record { lies = record { rises = leb-true start end a; within = leb-true end (length all) b }; is = e }
 
-module _ {text : List ℕ} {start end : ℕ} (s : Stands text start end) where
+module _ {all word : List ℕ} {start end : ℕ} (s : Stands all word start end) where
   -- it has so many letters,
-  pub stands-length : end - start ≡ length text
+  pub stands-length : end - start ≡ length word
   stands-length =
-      let fits : end - start ≤ length (drop start allText) = omega (arith, length-drop start allText, s .lies .rises, s .lies .within) in
-      sym (length-take-le (end - start) (drop start allText) fits) ∙ ap length (s .is)
+      let fits : end - start ≤ length (drop start all) = omega (arith, length-drop start all, s .lies .rises, s .lies .within) in
+      sym (length-take-le (end - start) (drop start all) fits) ∙ ap length (s .is)
 
-  module _ {x : List ℕ} (e : x ≡ text) where
-    -- has room where these have,
-    pub stands-fits : {n : ℕ} → length x ≤ n → Lies start end × (end - start ≤ n)
-    stands-fits h = (s .lies, omega (arith, stands-length, ap length e))
+  -- has room where these have,
+  pub stands-fits : {n : ℕ} → length word ≤ n → Lies all start end × (end - start ≤ n)
+  stands-fits h = (s .lies, omega (arith, stands-length))
 
-    -- and is put where its part is
-    pub stands-put : {before after : List ℕ} {used : ℕ} → Put (partOf start end) before used after → Put x before used after
-    stands-put p = rw (e, ← s .is) p
+  -- and is put where its part is
+  pub stands-put : {before after : List ℕ} {used : ℕ} → Put (partOf all start end) before used after → Put word before used after
+  stands-put p = rw (← s .is) p

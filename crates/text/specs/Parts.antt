@@ -1,4 +1,4 @@
--- Where the words and the names stand in the one text that the code keeps of them.
+-- Where words and names stand in the texts that the code keeps of them.
 use Prim.Native.Nat.{ℕ, _-_, _≤_}
 use mathlib.Core.Path.{_≡_}
 use mathlib.Core.List.{List, [], _∷_, _++_, map}
@@ -16,18 +16,21 @@ joined [] = []
 joined (text ∷ texts) = text ++ joined texts
 
 -- all of them, one behind the other
-unfoldable pub allText : List ℕ
-allText = joined (map wordOf words ++ map (λ row. letters (row .1)) names)
+unfoldable pub wordsText : List ℕ
+wordsText = joined (map wordOf words)
 
--- from start up to end
-abbrev pub partOf : ℕ → ℕ → List ℕ
-partOf start end = take (end - start) (drop start allText)
+unfoldable pub namesText : List ℕ
+namesText = joined (map (λ row. letters (row .1)) names)
 
-pub record Lies (start end : ℕ) : Type 0 where
+-- the part of a text from start up to end
+abbrev pub partOf : List ℕ → ℕ → ℕ → List ℕ
+partOf all start end = take (end - start) (drop start all)
+
+pub record Lies (all : List ℕ) (start end : ℕ) : Type 0 where
   pub rises : start ≤ end
-  pub within : end ≤ length allText
+  pub within : end ≤ length all
 
--- a text is the part from start up to end
-pub record Stands (text : List ℕ) (start end : ℕ) : Type 0 where
-  pub lies : Lies start end
-  pub is : partOf start end ≡ text
+-- a word is the part from start up to end
+pub record Stands (all word : List ℕ) (start end : ℕ) : Type 0 where
+  pub lies : Lies all start end
+  pub is : partOf all start end ≡ word

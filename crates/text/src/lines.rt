@@ -15,7 +15,8 @@ use crate::digits::places;
 use crate::digits::put_number;
 use crate::words::name_part;
 use crate::words::part_size;
-use crate::words::put_part;
+use crate::words::put_name;
+use crate::words::put_word;
 use crate::words::word_part;
 
 // ---- the items of a line
@@ -131,13 +132,13 @@ fn put_item(out: &mut [u8], item: Item) -> usize
 {
     match item {
         Item::Number(n) => put_number(out, n),
-        Item::Word(word) => put_part(out, word_part(word)),
+        Item::Word(word) => put_word(out, word),
         Item::Rule(n) => {
             out[0] = b'R';
             let k = put_number(&mut out[1..], n);
             1 + k
         }
-        Item::Name(kind) => put_part(out, name_part(kind)),
+        Item::Name(kind) => put_name(out, kind),
     }
 }
 

@@ -1,56 +1,18 @@
-// Words and the names of control messages: parts of one text, in which they stand one behind the other.
+// Words, and the names of control messages, put at the front of what is lent. Each kind has one text, in which they stand one
+// behind the other.
 ghost use mathlib.Core.Path.{_≡_};
 ghost use Prim.Native.Nat.{_≤_, _-_};
 ghost use lib.ListN.{length};
 ghost use Rattle.shortest.specs.Putting.{Put};
 ghost use Rattle.text.specs.Words.{wordOf, nameOf};
-ghost use Rattle.text.specs.Parts.{Stands, Lies, partOf};
+ghost use Rattle.text.specs.Parts.{wordsText, namesText, partOf, Lies, Stands};
 use crate::Word;
 
-// All of them, first the words and then the names.
-const ALL: [u8; 446] = *b"\
-    open\
-    closed\
-    ID ALIAS STATE GROUP OBJECT COUNT\
-    pending\
-    active\
-    -\
-    trace fault at\
-    start\
-    malformed\
-    arrival\
-    SUBSCRIBE_UPDATE\
-    SUBSCRIBE\
-    SUBSCRIBE_OK\
-    SUBSCRIBE_ERROR\
-    ANNOUNCE\
-    ANNOUNCE_OK\
-    ANNOUNCE_ERROR\
-    UNANNOUNCE\
-    UNSUBSCRIBE\
-    SUBSCRIBE_DONE\
-    ANNOUNCE_CANCEL\
-    TRACK_STATUS_REQUEST\
-    TRACK_STATUS\
-    GOAWAY\
-    SUBSCRIBE_ANNOUNCES\
-    SUBSCRIBE_ANNOUNCES_OK\
-    SUBSCRIBE_ANNOUNCES_ERROR\
-    UNSUBSCRIBE_ANNOUNCES\
-    MAX_SUBSCRIBE_ID\
-    FETCH\
-    FETCH_CANCEL\
-    FETCH_OK\
-    FETCH_ERROR\
-    SUBSCRIBES_BLOCKED\
-    CLIENT_SETUP\
-    SERVER_SETUP";
-
-// A part of that text: from the first number up to the second.
+// A part of a text: from the first number up to the second.
 pub struct Part(pub usize, pub usize);
 
 pub fn word_part(word: Word) -> Part
-    ensures { λ r. ⌜ Stands (wordOf word) (r .0) (r .1) ⌝ }
+    ensures { λ r. ⌜ Stands wordsText (wordOf word) (r .0) (r .1) ⌝ }
 {
     match word {
         Word::Open => Part(0, 4),
@@ -68,35 +30,35 @@ pub fn word_part(word: Word) -> Part
 
 // The name of a control message, by the number of its type. Another number has none.
 pub fn name_part(kind: u64) -> Part
-    ensures { λ r. ⌜ Stands (nameOf kind) (r .0) (r .1) ⌝ }
+    ensures { λ r. ⌜ Stands namesText (nameOf kind) (r .0) (r .1) ⌝ }
 {
     match kind {
-        0x2 => Part(92, 108),
-        0x3 => Part(108, 117),
-        0x4 => Part(117, 129),
-        0x5 => Part(129, 144),
-        0x6 => Part(144, 152),
-        0x7 => Part(152, 163),
-        0x8 => Part(163, 177),
-        0x9 => Part(177, 187),
-        0xA => Part(187, 198),
-        0xB => Part(198, 212),
-        0xC => Part(212, 227),
-        0xD => Part(227, 247),
-        0xE => Part(247, 259),
-        0x10 => Part(259, 265),
-        0x11 => Part(265, 284),
-        0x12 => Part(284, 306),
-        0x13 => Part(306, 331),
-        0x14 => Part(331, 352),
-        0x15 => Part(352, 368),
-        0x16 => Part(368, 373),
-        0x17 => Part(373, 385),
-        0x18 => Part(385, 393),
-        0x19 => Part(393, 404),
-        0x1A => Part(404, 422),
-        0x40 => Part(422, 434),
-        0x41 => Part(434, 446),
+        0x2 => Part(0, 16),
+        0x3 => Part(16, 25),
+        0x4 => Part(25, 37),
+        0x5 => Part(37, 52),
+        0x6 => Part(52, 60),
+        0x7 => Part(60, 71),
+        0x8 => Part(71, 85),
+        0x9 => Part(85, 95),
+        0xA => Part(95, 106),
+        0xB => Part(106, 120),
+        0xC => Part(120, 135),
+        0xD => Part(135, 155),
+        0xE => Part(155, 167),
+        0x10 => Part(167, 173),
+        0x11 => Part(173, 192),
+        0x12 => Part(192, 214),
+        0x13 => Part(214, 239),
+        0x14 => Part(239, 260),
+        0x15 => Part(260, 276),
+        0x16 => Part(276, 281),
+        0x17 => Part(281, 293),
+        0x18 => Part(293, 301),
+        0x19 => Part(301, 312),
+        0x1A => Part(312, 330),
+        0x40 => Part(330, 342),
+        0x41 => Part(342, 354),
         _ => Part(0, 0),
     }
 }
@@ -122,12 +84,66 @@ fn copy(out: &mut [u8], s: &[u8]) -> usize
     n
 }
 
-// A part at the front of what is lent.
-pub fn put_part(out: &mut [u8], part: Part) -> usize
-    requires { ⌜ Lies (part .0) (part .1) × (part .1 - part .0 ≤ length (now out)) ⌝ }
-    ensures { λ r. ⌜ Put (partOf (part .0) (part .1)) (now (out .entry)) r (now (out .exit)) ⌝ }
+// A part of a text, at the front of out.
+fn put_part(out: &mut [u8], s: &[u8], part: Part) -> usize
+    requires { ⌜ Lies (now s) (part .0) (part .1) × (part .1 - part .0 ≤ length (now out)) ⌝ }
+    ensures { λ r. ⌜ Put (partOf (now (s .entry)) (part .0) (part .1)) (now (out .entry)) r (now (out .exit)) ⌝ }
 {
     let start = part.0;
     let end = part.1;
-    copy(out, &ALL[start..end])
+    copy(out, &s[start..end])
+}
+
+pub fn put_word(out: &mut [u8], word: Word) -> usize
+    requires { ⌜ length (wordOf word) ≤ length (now out) ⌝ }
+    ensures { λ r. ⌜ Put (wordOf word) (now (out .entry)) r (now (out .exit)) ⌝ }
+{
+    let part = word_part(word);
+    let words = b"\
+        open\
+        closed\
+        ID ALIAS STATE GROUP OBJECT COUNT\
+        pending\
+        active\
+        -\
+        trace fault at\
+        start\
+        malformed\
+        arrival";
+    put_part(out, words, part)
+}
+
+pub fn put_name(out: &mut [u8], kind: u64) -> usize
+    requires { ⌜ length (nameOf kind) ≤ length (now out) ⌝ }
+    ensures { λ r. ⌜ Put (nameOf kind) (now (out .entry)) r (now (out .exit)) ⌝ }
+{
+    let part = name_part(kind);
+    let names = b"\
+        SUBSCRIBE_UPDATE\
+        SUBSCRIBE\
+        SUBSCRIBE_OK\
+        SUBSCRIBE_ERROR\
+        ANNOUNCE\
+        ANNOUNCE_OK\
+        ANNOUNCE_ERROR\
+        UNANNOUNCE\
+        UNSUBSCRIBE\
+        SUBSCRIBE_DONE\
+        ANNOUNCE_CANCEL\
+        TRACK_STATUS_REQUEST\
+        TRACK_STATUS\
+        GOAWAY\
+        SUBSCRIBE_ANNOUNCES\
+        SUBSCRIBE_ANNOUNCES_OK\
+        SUBSCRIBE_ANNOUNCES_ERROR\
+        UNSUBSCRIBE_ANNOUNCES\
+        MAX_SUBSCRIBE_ID\
+        FETCH\
+        FETCH_CANCEL\
+        FETCH_OK\
+        FETCH_ERROR\
+        SUBSCRIBES_BLOCKED\
+        CLIENT_SETUP\
+        SERVER_SETUP";
+    put_part(out, names, part)
 }

@@ -2,7 +2,6 @@
 use native.Mathlib.Omega.{arith}
 use borrow.Author.Needs.{needs}
 use Rattle.text.proofs.Ended.{number-is, word-is, name-is, letter-fits, letter-within, rule-fits, rule-sum, rule-put, rule-length}
-use Rattle.text.proofs.Standing.{stands-fits, stands-put}
 use Rattle.text.proofs.lines.put_item.Statement.{statement}
 use Rattle.text.proofs.lines.put_item.Tie as tie
 
@@ -35,10 +34,10 @@ put-item-spec =
     tie.close
     (tie.spec
     (λ c. search needs) (λ c κs. rw (number-is (c .before .before .item .given .1)) at (c .before .before .before .before .before .pre))
-    (λ c. search needs) (λ c κs. search needs) (λ c κs. stands-fits (c .word-part .ensures) (word-is (c .before .before .before .item2 .given .1)) (c .before .before .before .before .before .before .pre))
+    (λ c. search needs) (λ c κs. rw (word-is (c .before .before .item2 .given .1)) at (c .before .before .before .before .before .pre))
     (λ c. search needs) slice-write-out starts starts (λ c. search needs) asks add-result
-    (λ c. search needs) (λ c κs. search needs) (λ c κs. stands-fits (c .name-part .ensures) (name-is (c .before .before .before .item4 .given .1)) (c .before .before .before .before .before .before .pre))
+    (λ c. search needs) (λ c κs. rw (name-is (c .before .before .item4 .given .1)) at (c .before .before .before .before .before .pre))
     (λ c. search needs) (λ c. rw (number-is (c .before .before .before .before .before .item .given .1)) (c .before .before .put-number .ensures))
-    (λ c. search needs) (λ c. stands-put (c .before .before .before .word-part .ensures) (word-is (c .before .before .before .before .before .before .item2 .given .1)) (c .before .before .put-part .ensures))
+    (λ c. search needs) (λ c. rw (word-is (c .before .before .before .before .before .item2 .given .1)) (c .before .before .put-word .ensures))
     same-length returns
-    (λ c. search needs) (λ c. stands-put (c .before .before .before .name-part .ensures) (name-is (c .before .before .before .before .before .before .item4 .given .1)) (c .before .before .put-part2 .ensures)))
+    (λ c. search needs) (λ c. rw (name-is (c .before .before .before .before .before .item4 .given .1)) (c .before .before .put-name .ensures)))

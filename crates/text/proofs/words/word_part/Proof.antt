@@ -2,14 +2,14 @@
 use mathlib.Core.Path.{refl}
 use borrow.Author.Needs.{needs}
 use Rattle.text.specs.Letters.{letters}
-use Rattle.text.specs.Words.{wordOf, names}
-use Rattle.text.specs.Parts.{words, joined, allText}
+use Rattle.text.specs.Words.{wordOf}
+use Rattle.text.specs.Parts.{words, joined, wordsText}
 use Rattle.text.proofs.Standing.{standing}
 use Rattle.text.proofs.words.word_part.Statement.{statement}
 use Rattle.text.proofs.words.word_part.Tie as tie
 
 pub word-part-spec : {M : Type 1} → statement M
-unfolding letters wordOf names words joined allText
+unfolding letters wordOf words joined wordsText
 word-part-spec =
     tie.close
     (tie.spec
