@@ -6,7 +6,7 @@ pub mod Runs
 pub mod Lists
 pub mod Pieces
 pub mod Once
-pub mod Single
+pub mod Numbers
 pub mod Placed
 pub mod Rows
 pub mod SoFar

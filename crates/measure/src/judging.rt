@@ -4,8 +4,8 @@ ghost use mathlib.Core.List.{[]};
 ghost use Prim.Native.Nat.{_+_};
 ghost use Rattle.field.specs.declared.Piece.the-variants.{Number};
 ghost use Rattle.layout.specs.Permitted.{within};
-ghost use Rattle.measure.specs.Judging.{fit, joined, measureSpan, measureList, measureOf};
-ghost use Rattle.measure.specs.Measuring.{measuredOf, saying};
+ghost use Rattle.measure.specs.Judging.{fit, measureSpan, measureList, measureOf};
+ghost use Rattle.measure.specs.Measuring.{measuredOf, joinedOf, saying};
 use crate::Measured;
 use field::Entries;
 use field::Kind;
@@ -28,7 +28,7 @@ pub fn add(a: usize, b: usize, room: usize) -> Measured
 
 // Two judgements as one.
 pub fn join(a: Measured, b: Measured, room: usize) -> Measured
-    ensures { λ r. ⌜ r ≡ joined a b room ⌝ }
+    ensures { λ r. ⌜ saying r ≡ joinedOf (saying a) (saying b) room ⌝ }
 {
     match a {
         Measured::Forbidden => Measured::Forbidden,

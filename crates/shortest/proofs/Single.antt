@@ -11,7 +11,7 @@ use Rattle.measure.specs.Measuring.{measuredOf, saying}
 use Rattle.measure.specs.declared.Measured.{Measured}
 use Rattle.measure.specs.declared.Measured.the-variants.{Takes, TooLong, Oversize, Forbidden}
 use Rattle.measure.proofs.Judges.{judged-takes}
-use Rattle.measure.proofs.Single.{judgement}
+use Rattle.measure.proofs.Numbers.{judgement}
 use Rattle.shortest.specs.Putting.{Put}
 use Rattle.shortest.specs.Writing.{putOf}
 use Rattle.shortest.proofs.Pieces.{Asks}

@@ -6,6 +6,7 @@ use borrow.Author.Needs.{needs}
 use lib.ListN.{length}
 use Rattle.field.specs.declared.Piece.the-variants.{Number}
 use Rattle.measure.proofs.Rows.{numbersFrom, numbers-first, numbers-row}
+use Rattle.measure.proofs.Numbers.{measured-all, judgement-joined}
 use Rattle.measure.proofs.SoFar.{SoFar, none-judged, judged-next, judged-all}
 use Rattle.measure.proofs.heading.measure_numbers.Statement.{statement}
 use Rattle.measure.proofs.heading.measure_numbers.Tie as tie
@@ -20,10 +21,10 @@ loop-holds : tie.Need-loop-holds Inv-loop μ-loop
 loop-holds c = rw (numbers-first (c .before .args .ns .now)) (none-judged _ _ _)
 
 loop-again : tie.Need-loop-again Inv-loop μ-loop
-loop-again c = judged-next _ _ (numbers-row _) (c .before .before .before .before .loop .inv) (c .before .before .before .loop-test .taken) (c .before .measure-number .ensures) (c .join .ensures)
+loop-again c = judged-next _ _ (numbers-row _) (c .before .before .before .before .loop .inv) (c .before .before .before .loop-test .taken) (c .before .measure-number .ensures) (judgement-joined _ _ _ (c .join .ensures))
 
 returns : tie.Need-returns Inv-loop μ-loop
-returns c = judged-all _ _ (numbers-row _) (c .before .loop .inv) (c .loop-test .left)
+returns c = measured-all _ _ _ (judged-all _ _ (numbers-row _) (c .before .loop .inv) (c .loop-test .left))
 
 pub measure-numbers-spec : {M : Type 1} → statement M
 measure-numbers-spec =

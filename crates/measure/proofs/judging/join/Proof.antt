@@ -1,6 +1,7 @@
--- `join` meets its contract: each pair of arms is a clause of `joined`. Assumes nothing.
+-- `join` meets its contract: each pair of arms is a clause of `joinedOf`. Assumes nothing.
 use borrow.Author.Needs.{needs}
-use Rattle.measure.specs.Judging.{joined}
+use Rattle.measure.specs.Measuring.{joinedOf}
+use Rattle.measure.proofs.Numbers.{forbidden-first, taken-both}
 use Rattle.measure.proofs.judging.join.Statement.{statement}
 use Rattle.measure.proofs.judging.join.Tie as tie
 
@@ -56,56 +57,55 @@ asks : tie.Need-add-requires
 asks c κs = search needs
 
 returns : tie.Need-returns
-unfolding joined
-returns c = rw (c .enum-told .given .1)
+returns c = rw (c .enum-told .given .1) (forbidden-first (c .before .before .args .b) _)
 
 returns-2 : tie.Need-returns-2
-unfolding joined
+unfolding joinedOf
 returns-2 c = rw (c .before .before .enum-told2 .given .1, c .enum-told3 .given .1)
 
 returns-3 : tie.Need-returns-3
-unfolding joined
+unfolding joinedOf
 returns-3 c = rw (c .before .before .enum-told2 .given .1, c .enum-told4 .given .1)
 
 returns-4 : tie.Need-returns-4
-unfolding joined
+unfolding joinedOf
 returns-4 c = rw (c .before .before .enum-told2 .given .1, c .enum-told5 .given .1)
 
 returns-5 : tie.Need-returns-5
-unfolding joined
+unfolding joinedOf
 returns-5 c = rw (c .before .before .enum-told2 .given .1, c .enum-told6 .given .1)
 
 returns-6 : tie.Need-returns-6
-unfolding joined
+unfolding joinedOf
 returns-6 c = rw (c .before .before .enum-told7 .given .1, c .enum-told8 .given .1)
 
 returns-7 : tie.Need-returns-7
-unfolding joined
+unfolding joinedOf
 returns-7 c = rw (c .before .before .enum-told7 .given .1, c .enum-told9 .given .1)
 
 returns-8 : tie.Need-returns-8
-unfolding joined
+unfolding joinedOf
 returns-8 c = rw (c .before .before .enum-told7 .given .1, c .enum-told10 .given .1)
 
 returns-9 : tie.Need-returns-9
-unfolding joined
+unfolding joinedOf
 returns-9 c = rw (c .before .before .enum-told7 .given .1, c .enum-told11 .given .1)
 
 returns-10 : tie.Need-returns-10
-unfolding joined
+unfolding joinedOf
 returns-10 c = rw (c .before .before .before .a .given .1, c .enum-told12 .given .1)
 
 returns-11 : tie.Need-returns-11
-unfolding joined
+unfolding joinedOf
 returns-11 c = rw (c .before .before .before .a .given .1, c .enum-told13 .given .1)
 
 returns-12 : tie.Need-returns-12
-unfolding joined
+unfolding joinedOf
 returns-12 c = rw (c .before .before .before .a .given .1, c .enum-told14 .given .1)
 
 returns-13 : tie.Need-returns-13
-unfolding joined
-returns-13 c = rw (c .before .before .before .before .before .a .given .1, c .before .before .b .given .1) (c .add .ensures)
+unfolding joinedOf
+returns-13 c = rw (c .before .before .before .before .before .a .given .1, c .before .before .b .given .1) (taken-both _ _ _ (c .add .ensures))
 
 pub join-spec : {M : Type 1} → statement M
 join-spec =

@@ -1,7 +1,7 @@
 -- `measure` meets its contract: each arm judges one kind of field. Assumes nothing.
 use mathlib.Core.Path.{_∙_}
 use borrow.Author.Needs.{needs}
-use Rattle.measure.proofs.Single.{measured}
+use Rattle.measure.proofs.Numbers.{measured, judgement-joined}
 use Rattle.measure.proofs.Pieces.{number-judged, byte-fits, bytes-judged, list-judged, track-backward, track-judged}
 use Rattle.measure.proofs.judging.measure.Statement.{statement}
 use Rattle.measure.proofs.judging.measure.Tie as tie
@@ -22,7 +22,7 @@ list : tie.Need-returns-5
 list c = measured _ _ _ (c .measure-list .ensures ∙ list-judged _ _ (c .before .before .p3 .given .1))
 
 track : tie.Need-returns-6
-track c = measured _ _ _ (c .join .ensures ∙ rw (c .before .before .measure-list2 .ensures, c .before .measure-span2 .ensures) (track-judged _ _ (c .before .before .before .before .before .before .before .p4 .given .1)))
+track c = measured _ _ _ (judgement-joined (c .before .before .measure-list2 .result) (c .before .measure-span2 .result) _ {r = c .join .result} (c .join .ensures) ∙ rw (c .before .before .measure-list2 .ensures, c .before .measure-span2 .ensures) (track-judged _ _ (c .before .before .before .before .before .before .before .p4 .given .1)))
 
 pub measure-spec : {M : Type 1} → statement M
 measure-spec =

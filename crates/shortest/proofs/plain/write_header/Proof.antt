@@ -5,6 +5,7 @@ use borrow.Author.Needs.{needs}
 use lib.ListN.{length}
 use Rattle.measure.specs.Fields.{headed}
 use Rattle.measure.specs.Measuring.{measureAll}
+use Rattle.measure.proofs.Numbers.{judgement-all, judgement-joined}
 use Rattle.shortest.specs.Writing.{bareOf}
 use Rattle.shortest.proofs.Filling.{AllAsk}
 use Rattle.shortest.proofs.Headings.{headed-judged, front-asks, front-within, middle-asks, middle-sum, middle-within, back-asks, back-sum, headed-put}
@@ -17,7 +18,11 @@ start a = a .before .before .before .before .before .before .before .before .bef
 
 -- all parts were judged,
 said : (a : tie.After-join2) → a .join2 .result ≡ measureAll (start a .args .bytes .now) (headed (start a .args .front .now) (start a .args .middle) (start a .args .back .now)) (length (start a .args .out .now))
-said a = headed-judged _ _ _ _ _ (a .before .before .before .before .measure-numbers .ensures) (a .before .before .before .measure-middle .ensures) (a .before .before .measure-numbers2 .ensures) (a .before .join .ensures) (a .join2 .ensures)
+said a =
+    headed-judged _ _ _ _ _ (judgement-all _ _ _ {r = a .before .before .before .before .measure-numbers .result} (a .before .before .before .before .measure-numbers .ensures))
+    (judgement-all _ _ _ {r = a .before .before .before .measure-middle .result} (a .before .before .before .measure-middle .ensures))
+    (judgement-all _ _ _ {r = a .before .before .measure-numbers2 .result} (a .before .before .measure-numbers2 .ensures))
+    (judgement-joined _ _ _ {r = a .before .join .result} (a .before .join .ensures)) (judgement-joined _ _ _ {r = a .join2 .result} (a .join2 .ensures))
 
 abbrev judged : tie.After-enum-told4 → tie.After-join2
 judged a = a .before .before

@@ -12,7 +12,7 @@ use Rattle.measure.specs.Fields.{slot, fieldsOf, tenOf}
 use Rattle.measure.specs.Measuring.{measureAll}
 use Rattle.measure.specs.declared.Slot.{Slot}
 use Rattle.measure.proofs.Rows.{Row, ten-most, fieldsFrom, from-first, fields-row}
-use Rattle.measure.proofs.Single.{judgement}
+use Rattle.measure.proofs.Numbers.{judgement, judgement-joined}
 use Rattle.measure.proofs.SoFar.{SoFar, none-judged, judged-next, judged-all}
 use Rattle.shortest.specs.Writing.{framedOf}
 use Rattle.shortest.proofs.Puts.{first-fits, ends-within, second-fits, both-fit, put-both}
@@ -46,7 +46,7 @@ copy-first : tie.Need-element-copy-out-slot Inv-loop μ-loop
 copy-first c = omega (arith, ten-most (c .before .before .before .before .before .before .args .t3 .used))
 
 loop-again : tie.Need-loop-again Inv-loop μ-loop
-loop-again c = judged-next _ _ (row (c .before .before .before .before .before .before .before .before .before) _) (c .before .before .before .before .loop .inv) (omega arith) (judgement _ _ _ (c .before .measure .ensures)) (c .join .ensures)
+loop-again c = judged-next _ _ (row (c .before .before .before .before .before .before .before .before .before) _) (c .before .before .before .before .loop .inv) (omega arith) (judgement _ _ _ {r = c .before .measure .result} (c .before .measure .ensures)) (judgement-joined _ _ _ (c .join .ensures))
 
 -- all of it
 said : (a : tie.After-loop Inv-loop μ-loop) → a .before .loop .found ≡ measureAll (a .before .before .before .before .before .before .args .bytes .now) (fieldsOf (a .before .before .before .before .before .before .args .t3)) (a .before .before .before .before .before .before .args .longest)
