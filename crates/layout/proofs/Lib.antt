@@ -10,3 +10,4 @@ pub mod Steps
 pub mod Family
 pub mod Lossless
 pub mod Said
+pub mod Every
