@@ -1,0 +1,10 @@
+-- The layouts of ANNOUNCE, ANNOUNCE_OK, ANNOUNCE_ERROR, UNANNOUNCE, ANNOUNCE_CANCEL, SUBSCRIBE_ANNOUNCES,
+-- SUBSCRIBE_ANNOUNCES_OK, SUBSCRIBE_ANNOUNCES_ERROR and UNSUBSCRIBE_ANNOUNCES: sections 8.18 to 8.26 of source document
+-- 004. A namespace prefix has the form and the sizes of a namespace.
+use Rattle.field.specs.Fields.{list}
+use Rattle.field.specs.declared.Kind.the-variants.{Namespace}
+use Rattle.layout.specs.Layout.{Layout, done, field, failure, parameters}
+
+-- Track Namespace, and what follows it
+unfoldable pub named : Layout → Layout
+named next = field (list Namespace) λ _. next

@@ -1,0 +1,155 @@
+-- THE TABLE OF TYPES: table 2 of source document 004. Each control message stands in one row: the number of its type,
+-- its name, the family that reads and writes it, and the layout of its body.
+use Prim.Native.Nat.{ℕ}
+use Prim.Native.String.{String}
+use mathlib.Core.Bool.{Bool, true, false}
+use mathlib.Core.List.{List, [], _∷_}
+use lib.Dec.{eqb}
+use Rattle.integer.specs.Answer.{pick}
+use Rattle.field.specs.declared.Piece.{Piece}
+use Rattle.layout.specs.Layout.{Layout, done, forbidden, failure, parameters}
+use Rattle.layout.specs.Typed.{Typed}
+use Rattle.types.specs.Letters.{letters}
+use Rattle.types.specs.Sessions.{clientSetup, serverSetup, goAway}
+use Rattle.types.specs.Subscriptions.{subscribeUpdate, subscribe, subscribeOk, subscribeError, subscribeDone, only}
+use Rattle.types.specs.Fetches.{fetch, fetchOk, fetchError, fetchCancel, trackStatusRequest, trackStatus}
+use Rattle.types.specs.Announces.{named}
+
+-- what a message is about: the session, a subscription, a fetch, a namespace
+pub data Family : Type 0 where
+  setting : Family
+  subscribing : Family
+  retrieving : Family
+  announcing : Family
+
+pub record Row : Type 0 where
+  pub number : ℕ
+  pub name : String
+  pub family : Family
+  pub layout : Layout
+
+abbrev row : ℕ → String → Family → Layout → Row
+row number name family layout = record { number = number; name = name; family = family; layout = layout }
+
+-- a message of a row: the number of its type, and its fields
+abbrev pub ofRow : Row → List Piece → Typed
+ofRow r ps = record { type = r .number; pieces = ps }
+
+-- ---- the rows
+
+abbrev pub «CLIENT_SETUP» : Row
+«CLIENT_SETUP» = row 0x40 "CLIENT_SETUP" setting clientSetup
+
+abbrev pub «SERVER_SETUP» : Row
+«SERVER_SETUP» = row 0x41 "SERVER_SETUP" setting serverSetup
+
+abbrev pub GOAWAY : Row
+GOAWAY = row 0x10 "GOAWAY" setting goAway
+
+abbrev pub «MAX_SUBSCRIBE_ID» : Row
+«MAX_SUBSCRIBE_ID» = row 0x15 "MAX_SUBSCRIBE_ID" subscribing only
+
+abbrev pub «SUBSCRIBES_BLOCKED» : Row
+«SUBSCRIBES_BLOCKED» = row 0x1A "SUBSCRIBES_BLOCKED" subscribing only
+
+abbrev pub SUBSCRIBE : Row
+SUBSCRIBE = row 0x3 "SUBSCRIBE" subscribing subscribe
+
+abbrev pub «SUBSCRIBE_OK» : Row
+«SUBSCRIBE_OK» = row 0x4 "SUBSCRIBE_OK" subscribing subscribeOk
+
+abbrev pub «SUBSCRIBE_ERROR» : Row
+«SUBSCRIBE_ERROR» = row 0x5 "SUBSCRIBE_ERROR" subscribing subscribeError
+
+abbrev pub UNSUBSCRIBE : Row
+UNSUBSCRIBE = row 0xA "UNSUBSCRIBE" subscribing only
+
+abbrev pub «SUBSCRIBE_UPDATE» : Row
+«SUBSCRIBE_UPDATE» = row 0x2 "SUBSCRIBE_UPDATE" subscribing subscribeUpdate
+
+abbrev pub «SUBSCRIBE_DONE» : Row
+«SUBSCRIBE_DONE» = row 0xB "SUBSCRIBE_DONE" subscribing subscribeDone
+
+abbrev pub FETCH : Row
+FETCH = row 0x16 "FETCH" retrieving fetch
+
+abbrev pub «FETCH_OK» : Row
+«FETCH_OK» = row 0x18 "FETCH_OK" retrieving fetchOk
+
+abbrev pub «FETCH_ERROR» : Row
+«FETCH_ERROR» = row 0x19 "FETCH_ERROR" retrieving fetchError
+
+abbrev pub «FETCH_CANCEL» : Row
+«FETCH_CANCEL» = row 0x17 "FETCH_CANCEL" retrieving fetchCancel
+
+abbrev pub «TRACK_STATUS_REQUEST» : Row
+«TRACK_STATUS_REQUEST» = row 0xD "TRACK_STATUS_REQUEST" retrieving trackStatusRequest
+
+abbrev pub «TRACK_STATUS» : Row
+«TRACK_STATUS» = row 0xE "TRACK_STATUS" retrieving trackStatus
+
+abbrev pub ANNOUNCE : Row
+ANNOUNCE = row 0x6 "ANNOUNCE" announcing (named parameters)
+
+abbrev pub «ANNOUNCE_OK» : Row
+«ANNOUNCE_OK» = row 0x7 "ANNOUNCE_OK" announcing (named done)
+
+abbrev pub «ANNOUNCE_ERROR» : Row
+«ANNOUNCE_ERROR» = row 0x8 "ANNOUNCE_ERROR" announcing (named (failure done))
+
+abbrev pub UNANNOUNCE : Row
+UNANNOUNCE = row 0x9 "UNANNOUNCE" announcing (named done)
+
+abbrev pub «ANNOUNCE_CANCEL» : Row
+«ANNOUNCE_CANCEL» = row 0xC "ANNOUNCE_CANCEL" announcing (named (failure done))
+
+abbrev pub «SUBSCRIBE_ANNOUNCES» : Row
+«SUBSCRIBE_ANNOUNCES» = row 0x11 "SUBSCRIBE_ANNOUNCES" announcing (named parameters)
+
+abbrev pub «SUBSCRIBE_ANNOUNCES_OK» : Row
+«SUBSCRIBE_ANNOUNCES_OK» = row 0x12 "SUBSCRIBE_ANNOUNCES_OK" announcing (named done)
+
+abbrev pub «SUBSCRIBE_ANNOUNCES_ERROR» : Row
+«SUBSCRIBE_ANNOUNCES_ERROR» = row 0x13 "SUBSCRIBE_ANNOUNCES_ERROR" announcing (named (failure done))
+
+abbrev pub «UNSUBSCRIBE_ANNOUNCES» : Row
+«UNSUBSCRIBE_ANNOUNCES» = row 0x14 "UNSUBSCRIBE_ANNOUNCES" announcing (named done)
+
+-- all of them, in the order of 004
+unfoldable pub messages : List Row
+messages =
+    «CLIENT_SETUP» ∷ «SERVER_SETUP» ∷ GOAWAY ∷ «MAX_SUBSCRIBE_ID» ∷ «SUBSCRIBES_BLOCKED» ∷ SUBSCRIBE ∷ «SUBSCRIBE_OK»
+    ∷ «SUBSCRIBE_ERROR» ∷ UNSUBSCRIBE ∷ «SUBSCRIBE_UPDATE» ∷ «SUBSCRIBE_DONE» ∷ FETCH ∷ «FETCH_OK» ∷ «FETCH_ERROR»
+    ∷ «FETCH_CANCEL» ∷ «TRACK_STATUS_REQUEST» ∷ «TRACK_STATUS» ∷ ANNOUNCE ∷ «ANNOUNCE_OK» ∷ «ANNOUNCE_ERROR»
+    ∷ UNANNOUNCE ∷ «ANNOUNCE_CANCEL» ∷ «SUBSCRIBE_ANNOUNCES» ∷ «SUBSCRIBE_ANNOUNCES_OK» ∷ «SUBSCRIBE_ANNOUNCES_ERROR»
+    ∷ «UNSUBSCRIBE_ANNOUNCES» ∷ []
+
+-- ---- a type, looked up
+
+-- the row that a number stands in, or that it stands in none
+pub data Listed : Type 0 where
+  listed : Row → Listed
+  unlisted : Listed
+
+abbrev pub onListed : {A : Type 0} → Listed → (Row → A) → A → A
+onListed (listed r) f none = f r
+onListed unlisted f none = none
+
+unfoldable pub rowIn : List Row → ℕ → Listed
+rowIn [] type = unlisted
+rowIn (r ∷ rs) type = pick (eqb type (r .number)) (listed r) (rowIn rs type)
+
+unfoldable pub rowOf : ℕ → Listed
+rowOf type = rowIn messages type
+
+-- "Types fall into known numbers, gaps between them and numbers beyond the last"
+unfoldable pub known : ℕ → Bool
+known type = onListed (rowOf type) (λ r. true) false
+
+-- the body of a message of a type
+unfoldable pub layoutOf : ℕ → Layout
+layoutOf type = onListed (rowOf type) (λ r. r .layout) forbidden
+
+-- and its name, as 004 spells it
+unfoldable pub nameOf : ℕ → List ℕ
+nameOf type = onListed (rowOf type) (λ r. letters (r .name)) []
