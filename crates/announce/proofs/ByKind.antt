@@ -1,6 +1,6 @@
 -- A message of a kind that is known. Assumes nothing.
 use Prim.Native.Nat.{ℕ}
-use mathlib.Core.Path.{_≡_}
+use mathlib.Core.Path.{_≡_, refl}
 use mathlib.Core.List.{List, [], _∷_}
 use Rattle.field.specs.Outcome.{whole, no}
 use Rattle.field.specs.declared.Fault.{Fault}
@@ -9,14 +9,26 @@ use Rattle.layout.specs.Layout.{done, scan}
 use Rattle.layout.specs.Typed.{led, typed}
 use Rattle.layout.proofs.Family.{behind-no, behind-whole}
 use Rattle.layout.proofs.Steps.{To, Stops}
-use Rattle.measure.specs.Fields.{placed}
-use Rattle.measure.specs.declared.Fields.{Fields}
-use Rattle.announce.specs.Layouts.{rest, numberOf}
+use Rattle.types.specs.Announces.{named}
+use Rattle.announce.specs.Kinds.{rowOf, numberOf, layoutOf, rest}
+use Rattle.announce.specs.declared.kinds.Naming.the-variants.{AnnounceOk, Unannounce, SubscribeAnnouncesOk, UnsubscribeAnnounces}
+use Rattle.announce.specs.declared.kinds.Asking.the-variants.{Announce, SubscribeAnnounces}
+use Rattle.announce.specs.declared.kinds.Refusing.the-variants.{AnnounceError, AnnounceCancel, SubscribeAnnouncesError}
 use Rattle.announce.specs.declared.kinds.AnnounceKind.{AnnounceKind}
+use Rattle.announce.specs.declared.kinds.AnnounceKind.the-variants.{Named, Asked, Refused}
 
--- its number, where it was looked up
-pub numbered : {n k : ℕ} (ps : List Piece) {f : Fields} → n ≡ k → f ≡ placed (record { type = n; pieces = ps }) → f ≡ placed (record { type = k; pieces = ps })
-numbered ps e h = rw (← e) h
+-- its layout: a namespace, and what follows it
+pub layout-is : (kind : AnnounceKind) → layoutOf kind ≡ named (rest kind)
+unfolding rowOf rest
+layout-is (Asked Announce) = refl
+layout-is (Named AnnounceOk) = refl
+layout-is (Refused AnnounceError) = refl
+layout-is (Named Unannounce) = refl
+layout-is (Refused AnnounceCancel) = refl
+layout-is (Asked SubscribeAnnounces) = refl
+layout-is (Named SubscribeAnnouncesOk) = refl
+layout-is (Refused SubscribeAnnouncesError) = refl
+layout-is (Named UnsubscribeAnnounces) = refl
 
 -- what follows the namespace: a fault in it, or all of it
 module _ (s : List ℕ) (at : ℕ) (namespace : Piece) {kind k : AnnounceKind} (which : kind ≡ k) where

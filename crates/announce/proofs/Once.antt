@@ -1,9 +1,9 @@
 -- One possible answer: 01's number and values of a message, and of what was read, lose nothing. Assumes nothing.
 use mathlib.Core.Path.{_≡_, refl}
 use Rattle.layout.proofs.Lossless.{once}
-use Rattle.announce.specs.Layouts.{numberOf}
+use Rattle.announce.specs.Kinds.{rowOf, numberOf}
 use Rattle.announce.specs.Told.{saidOf, told}
-use Rattle.announce.specs.Made.{kindOf, messageOf}
+use Rattle.announce.proofs.Made.{kindOf, messageOf}
 use Rattle.announce.specs.declared.kinds.Naming.the-variants.{AnnounceOk, Unannounce, SubscribeAnnouncesOk, UnsubscribeAnnounces}
 use Rattle.announce.specs.declared.kinds.Asking.the-variants.{Announce, SubscribeAnnounces}
 use Rattle.announce.specs.declared.kinds.Refusing.the-variants.{AnnounceError, AnnounceCancel, SubscribeAnnouncesError}
@@ -15,7 +15,7 @@ use Rattle.announce.specs.declared.AnnounceRead.{AnnounceRead}
 use Rattle.announce.specs.declared.AnnounceRead.the-variants.{Whole, No}
 
 kind-back : (k : AnnounceKind) → kindOf (numberOf k) ≡ k
-unfolding kindOf numberOf
+unfolding kindOf rowOf
 kind-back (Asked Announce) = refl
 kind-back (Named AnnounceOk) = refl
 kind-back (Refused AnnounceError) = refl

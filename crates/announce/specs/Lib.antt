@@ -1,3 +1,2 @@
-pub mod Layouts
+pub mod Kinds
 pub mod Told
-pub mod Made

@@ -6,7 +6,8 @@ use Rattle.field.specs.declared.Entries.{Entries}
 use Rattle.field.specs.declared.Piece.{Piece}
 use Rattle.field.specs.declared.Piece.the-variants.{Number, Bytes, List as Listing}
 use Rattle.layout.specs.Typed.{Typed}
-use Rattle.announce.specs.Layouts.{numberOf}
+use Rattle.types.specs.Table.{ofRow}
+use Rattle.announce.specs.Kinds.{rowOf}
 use Rattle.announce.specs.declared.Announce.{Announce}
 use Rattle.announce.specs.declared.Refusal.{Refusal}
 use Rattle.announce.specs.declared.kinds.AnnounceKind.the-variants.{Named, Asked, Refused}
@@ -25,9 +26,9 @@ abbrev pub refusedPieces : Refusal → List Piece
 refusedPieces m = Listing Namespace (m .namespace) ∷ Number (m .failure .code) ∷ Bytes (m .failure .reason) ∷ []
 
 abbrev pub saidOf : AnnounceMessage → Typed
-saidOf (ANamed k n) = record { type = numberOf (Named k); pieces = namedPieces n }
-saidOf (AnAsked k m) = record { type = numberOf (Asked k); pieces = askedPieces m }
-saidOf (ARefused k m) = record { type = numberOf (Refused k); pieces = refusedPieces m }
+saidOf (ANamed k n) = ofRow (rowOf (Named k)) (namedPieces n)
+saidOf (AnAsked k m) = ofRow (rowOf (Asked k)) (askedPieces m)
+saidOf (ARefused k m) = ofRow (rowOf (Refused k)) (refusedPieces m)
 
 abbrev pub told : AnnounceRead → Outcome Typed
 told (Whole m end) = whole (saidOf m) end

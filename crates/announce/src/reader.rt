@@ -2,7 +2,7 @@
 ghost use mathlib.Core.Path.{_≡_};
 ghost use Rattle.layout.specs.Layout.{scan};
 ghost use Rattle.layout.specs.Typed.{led, typed};
-ghost use Rattle.announce.specs.Layouts.{rest, numberOf, layoutOf};
+ghost use Rattle.announce.specs.Kinds.{rest, numberOf, layoutOf};
 ghost use Rattle.announce.specs.Told.{namedPieces, told};
 use crate::Announce;
 use crate::AnnounceMessage;

@@ -1,7 +1,7 @@
 // A message as its fields, in the order of its layout.
 ghost use mathlib.Core.Path.{_≡_};
 ghost use Rattle.measure.specs.Fields.{placed};
-ghost use Rattle.announce.specs.Layouts.{numberOf};
+ghost use Rattle.announce.specs.Kinds.{numberOf};
 ghost use Rattle.announce.specs.Told.{saidOf};
 use crate::AnnounceMessage;
 use crate::kinds::AnnounceKind;
@@ -27,13 +27,12 @@ pub fn number(m: AnnounceMessage) -> u64
 pub fn fields(m: AnnounceMessage) -> Fields
     ensures { λ r. ⌜ r ≡ placed (saidOf m) ⌝ }
 {
+    let kind = number(m);
     match m {
-        AnnounceMessage::Named(k, namespace) => {
-            let kind = number_of(AnnounceKind::Named(k));
+        AnnounceMessage::Named(_, namespace) => {
             places::of1(kind, Piece::List(Kind::Namespace, namespace))
         }
-        AnnounceMessage::Asked(k, x) => {
-            let kind = number_of(AnnounceKind::Asked(k));
+        AnnounceMessage::Asked(_, x) => {
             let namespace = x.namespace;
             let parameters = x.parameters;
             places::of2(
@@ -42,8 +41,7 @@ pub fn fields(m: AnnounceMessage) -> Fields
                 Piece::List(Kind::Parameters, parameters),
             )
         }
-        AnnounceMessage::Refused(k, x) => {
-            let kind = number_of(AnnounceKind::Refused(k));
+        AnnounceMessage::Refused(_, x) => {
             let namespace = x.namespace;
             let failure = x.failure;
             let reason = failure.reason;

@@ -1,54 +1,24 @@
--- The lines of document 01 that are marked P, and no others, as one table. One claim says that every line holds.
--- Assumes nothing.
+-- The lines of document 01 that are marked P, and no others, as one table.
 use Prim.Native.Nat.{ℕ}
-use mathlib.Core.Path.{_≡_, refl}
-use mathlib.Core.Logic.{⊎-elim}
-use mathlib.Core.List.{List, [], _∷_, map, List·Memᴰ, List·Memᴰ·not-nil, List·Memᴰ·cases-cons}
+use mathlib.Core.List.{List, [], _∷_}
 use Rattle.integer.specs.Answer.{Answer, whole, refused, wrote, Written}
-use Rattle.field.specs.Entries.{numberAt, textAt, numberedAt, entryAt, mostOf, entriesAt, few, listAt}
-use Rattle.field.specs.Fields.{fieldAt, placeAt}
 use Rattle.field.specs.declared.Piece.the-variants.{Number}
-use Rattle.layout.specs.Layout.{scan, place, parameters}
 use Rattle.layout.specs.Typed.{Typed}
-use Rattle.fetch.specs.Layouts.{fetchCancel}
-use Rattle.message.specs.Types.{known, layoutOf}
-use Rattle.message.specs.Reading.{bodyOf, readOf as messageOf}
-use Rattle.message.specs.Writing.{allowedOf, writeOf as messageAs}
+use Rattle.message.specs.Reading.{readOf as messageOf}
+use Rattle.message.specs.Writing.{writeOf as messageAs}
 use Rattle.message.specs.declared.Message.{Message}
 use Rattle.message.specs.declared.Message.the-variants.{Fetch, Subscription}
-use Rattle.fetch.specs.Allowed.{allowedOf as fetchAllowed}
 use Rattle.fetch.specs.declared.FetchMessage.the-variants.{FetchCancel}
-use Rattle.measure.specs.Judging.{right, sized}
-use Rattle.measure.specs.Measuring.{rightAll, sizedAll, encodeAll}
-use Rattle.shortest.specs.Writing.{writtenOf, frame}
-use Rattle.field.specs.Value.{mean, encField, encode}
-use Rattle.measure.specs.Small.{smallSpan, smallList, smallPiece, smallAll}
 use Rattle.field.specs.Value.{nowhere}
-use Rattle.field.specs.Rules.{askable, givable}
-use Rattle.subscription.specs.Layouts.{filter, delivery, subscribe, content, subscribeOk}
-use Rattle.subscription.specs.Made.{messageOf as subscriptionOf}
-use Rattle.message.specs.Made.{familyOf, messageOf as madeOf, answerOf}
-use Rattle.subscription.specs.Allowed.{allowedFilter, allowedOf as subscriptionAllowed}
 use Rattle.subscription.specs.declared.Filter.the-variants.{Latest}
 use Rattle.subscription.specs.declared.SubscriptionMessage.the-variants.{Subscribe}
-use Rattle.message.specs.Sound.{soundOf}
-use Rattle.row.specs.Places.{before, small, smallPlace}
-use Rattle.row.specs.Ranges.{inRange, isKnown, smallRange, settledOf}
-use Rattle.row.specs.Rows.{agree, suits, isRow, isPending, isNowhere, isUnused, greater, risen, countedRow, arriveOf, openOf}
-use Rattle.ledger.specs.Ledgers.{held, rising, hasAlias, distinct, allUnused, bounded, isLedger}
-use Rattle.ledger.specs.Answers.{Said, only, breaks, stops, gateOf, gated}
-use Rattle.ledger.specs.Steps.{startOf, find, changed, added, subscribeStep, okStep, arrivalStep, smallArrival, takeOf, arrivalOf}
+use Rattle.ledger.specs.Answers.{Said, only}
+use Rattle.ledger.specs.Steps.{startOf, takeOf}
 use Rattle.ledger.specs.declared.Ledger.{Ledger}
 use Rattle.ledger.specs.declared.Part.the-variants.{Subscriber}
-use Rattle.trace.specs.Fields.{tagOf, valueOf, sizeOf as fieldSize, isWhole}
-use Rattle.trace.specs.Feeding.{feedByte, feed}
-use Rattle.text.specs.Letters.{letters, decimalIn, decimalOf}
-use Rattle.text.specs.Words.{wordOf}
-use Rattle.text.specs.Lines.{itemOf, endedOf, isNone, lineOf}
-use Rattle.run.specs.Events.{startedBy, controlBy, arrivedBy, eventOf}
-use Rattle.run.specs.Progressing.{offsetOf, stepOf, step, fed, endOf, runOf}
-use Rattle.report.specs.Report.{rowsText, ledgerText, textOf, reportOf}
-use Rattle.integer.specs.Integer.{wide, room, tag, sizeOf, spell, bytesOf, encOf, readOf, putOf, writeOf}
+use Rattle.types.specs.Letters.{letters}
+use Rattle.report.specs.Report.{reportOf}
+use Rattle.integer.specs.Integer.{readOf, writeOf}
 
 -- a line: what is done, and what it comes to
 pub data Line : Type 0 where
@@ -153,16 +123,3 @@ lines =
     -- P12 the report's history gives its row
     ∷ reports history (letters "open 1\nID ALIAS STATE GROUP OBJECT COUNT\n3 7 active 65536 0 2\n")
     ∷ []
-
-computed : map found lines ≡ map stated lines
-unfolding found stated lines wide room tag sizeOf spell bytesOf readOf putOf writeOf numberAt fieldAt scan fetchCancel known layoutOf bodyOf messageOf messageAs allowedOf fetchAllowed right sized rightAll sizedAll encodeAll encode encField mean writtenOf frame encOf answersTo smallSpan smallList smallPiece smallAll askable allowedFilter subscriptionAllowed soundOf small smallPlace isKnown smallRange agree suits isRow isPending isNowhere isUnused held rising hasAlias distinct allUnused bounded isLedger breaks stops gateOf gated startOf added subscribeStep takeOf textAt numberedAt entryAt mostOf entriesAt few listAt placeAt place parameters givable filter delivery subscribe content subscribeOk subscriptionOf familyOf madeOf answerOf before inRange settledOf greater risen countedRow arriveOf openOf find changed okStep arrivalStep smallArrival arrivalOf tagOf valueOf fieldSize isWhole feedByte feed letters decimalIn decimalOf wordOf itemOf endedOf isNone lineOf startedBy controlBy arrivedBy eventOf offsetOf stepOf step fed endOf runOf rowsText ledgerText textOf reportOf
-computed = refl
-
--- two functions that map a list alike agree at each of its members
-alike : {A B : Type 0} (f g : A → B) (xs : List A) → map f xs ≡ map g xs → (x : A) → List·Memᴰ x xs → f x ≡ g x
-alike f g [] e x m = absurd (List·Memᴰ·not-nil m)
-alike f g (y ∷ ys) e x m = ⊎-elim (λ p. rw p (cc)) (λ q. alike f g ys (cc) x q) (List·Memᴰ·cases-cons m)
-
--- THE CLAIM: every line of the table holds
-pub every-line : (line : Line) → List·Memᴰ line lines → found line ≡ stated line
-every-line = alike found stated lines computed

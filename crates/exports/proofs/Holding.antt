@@ -14,12 +14,11 @@ use Rattle.integer.specs.Integer.{over}
 use Rattle.field.specs.Outcome.{both}
 use Rattle.row.specs.Places.{small}
 use Rattle.message.specs.Reading.{readOf, told as toldReading}
-use Rattle.message.specs.Made.{answerOf}
 use Rattle.message.specs.declared.Message.{Message}
 use Rattle.message.specs.declared.Reading.{Reading}
 use Rattle.message.specs.declared.Reading.the-variants.{Whole, More, Unknown, TooLong, Unfilled, Forbidden, Oversize}
 use Rattle.message.proofs.Reading.{the-type}
-use Rattle.message.proofs.Once.{answer-back}
+use Rattle.message.proofs.OneReading.{readingOf, reading-only}
 use Rattle.ledger.specs.Ledgers.{emptyLedger}
 use Rattle.ledger.specs.Answers.{Came, said, told, done}
 use Rattle.ledger.specs.Steps.{startOf, refusedStart, takeOf}
@@ -136,7 +135,7 @@ module _ (before info : List ℕ) (m : Message) (used : ℕ) {l : Ledger} (e : l
 pub read-as : (s before info : List ℕ) {r v : Reading} {n : ℕ} {out inf : List ℕ} → toldReading r ≡ readOf s → r ≡ v → Does (takenBy v before info) n out inf → Does (messageIn s before info) n out inf
 unfolding messageIn
 read-as s before info {r} {v} f h d =
-    let e : answerOf (readOf s) ≡ v = ap answerOf (sym f) ∙ answer-back r ∙ h in
+    let e : readingOf s ≡ v = sym (reading-only s r f) ∙ h in
     rw e d
 
 -- "every other reading ends there", by the place of its variant

@@ -7,9 +7,8 @@ use lib.Dec.{leb, eqb}
 use Rattle.integer.specs.Answer.{guard, pick, number}
 use Rattle.integer.specs.Integer.{over}
 use Rattle.field.specs.declared.Arrival.{Arrival}
-use Rattle.message.specs.Made.{answerOf}
-use Rattle.message.specs.Reading.{readOf}
 use Rattle.message.specs.declared.Message.{Message}
+use Rattle.message.proofs.OneReading.{readingOf}
 use Rattle.message.specs.declared.Reading.{Reading}
 use Rattle.message.specs.declared.Reading.the-variants.{Whole, More, Unknown, TooLong, Unfilled, Forbidden, Oversize}
 use Rattle.ledger.specs.Answers.{Came}
@@ -59,8 +58,9 @@ takenBy Unfilled before info = refusing 4 before info
 takenBy Forbidden before info = refusing 5 before info
 takenBy Oversize before info = refusing 6 before info
 
+-- the one reading that `told r ≡ readOf s` names
 unfoldable pub messageIn : List ℕ → List ℕ → List ℕ → Doing
-messageIn s before info = takenBy (answerOf (readOf s)) before info
+messageIn s before info = takenBy (readingOf s) before info
 
 -- a run of arrivals, and 01's number of each; 14, and 7 where there is no room for these
 unfoldable pub arrivalsIn : List ℕ → List ℕ → List ℕ → Doing

@@ -2,7 +2,7 @@
 use mathlib.Core.Path.{_≡_}
 use mathlib.Core.Bool.{Bool, true, false, not}
 use borrow.Author.Tests.{not-true, not-false}
-use Rattle.fetch.specs.Rules.{isStatus, mayHold}
+use Rattle.types.specs.Rules.{isStatus, mayHold}
 use Rattle.fetch.specs.Allowed.{allowedOf}
 use Rattle.fetch.specs.declared.TrackStatus.{TrackStatus}
 use Rattle.fetch.specs.declared.FetchMessage.{FetchMessage}

@@ -6,7 +6,7 @@ use Rattle.field.specs.Outcome.{Outcome, whole, no}
 use Rattle.layout.specs.Typed.{Typed}
 use Rattle.layout.proofs.Lossless.{once}
 use Rattle.fetch.specs.Told.{fetchPieces, saidOf, told}
-use Rattle.fetch.specs.Made.{fetchOf, messageOf}
+use Rattle.fetch.proofs.Made.{fetchOf, messageOf}
 use Rattle.fetch.specs.declared.Range.{Range}
 use Rattle.fetch.specs.declared.Range.the-variants.{Standalone, Joining}
 use Rattle.fetch.specs.declared.Fetch.{Fetch}

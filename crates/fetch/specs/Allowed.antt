@@ -2,7 +2,7 @@
 use mathlib.Core.Bool.{Bool, true}
 use Rattle.field.specs.Outcome.{both}
 use Rattle.field.specs.Rules.{askable, givable}
-use Rattle.fetch.specs.Rules.{isStatus, mayHold}
+use Rattle.types.specs.Rules.{isStatus, mayHold}
 use Rattle.fetch.specs.declared.FetchMessage.{FetchMessage}
 use Rattle.fetch.specs.declared.FetchMessage.the-variants.{Fetch, FetchOk, FetchError, FetchCancel, TrackStatusRequest, TrackStatus}
 
@@ -13,4 +13,5 @@ allowedOf (FetchError m) = true
 allowedOf (FetchCancel id) = true
 allowedOf (TrackStatusRequest t) = true
 allowedOf (TrackStatus m) =
-    both (isStatus (m .status)) (both (mayHold (m .status) (m .largest .group)) (mayHold (m .status) (m .largest .object)))
+    both (isStatus (m .status))
+    (both (mayHold (m .status) (m .largest .group)) (mayHold (m .status) (m .largest .object)))

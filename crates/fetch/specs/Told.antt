@@ -8,6 +8,7 @@ use Rattle.field.specs.declared.Kind.the-variants.{Parameters}
 use Rattle.field.specs.declared.Piece.{Piece}
 use Rattle.field.specs.declared.Piece.the-variants.{Number, Byte, Bytes, List as Listing, Track as Tracked}
 use Rattle.layout.specs.Typed.{Typed}
+use Rattle.types.specs.Table.{ofRow, FETCH, «FETCH_OK», «FETCH_ERROR», «FETCH_CANCEL», «TRACK_STATUS_REQUEST», «TRACK_STATUS»}
 use Rattle.fetch.specs.declared.parameters.Head.{Head}
 use Rattle.fetch.specs.declared.parameters.Front.{Front}
 use Rattle.fetch.specs.declared.parameters.Front.the-variants.{Fetch as FrontOfFetch, FetchOk as FrontOfOk}
@@ -31,16 +32,19 @@ joiningType absolute = pick absolute 3 2
 
 abbrev pub rangePieces : Range → List Piece
 rangePieces (Standalone r) =
-    Number 1 ∷ Tracked (r .track) ∷ Number (r .start .group) ∷ Number (r .start .object) ∷ Number (r .end .group) ∷ Number (r .end .object) ∷ []
+    Number 1 ∷ Tracked (r .track) ∷ Number (r .start .group) ∷ Number (r .start .object)
+    ∷ Number (r .end .group) ∷ Number (r .end .object) ∷ []
 rangePieces (Joining j) = Number (joiningType (j .absolute)) ∷ Number (j .id) ∷ Number (j .start) ∷ []
 
 abbrev pub fetchPieces : Fetch → List Piece
 fetchPieces m =
-    Number (m .id) ∷ Byte (m .priority) ∷ Byte (m .order) ∷ (rangePieces (m .range) ++ Listing Parameters (m .parameters) ∷ [])
+    Number (m .id) ∷ Byte (m .priority) ∷ Byte (m .order)
+    ∷ (rangePieces (m .range) ++ Listing Parameters (m .parameters) ∷ [])
 
 abbrev pub okPieces : FetchOk → List Piece
 okPieces m =
-    Number (m .id) ∷ Byte (m .order) ∷ Byte (m .«end_of_track») ∷ Number (m .largest .group) ∷ Number (m .largest .object)
+    Number (m .id) ∷ Byte (m .order) ∷ Byte (m .«end_of_track»)
+    ∷ Number (m .largest .group) ∷ Number (m .largest .object)
     ∷ Listing Parameters (m .parameters) ∷ []
 
 abbrev pub errorPieces : FetchError → List Piece
@@ -51,12 +55,12 @@ statusPieces m =
     Tracked (m .track) ∷ Number (m .status) ∷ Number (m .largest .group) ∷ Number (m .largest .object) ∷ []
 
 abbrev pub saidOf : FetchMessage → Typed
-saidOf (AFetch m) = record { type = 0x16; pieces = fetchPieces m }
-saidOf (AFetchOk m) = record { type = 0x18; pieces = okPieces m }
-saidOf (AFetchError m) = record { type = 0x19; pieces = errorPieces m }
-saidOf (AFetchCancel id) = record { type = 0x17; pieces = Number id ∷ [] }
-saidOf (ATrackStatusRequest t) = record { type = 0xD; pieces = Tracked t ∷ [] }
-saidOf (ATrackStatus m) = record { type = 0xE; pieces = statusPieces m }
+saidOf (AFetch m) = ofRow FETCH (fetchPieces m)
+saidOf (AFetchOk m) = ofRow «FETCH_OK» (okPieces m)
+saidOf (AFetchError m) = ofRow «FETCH_ERROR» (errorPieces m)
+saidOf (AFetchCancel id) = ofRow «FETCH_CANCEL» (Number id ∷ [])
+saidOf (ATrackStatusRequest t) = ofRow «TRACK_STATUS_REQUEST» (Tracked t ∷ [])
+saidOf (ATrackStatus m) = ofRow «TRACK_STATUS» (statusPieces m)
 
 abbrev pub told : FetchRead → Outcome Typed
 told (Whole m end) = whole (saidOf m) end
@@ -65,6 +69,7 @@ told (No fault) = no fault
 -- ---- what a reader hands on: what stands before the parameters
 
 abbrev pub frontOf : Front → Typed
-frontOf (FrontOfFetch head range) = record { type = 0x16; pieces = headPieces head ++ rangePieces range }
+frontOf (FrontOfFetch head range) = ofRow FETCH (headPieces head ++ rangePieces range)
 frontOf (FrontOfOk id order endOfTrack largest) =
-    record { type = 0x18; pieces = Number id ∷ Byte order ∷ Byte endOfTrack ∷ Number (largest .group) ∷ Number (largest .object) ∷ [] }
+    ofRow «FETCH_OK»
+    (Number id ∷ Byte order ∷ Byte endOfTrack ∷ Number (largest .group) ∷ Number (largest .object) ∷ [])

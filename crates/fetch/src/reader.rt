@@ -4,7 +4,9 @@ ghost use mathlib.Core.List.{[], _∷_, _++_};
 ghost use Rattle.field.specs.declared.Piece.the-variants.{Number, Track as Tracked};
 ghost use Rattle.layout.specs.Layout.{scan};
 ghost use Rattle.layout.specs.Typed.{led, typed};
-ghost use Rattle.fetch.specs.Layouts.{fetch, range, standalone, joining, fetchOk, fetchError, trackStatus, largest, numberOf, layoutOf};
+ghost use Rattle.types.specs.Fetches.{fetch, range, standalone, joining, fetchOk, fetchError, trackStatus, largest};
+ghost use Rattle.types.specs.Table.{FETCH, «FETCH_OK», «FETCH_ERROR», «TRACK_STATUS»};
+ghost use Rattle.fetch.specs.Kinds.{numberOf, layoutOf};
 ghost use Rattle.fetch.specs.Told.{headPieces, joiningType, told};
 use crate::FetchError;
 use crate::FetchMessage;
@@ -53,7 +55,7 @@ pub fn read(kind: FetchKind, s: &[u8], at: usize) -> FetchRead
 
 // FETCH: what stands before the fetch type, then what it says is fetched.
 fn read_fetch(s: &[u8], at: usize) -> FetchRead
-    ensures { λ r. ⌜ told r ≡ typed 0x16 (scan fetch (now (s .entry)) at) ⌝ }
+    ensures { λ r. ⌜ told r ≡ typed (FETCH .number) (scan fetch (now (s .entry)) at) ⌝ }
 {
     let NumberRead::Whole(id, a) = field::read_number(s, at) else {
         return FetchRead::No(Fault::Cut);
@@ -80,7 +82,7 @@ fn read_fetch(s: &[u8], at: usize) -> FetchRead
 
 // What the fetch type says is fetched.
 fn read_range(s: &[u8], at: usize, head: Head) -> FetchRead
-    ensures { λ r. ⌜ told r ≡ typed 0x16 (led (headPieces head) (scan range (now (s .entry)) at)) ⌝ }
+    ensures { λ r. ⌜ told r ≡ typed (FETCH .number) (led (headPieces head) (scan range (now (s .entry)) at)) ⌝ }
 {
     let NumberRead::Whole(kind, a) = field::read_number(s, at) else {
         return FetchRead::No(Fault::Cut);
@@ -94,7 +96,7 @@ fn read_range(s: &[u8], at: usize, head: Head) -> FetchRead
 }
 
 fn read_standalone(s: &[u8], at: usize, head: Head) -> FetchRead
-    ensures { λ r. ⌜ told r ≡ typed 0x16 (led (headPieces head ++ Number 1 ∷ []) (scan standalone (now (s .entry)) at)) ⌝ }
+    ensures { λ r. ⌜ told r ≡ typed (FETCH .number) (led (headPieces head ++ Number 1 ∷ []) (scan standalone (now (s .entry)) at)) ⌝ }
 {
     match field::read_track(s, at) {
         TrackRead::No(fault) => FetchRead::No(fault),
@@ -114,7 +116,7 @@ fn read_standalone(s: &[u8], at: usize, head: Head) -> FetchRead
 }
 
 fn read_joining(s: &[u8], at: usize, head: Head, absolute: bool) -> FetchRead
-    ensures { λ r. ⌜ told r ≡ typed 0x16 (led (headPieces head ++ Number (joiningType absolute) ∷ []) (scan joining (now (s .entry)) at)) ⌝ }
+    ensures { λ r. ⌜ told r ≡ typed (FETCH .number) (led (headPieces head ++ Number (joiningType absolute) ∷ []) (scan joining (now (s .entry)) at)) ⌝ }
 {
     let NumberRead::Whole(id, a) = field::read_number(s, at) else {
         return FetchRead::No(Fault::Cut);
@@ -132,7 +134,7 @@ fn read_joining(s: &[u8], at: usize, head: Head, absolute: bool) -> FetchRead
 
 // FETCH_OK.
 fn read_ok(s: &[u8], at: usize) -> FetchRead
-    ensures { λ r. ⌜ told r ≡ typed 0x18 (scan fetchOk (now (s .entry)) at) ⌝ }
+    ensures { λ r. ⌜ told r ≡ typed («FETCH_OK» .number) (scan fetchOk (now (s .entry)) at) ⌝ }
 {
     let NumberRead::Whole(id, a) = field::read_number(s, at) else {
         return FetchRead::No(Fault::Cut);
@@ -154,7 +156,7 @@ fn read_ok(s: &[u8], at: usize) -> FetchRead
 
 // FETCH_ERROR.
 fn read_error(s: &[u8], at: usize) -> FetchRead
-    ensures { λ r. ⌜ told r ≡ typed 0x19 (scan fetchError (now (s .entry)) at) ⌝ }
+    ensures { λ r. ⌜ told r ≡ typed («FETCH_ERROR» .number) (scan fetchError (now (s .entry)) at) ⌝ }
 {
     let NumberRead::Whole(id, a) = field::read_number(s, at) else {
         return FetchRead::No(Fault::Cut);
@@ -169,7 +171,7 @@ fn read_error(s: &[u8], at: usize) -> FetchRead
 
 // TRACK_STATUS.
 fn read_status(s: &[u8], at: usize) -> FetchRead
-    ensures { λ r. ⌜ told r ≡ typed 0xE (scan trackStatus (now (s .entry)) at) ⌝ }
+    ensures { λ r. ⌜ told r ≡ typed («TRACK_STATUS» .number) (scan trackStatus (now (s .entry)) at) ⌝ }
 {
     match field::read_track(s, at) {
         TrackRead::No(fault) => FetchRead::No(fault),
@@ -189,7 +191,7 @@ fn read_status(s: &[u8], at: usize) -> FetchRead
 
 // The largest group and object, each judged as it is read.
 fn read_largest(s: &[u8], at: usize, track: Track, status: u64) -> FetchRead
-    ensures { λ r. ⌜ told r ≡ typed 0xE (led (Tracked track ∷ Number status ∷ []) (scan (largest status) (now (s .entry)) at)) ⌝ }
+    ensures { λ r. ⌜ told r ≡ typed («TRACK_STATUS» .number) (led (Tracked track ∷ Number status ∷ []) (scan (largest status) (now (s .entry)) at)) ⌝ }
 {
     let NumberRead::Whole(group, a) = field::read_number(s, at) else {
         return FetchRead::No(Fault::Cut);

@@ -1,6 +1,6 @@
 // Which values a TRACK_STATUS may hold.
 ghost use mathlib.Core.Path.{_≡_};
-ghost use Rattle.fetch.specs.Rules.{isStatus, mayHold};
+ghost use Rattle.types.specs.Rules.{isStatus, mayHold};
 
 pub fn is_status(status: u64) -> bool
     ensures { λ r. ⌜ r ≡ isStatus status ⌝ }

@@ -31,13 +31,14 @@ pub fn number(m: FetchMessage) -> u64
 pub fn fields(m: FetchMessage) -> Fields
     ensures { λ r. ⌜ r ≡ placed (saidOf m) ⌝ }
 {
+    let kind = number(m);
     match m {
-        FetchMessage::Fetch(x) => fetch_fields(x),
+        FetchMessage::Fetch(x) => fetch_fields(kind, x),
         FetchMessage::FetchOk(x) => {
             let largest = x.largest;
             let parameters = x.parameters;
             places::of6(
-                0x18,
+                kind,
                 Piece::Number(x.id),
                 Piece::Byte(x.order),
                 Piece::Byte(x.end_of_track),
@@ -50,20 +51,20 @@ pub fn fields(m: FetchMessage) -> Fields
             let failure = x.failure;
             let reason = failure.reason;
             places::of3(
-                0x19,
+                kind,
                 Piece::Number(x.id),
                 Piece::Number(failure.code),
                 Piece::Bytes(reason),
             )
         }
-        FetchMessage::FetchCancel(id) => places::of1(0x17, Piece::Number(id)),
-        FetchMessage::TrackStatusRequest(t) => places::of1(0xD, Piece::Track(t)),
-        FetchMessage::TrackStatus(x) => status_fields(x),
+        FetchMessage::FetchCancel(id) => places::of1(kind, Piece::Number(id)),
+        FetchMessage::TrackStatusRequest(t) => places::of1(kind, Piece::Track(t)),
+        FetchMessage::TrackStatus(x) => status_fields(kind, x),
     }
 }
 
-fn fetch_fields(x: Fetch) -> Fields
-    ensures { λ r. ⌜ r ≡ placed (record { type = 0x16; pieces = fetchPieces x }) ⌝ }
+fn fetch_fields(kind: u64, x: Fetch) -> Fields
+    ensures { λ r. ⌜ r ≡ placed (record { type = kind; pieces = fetchPieces x }) ⌝ }
 {
     let id = Piece::Number(x.id);
     let priority = Piece::Byte(x.priority);
@@ -77,7 +78,7 @@ fn fetch_fields(x: Fetch) -> Fields
             let start = r.start;
             let end = r.end;
             places::of10(
-                0x16,
+                kind,
                 id,
                 priority,
                 order,
@@ -91,21 +92,21 @@ fn fetch_fields(x: Fetch) -> Fields
             )
         }
         Range::Joining(j) => {
-            let kind = Piece::Number(joining_type(j.absolute));
+            let joining = Piece::Number(joining_type(j.absolute));
             let joined = Piece::Number(j.id);
             let start = Piece::Number(j.start);
-            places::of7(0x16, id, priority, order, kind, joined, start, last)
+            places::of7(kind, id, priority, order, joining, joined, start, last)
         }
     }
 }
 
-fn status_fields(x: TrackStatus) -> Fields
-    ensures { λ r. ⌜ r ≡ placed (record { type = 0xE; pieces = statusPieces x }) ⌝ }
+fn status_fields(kind: u64, x: TrackStatus) -> Fields
+    ensures { λ r. ⌜ r ≡ placed (record { type = kind; pieces = statusPieces x }) ⌝ }
 {
     let track = x.track;
     let largest = x.largest;
     places::of4(
-        0xE,
+        kind,
         Piece::Track(track),
         Piece::Number(x.status),
         Piece::Number(largest.group),

@@ -19,9 +19,10 @@ use Rattle.shortest.proofs.Again.{scanned-right}
 use Rattle.shortest.proofs.Longer.{longer-found}
 use Rattle.shortest.proofs.Passed.{Passes}
 use Rattle.shortest.proofs.Passed as passed
-use Rattle.message.specs.Types.{layoutOf, saidOf}
+use Rattle.types.specs.Table.{layoutOf}
+use Rattle.message.specs.Types.{saidOf}
 use Rattle.message.specs.Reading.{longest, readOf}
-use Rattle.message.specs.Writing.{allowedOf, writeOf}
+use Rattle.message.specs.Writing.{allowedOf, writeUpTo, writeOf}
 use Rattle.message.specs.declared.Message.{Message}
 use Rattle.message.proofs.Front.{parts}
 use Rattle.message.proofs.Shape.{permitted-allowed}
@@ -37,7 +38,7 @@ passes s m {used} h =
     let type = saidOf m .type in
     let ps = saidOf m .pieces in
     let body = encodeAll s ps in
-    let w = parts s h in
+    let w = parts longest s h in
     let t = number-at s 0 (w .head .type-at) in
     let found = longer-found (layoutOf type) s used (w .at) (w .body) in
     let best = scanned-shortest (scanned (layoutOf type) s (w .at) found) in
@@ -55,15 +56,15 @@ passes s m {used} h =
 module _ (s : List ℕ) (m : Message) (before : List ℕ) {used : ℕ} (read : readOf s ≡ answered (saidOf m) used) where
   -- A message that was read takes, when it is written, no more bytes than it was read from;
   pub no-more : {n : ℕ} → writeOf s m before .says ≡ wrote n → n ≤ used
-  unfolding writeOf
+  unfolding writeUpTo
   no-more = passed.no-more (passes s m read) before
 
   -- it is refused for want of room only, never for a value, a size or its length;
   pub only-room : {k : ℕ} → writeOf s m before .says ≡ refused k → k ≡ 7
-  unfolding writeOf
+  unfolding writeUpTo
   only-room = passed.only-room (passes s m read) before
 
   -- and where there is as much room as it was read from, it is written.
   pub written-again : used ≤ length before → (n : ℕ) × (writeOf s m before .says ≡ wrote n)
-  unfolding writeOf
+  unfolding writeUpTo
   written-again = passed.written-then (passes s m read) before

@@ -15,7 +15,7 @@ use Rattle.shortest.specs.Writing.{frame}
 use Rattle.shortest.proofs.Passed.{was-written}
 use Rattle.shortest.proofs.Alike as shortest
 use Rattle.message.specs.Types.{saidOf}
-use Rattle.message.specs.Writing.{allowedOf, writeOf}
+use Rattle.message.specs.Writing.{allowedOf, writeUpTo, writeOf}
 use Rattle.message.specs.declared.Message.{Message}
 
 -- the bytes of a message: Type, Length and body, in their shortest form
@@ -32,12 +32,12 @@ pub record Frame (s : List ℕ) (m : Message) (before : List ℕ) (n : ℕ) : Ty
   pub stands : take n (writeOf s m before .holds) ≡ framed s (saidOf m)
 
 pub is-frame : (s : List ℕ) (m : Message) (before : List ℕ) {n : ℕ} → writeOf s m before .says ≡ wrote n → Frame s m before n
-unfolding writeOf
+unfolding writeUpTo
 is-frame s m before h = let w = was-written _ _ _ _ before h in record { used = w .used; stands = shortest.wrote-bytes w }
 
 -- Writing again into the buffer that was just written changes nothing.
 pub again : (s : List ℕ) (m : Message) (before : List ℕ) → writeOf s m (writeOf s m before .holds) ≡ writeOf s m before
-unfolding writeOf
+unfolding writeUpTo
 again s m before = shortest.written-again _ _ _ _ before
 
 module _ (s t : List ℕ) (m k : Message) (same : Same s (saidOf m) t (saidOf k)) where
@@ -51,14 +51,14 @@ module _ (s t : List ℕ) (m k : Message) (same : Same s (saidOf m) t (saidOf k)
 
   -- a message that is not answered with 5 holds parts that make what it states
   right : (s : List ℕ) (m : Message) (before : List ℕ) → (writeOf s m before .says ≡ refused 5 → ⊥) → (allowedOf m ≡ true) × (rightAll s (saidOf m .pieces) ≡ true)
-  unfolding writeOf
+  unfolding writeUpTo
   right s m before h =
       let p = both-true (allowedOf m) _ (shortest.not-five _ _ _ _ before h) in
       (p .0, both-true (leb (saidOf m .type) greatest) (rightAll s (saidOf m .pieces)) (p .1) .1)
 
   -- Into the same buffer it is written alike, with the same answer; or one of the two is answered with 5.
   pub written-alike : (before : List ℕ) → (writeOf s m before .says ≡ refused 5 → ⊥) → (writeOf t k before .says ≡ refused 5 → ⊥) → writeOf s m before ≡ writeOf t k before
-  unfolding writeOf
+  unfolding writeUpTo
   written-alike before h i =
       let p = right s m before h in
       let q = right t k before i in

@@ -20,7 +20,8 @@ use Rattle.field.proofs.Found.{number-at}
 use Rattle.field.proofs.Unjudged.{found-number, cut-number}
 use Rattle.layout.specs.Layout.{scan}
 use Rattle.layout.specs.Typed.{Typed, typed}
-use Rattle.message.specs.Types.{known, layoutOf, numberOf, typeOf, toldType}
+use Rattle.types.specs.Table.{known, layoutOf}
+use Rattle.message.specs.Types.{numberOf, typeOf, toldType}
 use Rattle.message.specs.Reading.{longest, filledBy, readOf}
 use Rattle.message.specs.declared.Kind.{Kind}
 use Rattle.message.specs.declared.Found.{Found}

@@ -5,23 +5,24 @@ use mathlib.Core.List.{List}
 use Rattle.field.specs.Outcome.{Outcome}
 use Rattle.layout.specs.Layout.{Layout, scan}
 use Rattle.layout.specs.Typed.{Typed, typed}
-use Rattle.subscription.specs.Layouts.{numberOf as subscriptionNumber, layoutOf as subscriptionLayout}
+use Rattle.subscription.specs.Kinds.{numberOf as subscriptionNumber, layoutOf as subscriptionLayout}
 use Rattle.subscription.specs.Told.{told as subscriptionTold}
 use Rattle.subscription.specs.declared.SubscriptionRead.{SubscriptionRead}
 use Rattle.subscription.specs.declared.kinds.SubscriptionKind.{SubscriptionKind}
-use Rattle.fetch.specs.Layouts.{numberOf as fetchNumber, layoutOf as fetchLayout}
+use Rattle.fetch.specs.Kinds.{numberOf as fetchNumber, layoutOf as fetchLayout}
 use Rattle.fetch.specs.Told.{told as fetchTold}
 use Rattle.fetch.specs.declared.FetchRead.{FetchRead}
 use Rattle.fetch.specs.declared.kinds.FetchKind.{FetchKind}
-use Rattle.announce.specs.Layouts.{numberOf as announceNumber, layoutOf as announceLayout}
+use Rattle.announce.specs.Kinds.{numberOf as announceNumber, layoutOf as announceLayout}
 use Rattle.announce.specs.Told.{told as announceTold}
 use Rattle.announce.specs.declared.AnnounceRead.{AnnounceRead}
 use Rattle.announce.specs.declared.kinds.AnnounceKind.{AnnounceKind}
-use Rattle.session.specs.Layouts.{numberOf as sessionNumber, layoutOf as sessionLayout}
+use Rattle.session.specs.Kinds.{numberOf as sessionNumber, layoutOf as sessionLayout}
 use Rattle.session.specs.Told.{told as sessionTold}
 use Rattle.session.specs.declared.SessionRead.{SessionRead}
 use Rattle.session.specs.declared.kinds.SessionKind.{SessionKind}
-use Rattle.message.specs.Types.{numberOf, layoutOf}
+use Rattle.types.specs.Table.{layoutOf}
+use Rattle.message.specs.Types.{numberOf}
 use Rattle.message.specs.declared.Kind.{Kind}
 use Rattle.message.specs.declared.Kind.the-variants.{Subscription, Fetch, Announce, Session}
 use Rattle.message.proofs.Layouts.{layout-subscription, layout-fetch, layout-announce, layout-session}

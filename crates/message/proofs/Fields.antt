@@ -15,16 +15,16 @@ use Rattle.layout.specs.Typed.{Typed}
 use Rattle.layout.proofs.Scanned.{scanned}
 use Rattle.layout.proofs.Shortest.{scanned-shortest}
 use Rattle.layout.proofs.Inside as layout
-use Rattle.message.specs.Types.{layoutOf}
+use Rattle.types.specs.Table.{layoutOf}
 use Rattle.message.proofs.Front.{WholeAt}
 
-module _ (s : List ℕ) {t : Typed} {used : ℕ} where
+module _ {limit : ℕ} (s : List ℕ) {t : Typed} {used : ℕ} where
   -- its fields are permitted,
-  pub allowed : WholeAt s t used → permitted (layoutOf (t .type)) (map (mean (take used s)) (t .pieces)) ≡ true
+  pub allowed : WholeAt limit s t used → permitted (layoutOf (t .type)) (map (mean (take used s)) (t .pieces)) ≡ true
   allowed w = scanned-shortest (scanned (layoutOf (t .type)) (take used s) (w .at) (w .body)) .allowed
 
   -- it takes two bytes at least, and all of them are there,
-  pub used-there : WholeAt s t used → (2 ≤ used) × (used ≤ length s)
+  pub used-there : WholeAt limit s t used → (2 ≤ used) × (used ≤ length s)
   used-there w =
       let h = w .head in
       let type-ends = number-at s 0 (h .type-at) .after in
@@ -32,7 +32,7 @@ module _ (s : List ℕ) {t : Typed} {used : ℕ} where
       (omega (arith, w .ends), w .present)
 
   -- and its parts lie behind the Type and the Length that are there
-  pub inside : {next size at : ℕ} → numberAt s 0 ≡ whole (t .type) next → numberAt s next ≡ whole size at → WholeAt s t used → Inside at used (t .pieces)
+  pub inside : {next size at : ℕ} → numberAt s 0 ≡ whole (t .type) next → numberAt s next ≡ whole size at → WholeAt limit s t used → Inside at used (t .pieces)
   inside {next} {at = at} e f w =
       let mid : next ≡ w .head .next = cc in
       let end : at ≡ w .at = cc in

@@ -1,11 +1,12 @@
 -- Which type numbers are known, and which are not. Assumes nothing.
-use Prim.Native.Nat.{ℕ, suc, _≤_, _<_}
-use mathlib.Core.Path.{_≡_, ap, _∙_}
+use Prim.Native.Nat.{ℕ, zero, suc}
+use mathlib.Core.Path.{_≡_, refl, ap, _∙_}
 use mathlib.Core.Bool.{false}
-use native.Mathlib.Omega.{arith}
-use borrow.Author.Tests.{le-leb, lt-leb}
+use mathlib.Core.List.{List, [], _∷_}
 use Rattle.integer.specs.Answer.{whole, refused}
-use Rattle.message.specs.Types.{known, numberOf, typeOf}
+use Rattle.types.specs.Table.{messages, known}
+use Rattle.types.proofs.Gaps.{the-short-gap, Missed, unknown-missed}
+use Rattle.message.specs.Types.{numberOf, typeOf}
 use Rattle.message.specs.declared.Kind.{Kind}
 use Rattle.message.proofs.Layouts.{is-known}
 
@@ -14,32 +15,23 @@ pub type-known : (k : Kind) {n : ℕ} → n ≡ numberOf k → whole (numberOf k
 unfolding typeOf
 type-known k e = rw (e, is-known k)
 
--- and one that none has:
-none-has : (n : ℕ) → known n ≡ false → refused 2 ≡ typeOf n
+-- and one that none has: where it is not known,
+pub type-none : (n : ℕ) → known n ≡ false → refused 2 ≡ typeOf n
 unfolding typeOf
-none-has n e = rw e
+type-none n e = rw e
 
--- a number by itself in a gap,
-pub type-gap : (k : ℕ) {n : ℕ} → n ≡ k → known k ≡ false → refused 2 ≡ typeOf n
-type-gap k {n} e h = none-has n (ap known e ∙ h)
+-- by itself in a gap,
+pub type-gap : {n : ℕ} → n ≡ 0xF → refused 2 ≡ typeOf n
+type-gap {n} e = type-none n (ap known e ∙ the-short-gap)
 
--- below the first,
-pub type-low : {n : ℕ} → n ≤ 0x1 → refused 2 ≡ typeOf n
-unfolding known
-type-low {n} h = none-has n (rw (le-leb n 0x1 h))
+-- or compared with all those from 0x2 to 0x1A, and the two beyond the long gap
+abbrev upFrom : ℕ → ℕ → List ℕ → List ℕ
+upFrom n zero rest = rest
+upFrom n (suc k) rest = n ∷ upFrom (suc n) k rest
 
--- in the long gap,
-pub type-middle : {n : ℕ} → 0x1B ≤ n → n < 0x40 → refused 2 ≡ typeOf n
-unfolding known
-type-middle {n} h k =
-    none-has n (rw (lt-leb n 0x1 (omega arith), lt-leb n 0xE (omega arith), lt-leb n 0xF (omega arith), lt-leb n 0x1A (omega arith), le-leb n 0x3F (omega arith)))
+abbrev pub Compared : ℕ → Type 0
+Compared n = Missed (Unit {0}) (upFrom 0x2 25 (0x40 ∷ 0x41 ∷ [])) n
 
--- beyond the last
-pub type-high : {n : ℕ} → 0x42 ≤ n → refused 2 ≡ typeOf n
-unfolding known
-type-high {n} h =
-    none-has n (rw (lt-leb n 0x1 (omega arith), lt-leb n 0xE (omega arith), lt-leb n 0xF (omega arith), lt-leb n 0x1A (omega arith), lt-leb n 0x3F (omega arith), lt-leb n 0x41 (omega arith)))
-
--- a number that is not the next one is past it
-pub past : {n k : ℕ} → k ≤ n → (n ≡ k → ⊥) → suc k ≤ n
-past h e = omega (arith, e)
+pub type-missed : (n : ℕ) → Compared n → refused 2 ≡ typeOf n
+unfolding messages
+type-missed n m = type-none n (unknown-missed (upFrom 0x2 25 (0x40 ∷ 0x41 ∷ [])) refl n m)

@@ -1,103 +1,113 @@
--- The types of control messages: each kind's number is known, and the layout of its body is its family's. Assumes nothing.
+-- The kinds of control messages: each stands in its row of the table, so its number is known, and the layout of its body is its row's. Assumes nothing.
 use Prim.Native.Nat.{ℕ}
 use mathlib.Core.Path.{_≡_, refl, sym, ap, _∙_}
-use mathlib.Core.Bool.{true}
+use mathlib.Core.Bool.{true, false}
 use native.Mathlib.Omega.{arith}
-use Rattle.layout.specs.Layout.{Layout}
-use Rattle.subscription.specs.Layouts.{rowOf as subscriptionRow, numberOf as subscriptionNumber, layoutOf as subscriptionLayout}
+use Rattle.types.proofs.Gaps.{below-the-first}
+use Rattle.subscription.specs.Kinds.{rowOf as subscriptionRow, layoutOf as subscriptionLayout}
 use Rattle.subscription.specs.declared.kinds.SubscriptionKind.{SubscriptionKind}
 use Rattle.subscription.specs.declared.kinds.SubscriptionKind.the-variants.{SubscribeUpdate, Subscribe, SubscribeOk, SubscribeError, Unsubscribe, SubscribeDone, MaxSubscribeId, SubscribesBlocked}
-use Rattle.fetch.specs.Layouts.{rowOf as fetchRow, numberOf as fetchNumber, layoutOf as fetchLayout}
+use Rattle.fetch.specs.Kinds.{rowOf as fetchRow, layoutOf as fetchLayout}
 use Rattle.fetch.specs.declared.kinds.FetchKind.{FetchKind}
 use Rattle.fetch.specs.declared.kinds.FetchKind.the-variants.{Fetch as AFetch, FetchOk, FetchError, FetchCancel, TrackStatusRequest, TrackStatus}
-use Rattle.announce.specs.Layouts.{rest, numberOf as announceNumber, layoutOf as announceLayout}
+use Rattle.announce.specs.Kinds.{rowOf as announceRow, layoutOf as announceLayout}
 use Rattle.announce.specs.declared.kinds.AnnounceKind.{AnnounceKind}
 use Rattle.announce.specs.declared.kinds.AnnounceKind.the-variants.{Named, Asked, Refused}
 use Rattle.announce.specs.declared.kinds.Naming.the-variants.{AnnounceOk, Unannounce, SubscribeAnnouncesOk, UnsubscribeAnnounces}
 use Rattle.announce.specs.declared.kinds.Asking.the-variants.{Announce as AnAnnounce, SubscribeAnnounces}
 use Rattle.announce.specs.declared.kinds.Refusing.the-variants.{AnnounceError, AnnounceCancel, SubscribeAnnouncesError}
-use Rattle.session.specs.Layouts.{rowOf as sessionRow, numberOf as sessionNumber, layoutOf as sessionLayout}
+use Rattle.session.specs.Kinds.{rowOf as sessionRow, layoutOf as sessionLayout}
 use Rattle.session.specs.declared.kinds.SessionKind.{SessionKind}
 use Rattle.session.specs.declared.kinds.SessionKind.the-variants.{ClientSetup, ServerSetup, GoAway}
-use Rattle.message.specs.Types.{known, layoutOf, numberOf}
+use Rattle.types.specs.Table.{Row, listed, messages, rowIn, rowOf, known, layoutOf}
+use Rattle.message.specs.Types.{numberOf}
 use Rattle.message.specs.declared.Kind.{Kind}
 use Rattle.message.specs.declared.Kind.the-variants.{Subscription, Fetch, Announce, Session}
 
 -- ---- the families
 
--- a number is a known type, whose body has this layout
-abbrev Stands : ℕ → Layout → Type 0
-Stands type l = (known type ≡ true) × (layoutOf type ≡ l)
+-- a row is found by its number,
+abbrev Stands : Row → Type 0
+Stands r = rowOf (r .number) ≡ listed r
 
-subscription : (k : SubscriptionKind) → Stands (subscriptionNumber k) (subscriptionLayout k)
-unfolding known layoutOf subscriptionRow
-subscription SubscribeUpdate = (refl, refl)
-subscription Subscribe = (refl, refl)
-subscription SubscribeOk = (refl, refl)
-subscription SubscribeError = (refl, refl)
-subscription Unsubscribe = (refl, refl)
-subscription SubscribeDone = (refl, refl)
-subscription MaxSubscribeId = (refl, refl)
-subscription SubscribesBlocked = (refl, refl)
+-- so that is known,
+row-known : (r : Row) → Stands r → known (r .number) ≡ true
+unfolding known
+row-known r h = rw h
 
-fetch : (k : FetchKind) → Stands (fetchNumber k) (fetchLayout k)
-unfolding known layoutOf fetchRow
-fetch AFetch = (refl, refl)
-fetch FetchOk = (refl, refl)
-fetch FetchError = (refl, refl)
-fetch FetchCancel = (refl, refl)
-fetch TrackStatusRequest = (refl, refl)
-fetch TrackStatus = (refl, refl)
+-- and the layout of its body is the row's
+row-layout : (r : Row) → Stands r → layoutOf (r .number) ≡ r .layout
+unfolding layoutOf
+row-layout r h = rw h
 
-announce : (k : AnnounceKind) → Stands (announceNumber k) (announceLayout k)
-unfolding known layoutOf rest announceNumber announceLayout
-announce (Named AnnounceOk) = (refl, refl)
-announce (Named Unannounce) = (refl, refl)
-announce (Named SubscribeAnnouncesOk) = (refl, refl)
-announce (Named UnsubscribeAnnounces) = (refl, refl)
-announce (Asked AnAnnounce) = (refl, refl)
-announce (Asked SubscribeAnnounces) = (refl, refl)
-announce (Refused AnnounceError) = (refl, refl)
-announce (Refused AnnounceCancel) = (refl, refl)
-announce (Refused SubscribeAnnouncesError) = (refl, refl)
+subscription : (k : SubscriptionKind) → Stands (subscriptionRow k)
+unfolding rowOf rowIn messages subscriptionRow
+subscription SubscribeUpdate = refl
+subscription Subscribe = refl
+subscription SubscribeOk = refl
+subscription SubscribeError = refl
+subscription Unsubscribe = refl
+subscription SubscribeDone = refl
+subscription MaxSubscribeId = refl
+subscription SubscribesBlocked = refl
 
-session : (k : SessionKind) → Stands (sessionNumber k) (sessionLayout k)
-unfolding known layoutOf sessionRow
-session ClientSetup = (refl, refl)
-session ServerSetup = (refl, refl)
-session GoAway = (refl, refl)
+fetch : (k : FetchKind) → Stands (fetchRow k)
+unfolding rowOf rowIn messages fetchRow
+fetch AFetch = refl
+fetch FetchOk = refl
+fetch FetchError = refl
+fetch FetchCancel = refl
+fetch TrackStatusRequest = refl
+fetch TrackStatus = refl
+
+announce : (k : AnnounceKind) → Stands (announceRow k)
+unfolding rowOf rowIn messages announceRow
+announce (Named AnnounceOk) = refl
+announce (Named Unannounce) = refl
+announce (Named SubscribeAnnouncesOk) = refl
+announce (Named UnsubscribeAnnounces) = refl
+announce (Asked AnAnnounce) = refl
+announce (Asked SubscribeAnnounces) = refl
+announce (Refused AnnounceError) = refl
+announce (Refused AnnounceCancel) = refl
+announce (Refused SubscribeAnnouncesError) = refl
+
+session : (k : SessionKind) → Stands (sessionRow k)
+unfolding rowOf rowIn messages sessionRow
+session ClientSetup = refl
+session ServerSetup = refl
+session GoAway = refl
 
 -- ---- every kind
 
 -- its number is known,
 pub is-known : (k : Kind) → known (numberOf k) ≡ true
 unfolding numberOf
-is-known (Subscription k) = subscription k .0
-is-known (Fetch k) = fetch k .0
-is-known (Announce k) = announce k .0
-is-known (Session k) = session k .0
+is-known (Subscription k) = row-known (subscriptionRow k) (subscription k)
+is-known (Fetch k) = row-known (fetchRow k) (fetch k)
+is-known (Announce k) = row-known (announceRow k) (announce k)
+is-known (Session k) = row-known (sessionRow k) (session k)
 
 -- so it is not 0,
 pub not-zero : (k : Kind) → numberOf k ≡ 0 → ⊥
-unfolding known
 not-zero k e =
-    let h : known 0 ≡ true = ap known (sym e) ∙ is-known k in
+    let h : false ≡ true = sym (below-the-first (omega arith)) ∙ ap known (sym e) ∙ is-known k in
     let z : _≡_ {A = ℕ} 0 1 = cc in
     omega arith
 
 -- and the layout of its body is its family's
 pub layout-subscription : (k : SubscriptionKind) → layoutOf (numberOf (Subscription k)) ≡ subscriptionLayout k
 unfolding numberOf
-layout-subscription k = subscription k .1
+layout-subscription k = row-layout (subscriptionRow k) (subscription k)
 
 pub layout-fetch : (k : FetchKind) → layoutOf (numberOf (Fetch k)) ≡ fetchLayout k
 unfolding numberOf
-layout-fetch k = fetch k .1
+layout-fetch k = row-layout (fetchRow k) (fetch k)
 
 pub layout-announce : (k : AnnounceKind) → layoutOf (numberOf (Announce k)) ≡ announceLayout k
 unfolding numberOf
-layout-announce k = announce k .1
+layout-announce k = row-layout (announceRow k) (announce k)
 
 pub layout-session : (k : SessionKind) → layoutOf (numberOf (Session k)) ≡ sessionLayout k
 unfolding numberOf
-layout-session k = session k .1
+layout-session k = row-layout (sessionRow k) (session k)

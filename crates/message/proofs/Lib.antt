@@ -1,3 +1,4 @@
+pub mod Made
 pub mod Layouts
 pub mod Known
 pub mod Bodies
@@ -5,6 +6,7 @@ pub mod Filling
 pub mod Front
 pub mod Answers
 pub mod Stable
+pub mod Limits
 pub mod Numbers
 pub mod Enough
 pub mod Fields
@@ -19,3 +21,4 @@ pub mod RoundTrip
 pub mod Alike
 pub mod Only
 pub mod Again
+pub mod OneReading

@@ -23,7 +23,7 @@ use Rattle.fetch.specs.declared.Range.the-variants.{Standalone, Joining}
 use Rattle.fetch.specs.declared.FetchMessage.{FetchMessage}
 use Rattle.fetch.specs.declared.FetchMessage.the-variants.{Fetch, FetchOk, FetchError, FetchCancel, TrackStatusRequest, TrackStatus}
 use Rattle.message.specs.Types.{saidOf}
-use Rattle.message.specs.Reading.{readOf}
+use Rattle.message.specs.Reading.{longest, readOf}
 use Rattle.message.specs.Names.{nameOf, namedSpan}
 use Rattle.message.specs.declared.Message.{Message}
 use Rattle.message.specs.declared.Message.the-variants.{Subscription, Fetch as FetchM, Announce, Session}
@@ -103,11 +103,11 @@ module _ (low high : ℕ) where
 module _ (s : List ℕ) (m : Message) {used : ℕ} where
   -- its name stands within the bytes that it took,
   pub name-there : readOf s ≡ answered (saidOf m) used → By used (nameOf m)
-  name-there h = let w = parts s h in name-by (w .at) used m (inside s (w .head .type-at) (w .head .length-at) w)
+  name-there h = let w = parts longest s h in name-by (w .at) used m (inside s (w .head .type-at) (w .head .length-at) w)
 
   -- so it is that part of the bytes which is handed back
   pub name-is : readOf s ≡ answered (saidOf m) used → namedSpan s m ≡ nameOf m
   name-is h =
       let by = name-there h in
-      let there = used-there s (parts s h) .1 in
+      let there = used-there s (parts longest s h) .1 in
       named-within s m refl (by .0) (omega arith)

@@ -9,7 +9,7 @@ use Rattle.integer.proofs.Cases.{pick-by}
 use Rattle.field.specs.Outcome.{Outcome, whole, no}
 use Rattle.field.specs.declared.Fault.the-variants.{Cut, Forbidden, Oversize}
 use Rattle.layout.specs.Typed.{Typed, typed}
-use Rattle.message.specs.Reading.{filledBy, readOf}
+use Rattle.message.specs.Reading.{filledBy, readUpTo}
 use Rattle.message.proofs.Front.{Stops, no-type, unknown, no-length, too-long, missing, Judged, stopped, present, judged}
 
 -- a body is refused by 4, 5 or 6,
@@ -24,7 +24,7 @@ body-numbers end (no Forbidden) {n} h = let z : n ≡ 5 = cc in (omega arith, om
 body-numbers end (no Oversize) {n} h = let z : n ≡ 6 = cc in (omega arith, omega arith)
 
 -- what comes before it by 1, 2 or 3
-stop-numbers : {s : List ℕ} {n : ℕ} → Stops s n → (1 ≤ n) × (n ≤ 3)
+stop-numbers : {limit : ℕ} {s : List ℕ} {n : ℕ} → Stops limit s n → (1 ≤ n) × (n ≤ 3)
 stop-numbers (no-type e) = (lit≤ tt, lit≤ tt)
 stop-numbers (unknown e k) = (lit≤ tt, lit≤ tt)
 stop-numbers (no-length e k f) = (lit≤ tt, lit≤ tt)
@@ -32,10 +32,10 @@ stop-numbers (too-long h long) = (lit≤ tt, lit≤ tt)
 stop-numbers (missing h short room) = (lit≤ tt, lit≤ tt)
 
 -- so every refusal is one of 1 to 6
-pub numbers : (s : List ℕ) {n : ℕ} → readOf s ≡ refused n → (1 ≤ n) × (n ≤ 6)
-numbers s {n} = go (judged s)
+pub numbers : (limit : ℕ) (s : List ℕ) {n : ℕ} → readUpTo limit s ≡ refused n → (1 ≤ n) × (n ≤ 6)
+numbers limit s {n} = go (judged limit s)
   where
-    go : {o : Answer Typed} → Judged s o → o ≡ refused n → (1 ≤ n) × (n ≤ 6)
+    go : {o : Answer Typed} → Judged limit s o → o ≡ refused n → (1 ≤ n) × (n ≤ 6)
     go (stopped {n = k} h) e =
         let z : k ≡ n = cc in
         let b = stop-numbers h in

@@ -5,6 +5,7 @@ use mathlib.Core.Path.{_≡_, refl, sym, _∙_}
 use mathlib.Core.List.{List}
 use Rattle.integer.specs.Answer.{Leaves}
 use Rattle.layout.proofs.Lossless.{once}
+use Rattle.types.specs.Table.{setting, subscribing, retrieving, announcing, messages, rowIn, rowOf}
 use Rattle.shortest.specs.Writing.{answering}
 use Rattle.shortest.specs.declared.Writing.{Writing}
 use Rattle.shortest.proofs.Once.{answering-once}
@@ -18,7 +19,7 @@ use Rattle.fetch.specs.declared.FetchMessage.{FetchMessage}
 use Rattle.fetch.specs.declared.FetchMessage.the-variants as fetch
 use Rattle.announce.proofs.Once.{message-back as announce-back}
 use Rattle.announce.specs.Told.{saidOf as announceSaid}
-use Rattle.announce.specs.Layouts.{numberOf as announceNumber}
+use Rattle.announce.specs.Kinds.{rowOf as announceRow}
 use Rattle.announce.specs.declared.kinds.Naming.the-variants as naming
 use Rattle.announce.specs.declared.kinds.Asking.the-variants as asking
 use Rattle.announce.specs.declared.kinds.Refusing.the-variants as refusing
@@ -29,7 +30,7 @@ use Rattle.session.specs.Told.{saidOf as sessionSaid}
 use Rattle.session.specs.declared.SessionMessage.{SessionMessage}
 use Rattle.session.specs.declared.SessionMessage.the-variants as session
 use Rattle.message.specs.Types.{saidOf}
-use Rattle.message.specs.Made.{subscribing, retrieving, announcing, setting, familyOf, messageOf, answerOf}
+use Rattle.message.proofs.Made.{familyOf, messageOf, answerOf}
 use Rattle.message.specs.Reading.{readOf, told}
 use Rattle.message.specs.Writing.{writeOf}
 use Rattle.message.specs.declared.Message.{Message}
@@ -41,7 +42,7 @@ use Rattle.message.specs.declared.Reading.the-variants.{Whole, More, Unk
 
 -- each message has a number of its family
 of-subscription : (m : SubscriptionMessage) → familyOf (subscriptionSaid m .type) ≡ subscribing
-unfolding familyOf
+unfolding familyOf rowOf rowIn messages
 of-subscription (subscription.SubscribeUpdate m) = refl
 of-subscription (subscription.Subscribe m) = refl
 of-subscription (subscription.SubscribeOk m) = refl
@@ -52,7 +53,7 @@ of-subscription (subscription.MaxSubscribeId id) = refl
 of-subscription (subscription.SubscribesBlocked id) = refl
 
 of-fetch : (m : FetchMessage) → familyOf (fetchSaid m .type) ≡ retrieving
-unfolding familyOf
+unfolding familyOf rowOf rowIn messages
 of-fetch (fetch.Fetch m) = refl
 of-fetch (fetch.FetchOk m) = refl
 of-fetch (fetch.FetchError m) = refl
@@ -61,7 +62,7 @@ of-fetch (fetch.TrackStatusRequest t) = refl
 of-fetch (fetch.TrackStatus m) = refl
 
 of-announce : (m : AnnounceMessage) → familyOf (announceSaid m .type) ≡ announcing
-unfolding familyOf announceNumber
+unfolding familyOf rowOf rowIn messages announceRow
 of-announce (announce.Named naming.AnnounceOk n) = refl
 of-announce (announce.Named naming.Unannounce n) = refl
 of-announce (announce.Named naming.SubscribeAnnouncesOk n) = refl
@@ -73,7 +74,7 @@ of-announce (announce.Refused refusing.AnnounceCancel m) = refl
 of-announce (announce.Refused refusing.SubscribeAnnouncesError m) = refl
 
 of-session : (m : SessionMessage) → familyOf (sessionSaid m .type) ≡ setting
-unfolding familyOf
+unfolding familyOf rowOf rowIn messages
 of-session (session.ClientSetup m) = refl
 of-session (session.ServerSetup m) = refl
 of-session (session.GoAway uri) = refl

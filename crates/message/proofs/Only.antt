@@ -15,8 +15,9 @@ use Rattle.layout.proofs.Shortest.{scanned-shortest}
 use Rattle.measure.specs.Measuring.{encodeAll}
 use Rattle.shortest.proofs.Longer.{longer-found}
 use Rattle.shortest.proofs.Framed.{least-frame}
-use Rattle.message.specs.Types.{layoutOf, saidOf}
-use Rattle.message.specs.Reading.{readOf}
+use Rattle.types.specs.Table.{layoutOf}
+use Rattle.message.specs.Types.{saidOf}
+use Rattle.message.specs.Reading.{longest, readOf}
 use Rattle.message.specs.Writing.{writeOf}
 use Rattle.message.specs.declared.Message.{Message}
 use Rattle.message.proofs.Front.{parts}
@@ -26,7 +27,7 @@ use Rattle.message.proofs.Alike.{framed, framed-alike, is-frame}
 pub read-least : (s : List ℕ) {t : Typed} {used : ℕ} → readOf s ≡ answered t used → Least s 0 (framed s t) used
 unfolding encodeAll
 read-least s {t} {used} h =
-    let w = parts s h in
+    let w = parts longest s h in
     let found = longer-found (layoutOf (t .type)) s used (w .at) (w .body) in
     least-frame s (w .head .type-at) (w .head .length-at) (scanned-shortest (scanned (layoutOf (t .type)) s (w .at) found) .least) (w .ends)
 

@@ -11,10 +11,11 @@ use Rattle.field.specs.Fields.{fieldAt}
 use Rattle.field.specs.Value.{part}
 use Rattle.field.specs.declared.Span.{Span}
 use Rattle.layout.specs.Layout.{scan}
-use Rattle.fetch.specs.Layouts.{trackStatusRequest}
+use Rattle.types.specs.Fetches.{trackStatusRequest}
 use Rattle.fetch.specs.declared.FetchMessage.the-variants.{TrackStatusRequest}
-use Rattle.message.specs.Types.{known, layoutOf, saidOf}
-use Rattle.message.specs.Reading.{bodyOf, readOf}
+use Rattle.types.specs.Table.{messages, rowIn, rowOf, known, layoutOf}
+use Rattle.message.specs.Types.{saidOf}
+use Rattle.message.specs.Reading.{bodyUpTo, readUpTo, readOf}
 use Rattle.message.specs.Part.{PartOf}
 use Rattle.message.specs.Names.{namedSpan}
 use Rattle.message.specs.declared.Message.{Message}
@@ -47,7 +48,7 @@ abbrev pub byteAt : ℕ → Span
 byteAt n = record { start = n; end = n + 1 }
 
 pub alike-reads : readOf alike ≡ answered (saidOf request) 7
-unfolding readOf bodyOf known layoutOf trackStatusRequest scan fieldAt listAt few entriesAt mostOf entryAt numberedAt textAt numberAt integerOf wide room spell
+unfolding readUpTo bodyUpTo known layoutOf rowOf rowIn messages trackStatusRequest scan fieldAt listAt few entriesAt mostOf entryAt numberedAt textAt numberAt integerOf wide room spell
 alike-reads = refl
 
 -- both are the same bytes,

@@ -25,9 +25,10 @@ use Rattle.measure.specs.Measuring.{rightAll, encodeAll}
 use Rattle.shortest.specs.Writing.{frame}
 use Rattle.shortest.proofs.Good.{all-good}
 use Rattle.shortest.proofs.Passed.{was-written}
-use Rattle.message.specs.Types.{known, layoutOf, saidOf}
+use Rattle.types.specs.Table.{known, layoutOf}
+use Rattle.message.specs.Types.{saidOf}
 use Rattle.message.specs.Reading.{longest, readOf}
-use Rattle.message.specs.Writing.{allowedOf, writeOf}
+use Rattle.message.specs.Writing.{allowedOf, writeUpTo, writeOf}
 use Rattle.message.specs.declared.Message.{Message}
 use Rattle.message.proofs.Front.{WholeAt, joined}
 use Rattle.message.proofs.Shape.{known-type, shaped}
@@ -37,7 +38,7 @@ use Rattle.message.proofs.Shape.{known-type, shaped}
 -- values stand as a whole message of a type
 record ReadBack (s : List ℕ) (type : ℕ) (vs : List Value) (used : ℕ) : Type 0 where
   found : List Piece
-  is-whole : WholeAt s (record { type = type; pieces = found }) used
+  is-whole : WholeAt longest s (record { type = type; pieces = found }) used
   means : map (mean s) found ≡ vs
 
 -- so do those that a type permits, in their shortest form behind Type and Length, whatever follows
@@ -79,14 +80,14 @@ frame-back type vs rest k small short allowed =
 read-from : {s after x : List ℕ} {m : Typed} {used n : ℕ} → after ≡ s → n ≡ used → ReadBack s (m .type) (map (mean x) (m .pieces)) used
     → (t : Typed) × (readOf after ≡ answered t n) × Same after t x m
 read-from {s} {m = m} e u r =
-    (record { type = m .type; pieces = r .found }, rw (e, u) (joined s (r .is-whole)), record { type = refl; values = rw e (r .means) })
+    (record { type = m .type; pieces = r .found }, rw (e, u) (joined longest s (r .is-whole)), record { type = refl; values = rw e (r .means) })
 
 -- ---- a message
 
 -- What is written reads back as the same message, and uses exactly the bytes written.
 pub written-reads : (s : List ℕ) (m : Message) (before : List ℕ) {n : ℕ} → writeOf s m before .says ≡ wrote n
     → (t : Typed) × (readOf (writeOf s m before .holds) ≡ answered t n) × Same (writeOf s m before .holds) t s (saidOf m)
-unfolding writeOf encodeAll
+unfolding writeUpTo encodeAll
 written-reads s m before h =
     let type = saidOf m .type in
     let ps = saidOf m .pieces in

@@ -15,8 +15,8 @@ use Rattle.layout.specs.Permitted.{code, permitted}
 use Rattle.layout.specs.Typed.{Typed}
 use Rattle.shortest.proofs.Good.{AllGood}
 use Rattle.shortest.proofs.Fitting.{fitting, fitting-permitted, permitted-fitting, tested, test-alone}
-use Rattle.subscription.specs.Rules.{endsAfter}
-use Rattle.subscription.specs.Layouts.{subscribeUpdate, ending, filter, delivery, subscribe, content, subscribeOk, subscribeError, subscribeDone, only}
+use Rattle.types.specs.Rules.{endsAfter}
+use Rattle.types.specs.Subscriptions.{subscribeUpdate, ending, filter, delivery, subscribe, content, subscribeOk, subscribeError, subscribeDone, only}
 use Rattle.subscription.specs.Told.{filterPieces, contentPieces, saidOf as subscriptionSaid}
 use Rattle.subscription.specs.Allowed.{allowedFilter, allowedOf as subscriptionAllowed}
 use Rattle.subscription.specs.declared.Filter.{Filter}
@@ -25,24 +25,27 @@ use Rattle.subscription.specs.declared.Content.{Content}
 use Rattle.subscription.specs.declared.Content.the-variants.{Nothing, Largest}
 use Rattle.subscription.specs.declared.SubscriptionMessage.{SubscriptionMessage}
 use Rattle.subscription.specs.declared.SubscriptionMessage.the-variants.{SubscribeUpdate, Subscribe, SubscribeOk, SubscribeError, Unsubscribe, SubscribeDone, MaxSubscribeId, SubscribesBlocked}
-use Rattle.fetch.specs.Rules.{isStatus, mayHold}
-use Rattle.fetch.specs.Layouts.{standalone, joining, range, fetch, fetchOk, fetchError, fetchCancel, trackStatusRequest, largest, trackStatus}
+use Rattle.types.specs.Rules.{isStatus, mayHold}
+use Rattle.types.specs.Fetches.{standalone, joining, range, fetch, fetchOk, fetchError, fetchCancel, trackStatusRequest, largest, trackStatus}
 use Rattle.fetch.specs.Told.{joiningType, rangePieces, saidOf as fetchSaid}
 use Rattle.fetch.specs.Allowed.{allowedOf as fetchAllowed}
 use Rattle.fetch.specs.declared.Range.{Range as FetchRange}
 use Rattle.fetch.specs.declared.Range.the-variants.{Standalone, Joining}
 use Rattle.fetch.specs.declared.FetchMessage.{FetchMessage}
 use Rattle.fetch.specs.declared.FetchMessage.the-variants.{Fetch as AFetch, FetchOk, FetchError, FetchCancel, TrackStatusRequest, TrackStatus}
-use Rattle.announce.specs.Layouts.{named, rest, layoutOf as announceLayout}
+use Rattle.types.specs.Announces.{named}
+use Rattle.announce.specs.Kinds.{rest}
+use Rattle.announce.proofs.ByKind.{layout-is}
 use Rattle.announce.specs.Told.{saidOf as announceSaid}
 use Rattle.announce.specs.declared.AnnounceMessage.{AnnounceMessage}
 use Rattle.announce.specs.declared.AnnounceMessage.the-variants.{Named, Asked, Refused}
 use Rattle.announce.specs.declared.kinds.AnnounceKind.the-variants.{Named as KindNamed, Asked as KindAsked, Refused as KindRefused}
-use Rattle.session.specs.Layouts.{clientSetup, serverSetup, goAway}
+use Rattle.types.specs.Sessions.{clientSetup, serverSetup, goAway}
 use Rattle.session.specs.Told.{saidOf as sessionSaid}
 use Rattle.session.specs.declared.SessionMessage.{SessionMessage}
 use Rattle.session.specs.declared.SessionMessage.the-variants.{ClientSetup, ServerSetup, GoAway}
-use Rattle.message.specs.Types.{known, layoutOf, numberOf, saidOf}
+use Rattle.types.specs.Table.{messages, rowIn, rowOf, known, layoutOf}
+use Rattle.message.specs.Types.{numberOf, saidOf}
 use Rattle.message.specs.Writing.{allowedOf}
 use Rattle.message.specs.declared.Message.{Message}
 use Rattle.message.specs.declared.Message.the-variants.{Subscription, Fetch, Announce, Session}
@@ -71,7 +74,7 @@ module _ (s : List ℕ) where
 
   -- a message of subscriptions,
   subscription : (m : SubscriptionMessage) → Fitting s (subscriptionSaid m) (subscriptionAllowed m)
-  unfolding fitting code mean known layoutOf place failure parameters subscribeUpdate delivery subscribe subscribeOk subscribeError subscribeDone only subscriptionAllowed
+  unfolding fitting code mean known layoutOf rowOf rowIn messages place failure parameters subscribeUpdate delivery subscribe subscribeOk subscribeError subscribeDone only subscriptionAllowed
   subscription (SubscribeUpdate m) = (refl, refl)
   subscription (Subscribe m) = (refl, rw (asking (m .filter) (m .parameters)) (tested (askable (m .order)) (allowedFilter (m .filter))))
   subscription (SubscribeOk m) = (refl, rw (existing (m .content) (m .parameters)) (test-alone (givable (m .order))))
@@ -93,7 +96,7 @@ module _ (s : List ℕ) where
 
   -- a message of fetches,
   retrieval : (m : FetchMessage) → Fitting s (fetchSaid m) (fetchAllowed m)
-  unfolding fitting code mean known layoutOf place failure parameters fetch fetchOk fetchError fetchCancel trackStatusRequest largest trackStatus fetchAllowed
+  unfolding fitting code mean known layoutOf rowOf rowIn messages place failure parameters fetch fetchOk fetchError fetchCancel trackStatusRequest largest trackStatus fetchAllowed
   retrieval (AFetch m) = (refl, rw (fetching (m .range) (m .parameters)) (test-alone (askable (m .order))))
   retrieval (FetchOk m) = (refl, test-alone (givable (m .order)))
   retrieval (FetchError m) = (refl, refl)
@@ -106,14 +109,14 @@ module _ (s : List ℕ) where
 
   -- of namespaces,
   announcement : (m : AnnounceMessage) → Fitting s (announceSaid m) true
-  unfolding fitting code mean numberOf failure parameters named rest announceLayout
-  announcement (Named k n) = (is-known (KindOfAnnounce (KindNamed k)), rw (layout-announce (KindNamed k)))
-  announcement (Asked k m) = (is-known (KindOfAnnounce (KindAsked k)), rw (layout-announce (KindAsked k)))
-  announcement (Refused k m) = (is-known (KindOfAnnounce (KindRefused k)), rw (layout-announce (KindRefused k)))
+  unfolding fitting code mean numberOf failure parameters named rest
+  announcement (Named k n) = (is-known (KindOfAnnounce (KindNamed k)), rw (layout-announce (KindNamed k), layout-is (KindNamed k)))
+  announcement (Asked k m) = (is-known (KindOfAnnounce (KindAsked k)), rw (layout-announce (KindAsked k), layout-is (KindAsked k)))
+  announcement (Refused k m) = (is-known (KindOfAnnounce (KindRefused k)), rw (layout-announce (KindRefused k), layout-is (KindRefused k)))
 
   -- and of a session
   session : (m : SessionMessage) → Fitting s (sessionSaid m) true
-  unfolding fitting code mean known layoutOf parameters clientSetup serverSetup goAway
+  unfolding fitting code mean known layoutOf rowOf rowIn messages parameters clientSetup serverSetup goAway
   session (ClientSetup m) = (refl, refl)
   session (ServerSetup m) = (refl, refl)
   session (GoAway uri) = (refl, refl)

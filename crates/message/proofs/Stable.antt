@@ -14,10 +14,10 @@ use Rattle.field.proofs.Found.{number-at}
 use Rattle.field.proofs.Unjudged.{as-number, found-number}
 use Rattle.field.proofs.Stable.{keeps-whole, field-stays}
 use Rattle.layout.specs.Typed.{Typed}
-use Rattle.message.specs.Reading.{readOf}
+use Rattle.message.specs.Reading.{readUpTo}
 use Rattle.message.proofs.Front.{Headed, Stops, no-type, unknown, no-length, too-long, missing, Judged, stopped, present, judged, answer-is}
 
-module _ (s x : List ℕ) where
+module _ (limit : ℕ) (s x : List ℕ) where
   -- an integer that was read stays,
   number-stays : (at : ℕ) {n end : ℕ} → numberAt s at ≡ whole n end → numberAt (s ++ x) at ≡ whole n end
   number-stays at h = found-number (s ++ x) at (keeps-whole (field-stays s x integer at) (as-number s at h))
@@ -28,7 +28,7 @@ module _ (s x : List ℕ) where
       record { next = h .next; type-at = number-stays 0 (h .type-at); is-known = h .is-known; length-at = number-stays (h .next) (h .length-at) }
 
   -- what refuses a message before its body, unless it is for want of bytes,
-  stop-stays : {n : ℕ} → (n ≡ 1 → ⊥) → Stops s n → Stops (s ++ x) n
+  stop-stays : {n : ℕ} → (n ≡ 1 → ⊥) → Stops limit s n → Stops limit (s ++ x) n
   stop-stays other (no-type e) = absurd (other refl)
   stop-stays other (unknown e k) = unknown (number-stays 0 e) k
   stop-stays other (no-length e k f) = absurd (other refl)
@@ -36,21 +36,21 @@ module _ (s x : List ℕ) where
   stop-stays other (missing h short room) = absurd (other refl)
 
   -- and what a body comes to that is there: it is the same bytes
-  judged-stays : {o : Answer Typed} → (o ≡ refused 1 → ⊥) → Judged s o → Judged (s ++ x) o
+  judged-stays : {o : Answer Typed} → (o ≡ refused 1 → ⊥) → Judged limit s o → Judged limit (s ++ x) o
   judged-stays other (stopped h) = stopped (stop-stays (λ e. other (ap refused e)) h)
   judged-stays other (present {size = size} {at = at} h short room e) =
       let end = number-at s (h .next) (h .length-at) .within in
       let more : size ≤ length (s ++ x) - at = rw length-append (omega arith) in
       present (head-stays h) short more (rw (← take-append-le (at + size) s x (omega arith)) at e)
 
--- so the answer is the same,
-stays : (s x : List ℕ) → (readOf s ≡ refused 1 → ⊥) → readOf (s ++ x) ≡ readOf s
-stays s x other = sym (answer-is (judged-stays s x other (judged s)))
+  -- so the answer is the same,
+  stays : (readUpTo limit s ≡ refused 1 → ⊥) → readUpTo limit (s ++ x) ≡ readUpTo limit s
+  stays other = sym (answer-is (judged-stays other (judged limit s)))
 
--- a whole message
-pub whole-stays : (s x : List ℕ) {t : Typed} {used : ℕ} → readOf s ≡ answered t used → readOf (s ++ x) ≡ answered t used
-whole-stays s x h = stays s x (λ e. apart (sym e ∙ h)) ∙ h
+  -- a whole message
+  pub whole-stays : {t : Typed} {used : ℕ} → readUpTo limit s ≡ answered t used → readUpTo limit (s ++ x) ≡ answered t used
+  whole-stays h = stays (λ e. apart (sym e ∙ h)) ∙ h
 
--- or a refusal other than 1
-pub refusal-stays : (s x : List ℕ) {n : ℕ} → (n ≡ 1 → ⊥) → readOf s ≡ refused n → readOf (s ++ x) ≡ refused n
-refusal-stays s x {n} other h = stays s x (λ e. other (cc)) ∙ h
+  -- or a refusal other than 1
+  pub refusal-stays : {n : ℕ} → (n ≡ 1 → ⊥) → readUpTo limit s ≡ refused n → readUpTo limit (s ++ x) ≡ refused n
+  refusal-stays {n} other h = stays (λ e. other (cc)) ∙ h

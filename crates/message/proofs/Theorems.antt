@@ -19,8 +19,9 @@ use Rattle.layout.specs.Typed.{Typed}
 use Rattle.layout.specs.Same.{Same}
 use Rattle.shortest.specs.Writing.{answering}
 use Rattle.shortest.specs.declared.Writing.{Writing}
-use Rattle.message.specs.Types.{known, layoutOf, saidOf}
-use Rattle.message.specs.Reading.{readOf, told}
+use Rattle.types.specs.Table.{known, layoutOf}
+use Rattle.message.specs.Types.{saidOf}
+use Rattle.message.specs.Reading.{longest, readOf, told}
 use Rattle.message.specs.Part.{PartOf}
 use Rattle.message.specs.Names.{nameOf, namedSpan}
 use Rattle.message.specs.Writing.{writeOf}
@@ -33,6 +34,7 @@ use Rattle.message.proofs.Front.{WholeAt}
 use Rattle.message.proofs.Front as front
 use Rattle.message.proofs.Stable as stable
 use Rattle.message.proofs.Numbers as refusals
+use Rattle.message.proofs.Enough.{longestMessage}
 use Rattle.message.proofs.Enough as enough
 use Rattle.message.proofs.Fields as fields
 use Rattle.message.proofs.RoundTrip as round-trip
@@ -40,48 +42,50 @@ use Rattle.message.proofs.Again as again
 use Rattle.message.proofs.Only as only
 use Rattle.message.proofs.Alike as alike
 use Rattle.message.proofs.Once as once
+use Rattle.message.proofs.OneReading.{readingOf}
+use Rattle.message.proofs.OneReading as one-reading
 
 module _ (s : List ℕ) where
   -- 1. Every refusal is one of 1 to 6.
   pub numbers : {n : ℕ} → readOf s ≡ refused n → (1 ≤ n) × (n ≤ 6)
-  numbers = refusals.numbers s
+  numbers = refusals.numbers longest s
 
   -- 2. Bytes that follow change nothing of a whole message,
   pub whole-stays : (x : List ℕ) {t : Typed} {used : ℕ} → readOf s ≡ answered t used → readOf (s ++ x) ≡ answered t used
-  whole-stays = stable.whole-stays s
+  whole-stays = stable.whole-stays longest s
 
   -- nor of a refusal from 2 to 6;
   pub refusal-stays : (x : List ℕ) {n : ℕ} → (n ≡ 1 → ⊥) → readOf s ≡ refused n → readOf (s ++ x) ≡ refused n
-  refusal-stays = stable.refusal-stays s
+  refusal-stays = stable.refusal-stays longest s
 
   -- and where 1 is answered, more bytes can still decide: so it is answered exactly there.
   pub more : readOf s ≡ refused 1 → (x : List ℕ) × (readOf (s ++ x) ≡ refused 1 → ⊥)
-  more _ = enough.more s
+  more _ = enough.more longest s
 
   -- No more than 16,399 bytes are ever wanted.
-  pub decided : 16_399 ≤ length s → readOf s ≡ refused 1 → ⊥
-  decided = enough.decided s
+  pub decided : longestMessage longest ≤ length s → readOf s ≡ refused 1 → ⊥
+  decided = enough.decided longest s
 
   module _ {t : Typed} {used : ℕ} where
     -- 3. A whole message is its Type, its Length, and a body of so many bytes, which its fields fill; those are the bytes used.
-    pub framed : readOf s ≡ answered t used → WholeAt s t used
-    framed = front.parts s
+    pub framed : readOf s ≡ answered t used → WholeAt longest s t used
+    framed = front.parts longest s
 
     -- It is of a known type,
     pub is-known : readOf s ≡ answered t used → known (t .type) ≡ true
-    is-known h = front.parts s h .head .is-known
+    is-known h = front.parts longest s h .head .is-known
 
     -- and its fields are permitted: no number is above the greatest, no value is forbidden, nothing is over a size.
     pub allowed : readOf s ≡ answered t used → permitted (layoutOf (t .type)) (map (mean (take used s)) (t .pieces)) ≡ true
-    allowed h = fields.allowed s (front.parts s h)
+    allowed h = fields.allowed s (front.parts longest s h)
 
     -- 4. Its bytes are there, and they are two at least;
     pub used-there : readOf s ≡ answered t used → (2 ≤ used) × (used ≤ length s)
-    used-there h = fields.used-there s (front.parts s h)
+    used-there h = fields.used-there s (front.parts longest s h)
 
     -- every part that was found lies within them, behind Type and Length.
     pub inside : {next size at : ℕ} → numberAt s 0 ≡ whole (t .type) next → numberAt s next ≡ whole size at → readOf s ≡ answered t used → Inside at used (t .pieces)
-    inside e f h = fields.inside s e f (front.parts s h)
+    inside e f h = fields.inside s e f (front.parts longest s h)
 
   -- 5. What is handed back of a message that was read is the part of the bytes that is its name.
   pub named : (m : Message) {used : ℕ} → readOf s ≡ answered (saidOf m) used → namedSpan s m ≡ nameOf m
@@ -141,7 +145,11 @@ module _ (s t : List ℕ) (m k : Message) (same : Same s (saidOf m) t (saidOf k)
   pub written-alike : (before : List ℕ) → (writeOf s m before .says ≡ refused 5 → ⊥) → (writeOf t k before .says ≡ refused 5 → ⊥) → writeOf s m before ≡ writeOf t k before
   written-alike = alike.written-alike s t m k same
 
--- 10. The contract of `read` leaves one possible answer,
+-- 10. For all bytes there is a reading that meets the contract of `read`,
+pub reads : (s : List ℕ) → told (readingOf s) ≡ readOf s
+reads = one-reading.reading-is
+
+-- and it is the only one: the contract leaves one possible answer,
 pub read-once : (s : List ℕ) (a b : Reading) → told a ≡ readOf s → told b ≡ readOf s → a ≡ b
 read-once = once.read-once
 

@@ -11,18 +11,18 @@ use Rattle.measure.specs.declared.Fields.{Fields}
 use Rattle.measure.proofs.Placed.{fields-placed}
 use Rattle.message.specs.Types.{saidOf}
 use Rattle.message.specs.Reading.{longest}
-use Rattle.message.specs.Writing.{allowedOf, writeOf}
+use Rattle.message.specs.Writing.{allowedOf, writeUpTo, writeOf}
 use Rattle.message.specs.declared.Message.{Message}
 
 module _ (s : List ℕ) (m : Message) (before : List ℕ) {a : Bool} (judged : a ≡ allowedOf m) where
   -- a value is forbidden,
   pub not-allowed : not a ≡ true → Leaves (writeOf s m before) (refused 5) before
-  unfolding writeOf writtenOf
+  unfolding writeUpTo writtenOf
   not-allowed h = let f : allowedOf m ≡ false = sym judged ∙ not-true a h in record { says = rw f; holds = rw f }
 
   -- or none is, and its fields are written
   pub is-framed : (f : Fields) {said : Answer Nothing} {after : List ℕ} → not a ≡ false → f ≡ placed (saidOf m) → Leaves (framedOf longest s (f .kind) (fieldsOf f) before) said after → Leaves (writeOf s m before) said after
-  unfolding writeOf framedOf placed
+  unfolding writeUpTo framedOf placed
   is-framed f h e l =
       let g : allowedOf m ≡ true = sym judged ∙ not-false a h in
       rw g (rw (e, fields-placed (saidOf m)) at l)

@@ -4,4 +4,3 @@ pub mod Part
 pub mod Names
 pub mod Writing
 pub mod Sound
-pub mod Made

@@ -1,5 +1,5 @@
--- What reading a control message answers: "Type, known or not; Length, at most 16,383; whole body present; fields left to
--- right, the first fault deciding; no byte left over".
+-- What reading a control message answers: "Type, known or not; Length, at most 16,383; whole body present; fields left
+-- to right, the first fault deciding; no byte left over".
 use Prim.Native.Nat.{ℕ, _+_, _-_}
 use mathlib.Core.List.{List}
 use lib.ListN.{length, take}
@@ -10,7 +10,8 @@ use Rattle.field.specs.Entries.{numberAt}
 use Rattle.field.specs.Value.{onFound}
 use Rattle.layout.specs.Layout.{scan}
 use Rattle.layout.specs.Typed.{Typed, typed}
-use Rattle.message.specs.Types.{known, layoutOf, saidOf}
+use Rattle.types.specs.Table.{known, layoutOf}
+use Rattle.message.specs.Types.{saidOf}
 use Rattle.message.specs.declared.BodyRead.{BodyRead}
 use Rattle.message.specs.declared.BodyRead.the-variants.{Whole as WholeBody, No as NoBody}
 use Rattle.message.specs.declared.Reading.{Reading}
@@ -25,18 +26,23 @@ abbrev pub filledBy : ℕ → Outcome Typed → Answer Typed
 filledBy end (whole m last) = guard (eqb last end) (refused 4) (answered m end)
 filledBy end (no fault) = refused (number 4 fault)
 
--- the body of a message of a type, from an offset on, when its Length is known
-unfoldable pub bodyOf : List ℕ → ℕ → ℕ → ℕ → Answer Typed
-bodyOf s type size at =
-    guard (leb size longest) (refused 3)
+-- the body of a message of a type, from an offset on, when its Length is known, which may be up to a limit
+unfoldable pub bodyUpTo : ℕ → List ℕ → ℕ → ℕ → ℕ → Answer Typed
+bodyUpTo limit s type size at =
+    guard (leb size limit) (refused 3)
     (guard (leb size (length s - at)) (refused 1)
     (filledBy (at + size) (typed type (scan (layoutOf type) (take (at + size) s) at))))
 
-unfoldable pub readOf : List ℕ → Answer Typed
-readOf s =
+unfoldable pub readUpTo : ℕ → List ℕ → Answer Typed
+readUpTo limit s =
     onFound (numberAt s 0)
-    (λ type next. guard (known type) (refused 2) (onFound (numberAt s next) (λ size at. bodyOf s type size at) (refused 1)))
+    (λ type next. guard (known type) (refused 2)
+    (onFound (numberAt s next) (λ size at. bodyUpTo limit s type size at) (refused 1)))
     (refused 1)
+
+-- READING, with 01's limit
+abbrev pub readOf : List ℕ → Answer Typed
+readOf s = readUpTo longest s
 
 -- ---- 01's number and values of what is answered
 

@@ -23,9 +23,14 @@ allowedOf (Fetch m) = fetchAllowed m
 allowedOf (Announce m) = true
 allowedOf (Session m) = true
 
--- a message over the bytes s, into a buffer
-unfoldable pub writeOf : List ℕ → Message → List ℕ → Written
-writeOf s m before =
+-- a message over the bytes s, into a buffer, when its body may take up to a limit
+unfoldable pub writeUpTo : ℕ → List ℕ → Message → List ℕ → Written
+writeUpTo limit s m before =
     let t = saidOf m in
     let body = encodeAll s (t .pieces) in
-    writtenOf (both (allowedOf m) (both (leb (t .type) greatest) (rightAll s (t .pieces)))) (sizedAll s (t .pieces)) (leb (length body) longest) (frame (t .type) body) before
+    let isRight = both (allowedOf m) (both (leb (t .type) greatest) (rightAll s (t .pieces))) in
+    writtenOf isRight (sizedAll s (t .pieces)) (leb (length body) limit) (frame (t .type) body) before
+
+-- WRITING, with the limit of reading
+abbrev pub writeOf : List ℕ → Message → List ℕ → Written
+writeOf s m before = writeUpTo longest s m before

@@ -1,8 +1,8 @@
 // Control messages: section 8 of source document 004. A message is Type, Length and a body of Length bytes.
+mod kinds;
 mod name;
 mod reader;
 mod sound;
-mod types;
 mod writer;
 
 use announce::AnnounceMessage;

@@ -3,7 +3,8 @@
 ghost use mathlib.Core.Path.{_≡_};
 ghost use Rattle.layout.specs.Layout.{scan};
 ghost use Rattle.layout.specs.Typed.{typed};
-ghost use Rattle.message.specs.Types.{numberOf, layoutOf};
+ghost use Rattle.types.specs.Table.{layoutOf};
+ghost use Rattle.message.specs.Types.{numberOf};
 ghost use Rattle.message.specs.Reading.{told, toldBody, filledBy, readOf};
 use crate::BodyRead;
 use crate::Found;
@@ -11,7 +12,7 @@ use crate::Kind;
 use crate::LONGEST;
 use crate::Message;
 use crate::Reading;
-use crate::types::type_of;
+use crate::kinds::type_of;
 use announce::AnnounceRead;
 use fetch::FetchRead;
 use field::Fault;

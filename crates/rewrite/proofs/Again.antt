@@ -13,7 +13,7 @@ use Rattle.measure.specs.Measuring.{rightAll, sizedAll, encodeAll}
 use Rattle.shortest.specs.Writing.{writtenOf}
 use Rattle.message.specs.Types.{saidOf}
 use Rattle.message.specs.Reading.{longest, readOf}
-use Rattle.message.specs.Writing.{allowedOf, writeOf}
+use Rattle.message.specs.Writing.{allowedOf, writeUpTo, writeOf}
 use Rattle.message.proofs.Theorems as messages
 use Rattle.header.specs.Told.{datagramSaid, streamSaid, subgroupObjectPieces, fetchObjectPieces}
 use Rattle.header.specs.Reading.{datagramOf, streamOf, subgroupObjectOf, fetchObjectOf}
@@ -58,7 +58,7 @@ module _ {A B : Type 0} {said : A → B} {readOf : List ℕ → Answer B} {write
 -- ---- each of the five
 
 pub control : Rewrites saidOf readOf writeOf framedForm typeOf controlAgain
-unfolding controlAgain writeOf
+unfolding controlAgain writeUpTo
 control =
     record {
       only-room = λ s m out e r. messages.only-room s m out e r;

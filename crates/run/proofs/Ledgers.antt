@@ -14,8 +14,7 @@ use Rattle.field.specs.Fields.{placeAt}
 use Rattle.field.specs.Value.{onFound}
 use Rattle.field.specs.declared.Place.{Place}
 use Rattle.field.proofs.Found.{number-at}
-use Rattle.message.specs.Reading.{readOf}
-use Rattle.message.specs.Made.{answerOf}
+use Rattle.message.proofs.OneReading.{readingOf}
 use Rattle.message.specs.declared.Reading.{Reading}
 use Rattle.message.specs.declared.Reading.the-variants.{Whole, More, Unknown, TooLong, Unfilled, Forbidden, Oversize}
 use Rattle.row.specs.Places.{small}
@@ -66,7 +65,7 @@ reading-fits value Oversize = tt
 
 control-fits : (value : List ℕ) → Startable (controlBy value)
 unfolding controlBy
-control-fits value = reading-fits value (answerOf (readOf value))
+control-fits value = reading-fits value (readingOf value)
 
 arrived-fits : (value : List ℕ) → Startable (arrivedBy value)
 unfolding arrivedBy

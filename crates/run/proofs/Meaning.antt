@@ -19,12 +19,11 @@ use Rattle.field.specs.declared.PlaceRead.the-variants.{Whole as WholePlace, Cu
 use Rattle.field.proofs.Found.{number-at}
 use Rattle.field.proofs.Together.{number-missing, number-there}
 use Rattle.message.specs.Reading.{readOf, told}
-use Rattle.message.specs.Made.{answerOf}
 use Rattle.message.specs.declared.Message.{Message}
 use Rattle.message.specs.declared.Reading.{Reading}
 use Rattle.message.specs.declared.Reading.the-variants.{Whole, More, Unknown, TooLong, Unfilled, Forbidden, Oversize}
 use Rattle.message.proofs.Reading.{the-type}
-use Rattle.message.proofs.Once.{answer-back}
+use Rattle.message.proofs.OneReading.{reading-only}
 use Rattle.run.specs.Events.{partBy, startedBy, malformedBy, readingBy, controlBy, arrivedBy}
 use Rattle.run.specs.declared.Event.{Event}
 use Rattle.run.specs.declared.Event.the-variants.{Control, Arrived, Fault}
@@ -56,7 +55,7 @@ module _ (value : List ℕ) {r : NumberRead} (said : toldNumber r ≡ fieldAt in
 -- a reading tells the field
 pub control-by : (value : List ℕ) {r v : Reading} {e : Event} → told r ≡ readOf value → r ≡ v → e ≡ readingBy value v → e ≡ controlBy value
 unfolding controlBy
-control-by value {r} said h is = is ∙ ap (readingBy value) (sym h ∙ sym (answer-back r) ∙ ap answerOf said)
+control-by value {r} said h is = is ∙ ap (readingBy value) (sym h ∙ reading-only value r said)
 
 -- one that is not whole, by the place of its variant
 behind-first : (n : ℕ) → OneOf (1 ∷ 2 ∷ 3 ∷ 4 ∷ 5 ∷ 6 ∷ []) n → 0 < n

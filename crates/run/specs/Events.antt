@@ -9,8 +9,7 @@ use Rattle.integer.specs.Answer.{guard, pick}
 use Rattle.field.specs.Entries.{numberAt}
 use Rattle.field.specs.Fields.{placeAt}
 use Rattle.field.specs.Value.{onFound}
-use Rattle.message.specs.Reading.{readOf}
-use Rattle.message.specs.Made.{answerOf}
+use Rattle.message.proofs.OneReading.{readingOf}
 use Rattle.message.specs.declared.Reading.{Reading}
 use Rattle.message.specs.declared.Reading.the-variants.{Whole, More, Unknown, TooLong, Unfilled, Forbidden, Oversize}
 use Rattle.ledger.specs.declared.Part.the-variants.{Subscriber, Publisher}
@@ -48,8 +47,9 @@ readingBy value Unfilled = malformedBy Unfilled
 readingBy value Forbidden = malformedBy Forbidden
 readingBy value Oversize = malformedBy Oversize
 
+-- the one reading that `told r ≡ readOf value` names
 unfoldable pub controlBy : List ℕ → Event
-controlBy value = readingBy value (answerOf (readOf value))
+controlBy value = readingBy value (readingOf value)
 
 -- tag 3
 unfoldable pub arrivedBy : List ℕ → Event

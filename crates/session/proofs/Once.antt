@@ -2,7 +2,7 @@
 use mathlib.Core.Path.{_≡_, refl}
 use Rattle.layout.proofs.Lossless.{once}
 use Rattle.session.specs.Told.{saidOf, told}
-use Rattle.session.specs.Made.{messageOf}
+use Rattle.session.proofs.Made.{messageOf}
 use Rattle.session.specs.declared.SessionMessage.{SessionMessage}
 use Rattle.session.specs.declared.SessionMessage.the-variants.{ClientSetup, ServerSetup, GoAway}
 use Rattle.session.specs.declared.SessionRead.{SessionRead}

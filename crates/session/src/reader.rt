@@ -2,7 +2,9 @@
 ghost use mathlib.Core.Path.{_≡_};
 ghost use Rattle.layout.specs.Layout.{scan};
 ghost use Rattle.layout.specs.Typed.{typed};
-ghost use Rattle.session.specs.Layouts.{clientSetup, serverSetup, numberOf, layoutOf};
+ghost use Rattle.types.specs.Sessions.{clientSetup, serverSetup};
+ghost use Rattle.types.specs.Table.{«CLIENT_SETUP», «SERVER_SETUP»};
+ghost use Rattle.session.specs.Kinds.{numberOf, layoutOf};
 ghost use Rattle.session.specs.Told.{told};
 use crate::ClientSetup;
 use crate::ServerSetup;
@@ -31,7 +33,7 @@ pub fn read(kind: SessionKind, s: &[u8], at: usize) -> SessionRead
 
 // CLIENT_SETUP.
 fn read_client(s: &[u8], at: usize) -> SessionRead
-    ensures { λ r. ⌜ told r ≡ typed 0x40 (scan clientSetup (now (s .entry)) at) ⌝ }
+    ensures { λ r. ⌜ told r ≡ typed («CLIENT_SETUP» .number) (scan clientSetup (now (s .entry)) at) ⌝ }
 {
     match field::read_list(s, Kind::Versions, at) {
         ListRead::No(fault) => SessionRead::No(fault),
@@ -53,7 +55,7 @@ fn read_client(s: &[u8], at: usize) -> SessionRead
 
 // SERVER_SETUP.
 fn read_server(s: &[u8], at: usize) -> SessionRead
-    ensures { λ r. ⌜ told r ≡ typed 0x41 (scan serverSetup (now (s .entry)) at) ⌝ }
+    ensures { λ r. ⌜ told r ≡ typed («SERVER_SETUP» .number) (scan serverSetup (now (s .entry)) at) ⌝ }
 {
     let NumberRead::Whole(version, a) = field::read_number(s, at) else {
         return SessionRead::No(Fault::Cut);

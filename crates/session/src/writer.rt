@@ -22,12 +22,13 @@ pub fn number(m: SessionMessage) -> u64
 pub fn fields(m: SessionMessage) -> Fields
     ensures { λ r. ⌜ r ≡ placed (saidOf m) ⌝ }
 {
+    let kind = number(m);
     match m {
         SessionMessage::ClientSetup(x) => {
             let versions = x.versions;
             let parameters = x.parameters;
             places::of2(
-                0x40,
+                kind,
                 Piece::List(Kind::Versions, versions),
                 Piece::List(Kind::Parameters, parameters),
             )
@@ -35,11 +36,11 @@ pub fn fields(m: SessionMessage) -> Fields
         SessionMessage::ServerSetup(x) => {
             let parameters = x.parameters;
             places::of2(
-                0x41,
+                kind,
                 Piece::Number(x.version),
                 Piece::List(Kind::Parameters, parameters),
             )
         }
-        SessionMessage::GoAway(uri) => places::of1(0x10, Piece::Bytes(uri)),
+        SessionMessage::GoAway(uri) => places::of1(kind, Piece::Bytes(uri)),
     }
 }

@@ -4,7 +4,7 @@ use mathlib.Core.Path.{_≡_, refl, sym}
 use Rattle.field.proofs.Unjudged.{apart}
 use Rattle.layout.proofs.Lossless.{once}
 use Rattle.subscription.specs.Told.{saidOf, told}
-use Rattle.subscription.specs.Made.{messageOf}
+use Rattle.subscription.proofs.Made.{messageOf}
 use Rattle.subscription.specs.declared.Filter.{Filter}
 use Rattle.subscription.specs.declared.Filter.the-variants.{Latest, From, Range}
 use Rattle.subscription.specs.declared.Content.{Content}

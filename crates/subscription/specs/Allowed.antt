@@ -2,7 +2,7 @@
 use mathlib.Core.Bool.{Bool, true}
 use Rattle.field.specs.Outcome.{both}
 use Rattle.field.specs.Rules.{askable, givable}
-use Rattle.subscription.specs.Rules.{endsAfter}
+use Rattle.types.specs.Rules.{endsAfter}
 use Rattle.subscription.specs.declared.Filter.{Filter}
 use Rattle.subscription.specs.declared.Filter.the-variants.{Latest, From, Range}
 use Rattle.subscription.specs.declared.SubscriptionMessage.{SubscriptionMessage}

@@ -5,6 +5,7 @@ use Rattle.field.specs.declared.Kind.the-variants.{Parameters}
 use Rattle.field.specs.declared.Piece.{Piece}
 use Rattle.field.specs.declared.Piece.the-variants.{Number, Byte, Bytes, List as Listing, Track as Tracked}
 use Rattle.layout.specs.Typed.{Typed}
+use Rattle.types.specs.Table.{ofRow, «MAX_SUBSCRIBE_ID», «SUBSCRIBES_BLOCKED», SUBSCRIBE, «SUBSCRIBE_OK», «SUBSCRIBE_ERROR», UNSUBSCRIBE, «SUBSCRIBE_UPDATE», «SUBSCRIBE_DONE»}
 use Rattle.subscription.specs.declared.parameters.Head.{Head}
 use Rattle.subscription.specs.declared.parameters.Granted.{Granted}
 use Rattle.subscription.specs.declared.parameters.Front.{Front}
@@ -49,7 +50,8 @@ contentPieces (Largest p) = Byte 1 ∷ Number (p .group) ∷ Number (p .object) 
 
 abbrev pub okPieces : SubscribeOk → List Piece
 okPieces m =
-    Number (m .id) ∷ Number (m .expires) ∷ Byte (m .order) ∷ (contentPieces (m .content) ++ Listing Parameters (m .parameters) ∷ [])
+    Number (m .id) ∷ Number (m .expires) ∷ Byte (m .order)
+    ∷ (contentPieces (m .content) ++ Listing Parameters (m .parameters) ∷ [])
 
 -- ---- the others
 
@@ -65,14 +67,14 @@ abbrev pub donePieces : SubscribeDone → List Piece
 donePieces m = Number (m .id) ∷ Number (m .status) ∷ Number (m .streams) ∷ Bytes (m .reason) ∷ []
 
 abbrev pub saidOf : SubscriptionMessage → Typed
-saidOf (ASubscribeUpdate m) = record { type = 0x2; pieces = updatePieces m }
-saidOf (ASubscribe m) = record { type = 0x3; pieces = subscribePieces m }
-saidOf (ASubscribeOk m) = record { type = 0x4; pieces = okPieces m }
-saidOf (ASubscribeError m) = record { type = 0x5; pieces = errorPieces m }
-saidOf (AUnsubscribe id) = record { type = 0xA; pieces = Number id ∷ [] }
-saidOf (ASubscribeDone m) = record { type = 0xB; pieces = donePieces m }
-saidOf (AMaxSubscribeId id) = record { type = 0x15; pieces = Number id ∷ [] }
-saidOf (ASubscribesBlocked id) = record { type = 0x1A; pieces = Number id ∷ [] }
+saidOf (ASubscribeUpdate m) = ofRow «SUBSCRIBE_UPDATE» (updatePieces m)
+saidOf (ASubscribe m) = ofRow SUBSCRIBE (subscribePieces m)
+saidOf (ASubscribeOk m) = ofRow «SUBSCRIBE_OK» (okPieces m)
+saidOf (ASubscribeError m) = ofRow «SUBSCRIBE_ERROR» (errorPieces m)
+saidOf (AUnsubscribe id) = ofRow UNSUBSCRIBE (Number id ∷ [])
+saidOf (ASubscribeDone m) = ofRow «SUBSCRIBE_DONE» (donePieces m)
+saidOf (AMaxSubscribeId id) = ofRow «MAX_SUBSCRIBE_ID» (Number id ∷ [])
+saidOf (ASubscribesBlocked id) = ofRow «SUBSCRIBES_BLOCKED» (Number id ∷ [])
 
 abbrev pub told : SubscriptionRead → Outcome Typed
 told (Whole m end) = whole (saidOf m) end
@@ -82,6 +84,7 @@ told (No fault) = no fault
 
 abbrev pub frontOf : Front → Typed
 frontOf (FrontOfUpdate id start endGroup priority) =
-    record { type = 0x2; pieces = Number id ∷ Number (start .group) ∷ Number (start .object) ∷ Number endGroup ∷ Byte priority ∷ [] }
-frontOf (FrontOfSubscribe head filter) = record { type = 0x3; pieces = headPieces head ++ filterPieces filter }
-frontOf (FrontOfOk granted content) = record { type = 0x4; pieces = grantedPieces granted ++ contentPieces content }
+    ofRow «SUBSCRIBE_UPDATE»
+    (Number id ∷ Number (start .group) ∷ Number (start .object) ∷ Number endGroup ∷ Byte priority ∷ [])
+frontOf (FrontOfSubscribe head filter) = ofRow SUBSCRIBE (headPieces head ++ filterPieces filter)
+frontOf (FrontOfOk granted content) = ofRow «SUBSCRIBE_OK» (grantedPieces granted ++ contentPieces content)

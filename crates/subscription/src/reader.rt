@@ -4,7 +4,9 @@ ghost use mathlib.Core.List.{[], _∷_, _++_};
 ghost use Rattle.field.specs.declared.Piece.the-variants.{Number, Track as Tracked};
 ghost use Rattle.layout.specs.Layout.{scan};
 ghost use Rattle.layout.specs.Typed.{led, typed};
-ghost use Rattle.subscription.specs.Layouts.{subscribe, delivery, filter, ending, subscribeOk, content, subscribeError, subscribeUpdate, subscribeDone, numberOf, layoutOf};
+ghost use Rattle.types.specs.Subscriptions.{subscribe, delivery, filter, ending, subscribeOk, content, subscribeError, subscribeUpdate, subscribeDone};
+ghost use Rattle.types.specs.Table.{SUBSCRIBE, «SUBSCRIBE_OK», «SUBSCRIBE_ERROR», «SUBSCRIBE_UPDATE», «SUBSCRIBE_DONE»};
+ghost use Rattle.subscription.specs.Kinds.{numberOf, layoutOf};
 ghost use Rattle.subscription.specs.Told.{headPieces, grantedPieces, told};
 use crate::Content;
 use crate::Filter;
@@ -55,7 +57,7 @@ pub fn read(kind: SubscriptionKind, s: &[u8], at: usize) -> Answer
 
 // SUBSCRIBE_UPDATE.
 fn read_update(s: &[u8], at: usize) -> Answer
-    ensures { λ r. ⌜ told r ≡ typed 0x2 (scan subscribeUpdate (now (s .entry)) at) ⌝ }
+    ensures { λ r. ⌜ told r ≡ typed («SUBSCRIBE_UPDATE» .number) (scan subscribeUpdate (now (s .entry)) at) ⌝ }
 {
     let NumberRead::Whole(id, a) = field::read_number(s, at) else {
         return Answer::No(Fault::Cut);
@@ -74,7 +76,7 @@ fn read_update(s: &[u8], at: usize) -> Answer
 
 // SUBSCRIBE: the names that it goes by, then how it is to be delivered and what it asks for.
 fn read_subscribe(s: &[u8], at: usize) -> Answer
-    ensures { λ r. ⌜ told r ≡ typed 0x3 (scan subscribe (now (s .entry)) at) ⌝ }
+    ensures { λ r. ⌜ told r ≡ typed (SUBSCRIBE .number) (scan subscribe (now (s .entry)) at) ⌝ }
 {
     let NumberRead::Whole(id, a) = field::read_number(s, at) else {
         return Answer::No(Fault::Cut);
@@ -94,7 +96,7 @@ fn read_subscribe(s: &[u8], at: usize) -> Answer
 
 // The priority and the group order, behind the names.
 fn read_delivery(s: &[u8], at: usize, id: u64, alias: u64, track: Track) -> Answer
-    ensures { λ r. ⌜ told r ≡ typed 0x3 (led (Number id ∷ Number alias ∷ Tracked track ∷ []) (scan delivery (now (s .entry)) at)) ⌝ }
+    ensures { λ r. ⌜ told r ≡ typed (SUBSCRIBE .number) (led (Number id ∷ Number alias ∷ Tracked track ∷ []) (scan delivery (now (s .entry)) at)) ⌝ }
 {
     let ByteRead::Whole(priority, a) = field::read_byte(s, at) else {
         return Answer::No(Fault::Cut);
@@ -120,7 +122,7 @@ fn read_delivery(s: &[u8], at: usize, id: u64, alias: u64, track: Track) -> Answ
 
 // What the filter type says is asked for.
 fn read_filter(s: &[u8], at: usize, head: Head) -> Answer
-    ensures { λ r. ⌜ told r ≡ typed 0x3 (led (headPieces head) (scan filter (now (s .entry)) at)) ⌝ }
+    ensures { λ r. ⌜ told r ≡ typed (SUBSCRIBE .number) (led (headPieces head) (scan filter (now (s .entry)) at)) ⌝ }
 {
     let NumberRead::Whole(kind, a) = field::read_number(s, at) else {
         return Answer::No(Fault::Cut);
@@ -145,7 +147,7 @@ fn read_filter(s: &[u8], at: usize, head: Head) -> Answer
 
 // The end group, judged by the start.
 fn read_ending(s: &[u8], at: usize, head: Head, start: Place) -> Answer
-    ensures { λ r. ⌜ told r ≡ typed 0x3 (led (headPieces head ++ Number 4 ∷ Number (start .group) ∷ Number (start .object) ∷ []) (scan (ending (start .group)) (now (s .entry)) at)) ⌝ }
+    ensures { λ r. ⌜ told r ≡ typed (SUBSCRIBE .number) (led (headPieces head ++ Number 4 ∷ Number (start .group) ∷ Number (start .object) ∷ []) (scan (ending (start .group)) (now (s .entry)) at)) ⌝ }
 {
     let NumberRead::Whole(end_group, a) = field::read_number(s, at) else {
         return Answer::No(Fault::Cut);
@@ -162,7 +164,7 @@ fn read_ending(s: &[u8], at: usize, head: Head, start: Place) -> Answer
 
 // SUBSCRIBE_OK: what stands before the content, then whether there is some.
 fn read_ok(s: &[u8], at: usize) -> Answer
-    ensures { λ r. ⌜ told r ≡ typed 0x4 (scan subscribeOk (now (s .entry)) at) ⌝ }
+    ensures { λ r. ⌜ told r ≡ typed («SUBSCRIBE_OK» .number) (scan subscribeOk (now (s .entry)) at) ⌝ }
 {
     let NumberRead::Whole(id, a) = field::read_number(s, at) else {
         return Answer::No(Fault::Cut);
@@ -181,7 +183,7 @@ fn read_ok(s: &[u8], at: usize) -> Answer
 
 // Whether content exists, and then the largest place.
 fn read_content(s: &[u8], at: usize, granted: Granted) -> Answer
-    ensures { λ r. ⌜ told r ≡ typed 0x4 (led (grantedPieces granted) (scan content (now (s .entry)) at)) ⌝ }
+    ensures { λ r. ⌜ told r ≡ typed («SUBSCRIBE_OK» .number) (led (grantedPieces granted) (scan content (now (s .entry)) at)) ⌝ }
 {
     let ByteRead::Whole(exists, a) = field::read_byte(s, at) else {
         return Answer::No(Fault::Cut);
@@ -200,7 +202,7 @@ fn read_content(s: &[u8], at: usize, granted: Granted) -> Answer
 
 // SUBSCRIBE_ERROR.
 fn read_error(s: &[u8], at: usize) -> Answer
-    ensures { λ r. ⌜ told r ≡ typed 0x5 (scan subscribeError (now (s .entry)) at) ⌝ }
+    ensures { λ r. ⌜ told r ≡ typed («SUBSCRIBE_ERROR» .number) (scan subscribeError (now (s .entry)) at) ⌝ }
 {
     let NumberRead::Whole(id, a) = field::read_number(s, at) else {
         return Answer::No(Fault::Cut);
@@ -219,7 +221,7 @@ fn read_error(s: &[u8], at: usize) -> Answer
 
 // SUBSCRIBE_DONE.
 fn read_done(s: &[u8], at: usize) -> Answer
-    ensures { λ r. ⌜ told r ≡ typed 0xB (scan subscribeDone (now (s .entry)) at) ⌝ }
+    ensures { λ r. ⌜ told r ≡ typed («SUBSCRIBE_DONE» .number) (scan subscribeDone (now (s .entry)) at) ⌝ }
 {
     let NumberRead::Whole(id, a) = field::read_number(s, at) else {
         return Answer::No(Fault::Cut);

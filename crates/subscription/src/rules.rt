@@ -1,6 +1,6 @@
 // Which range of groups a SUBSCRIBE may ask for.
 ghost use mathlib.Core.Path.{_≡_};
-ghost use Rattle.subscription.specs.Rules.{endsAfter};
+ghost use Rattle.types.specs.Rules.{endsAfter};
 
 // The end group may be the start group, and none before it.
 pub fn ends_after(start_group: u64, end_group: u64) -> bool

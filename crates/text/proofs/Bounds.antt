@@ -1,6 +1,5 @@
 -- How long a line can be. Assumes nothing.
 use Prim.Native.Nat.{ℕ, suc, _*_, _≤_}
-use Prim.Native.String.{String}
 use mathlib.Core.Path.{_≡_, refl}
 use mathlib.Core.Bool.{Bool, true, false}
 use mathlib.Core.List.{List, [], _∷_, _++_}
@@ -11,8 +10,10 @@ use lib.Dec.{leb, eqb, lit≤}
 use lib.ListN.{length, length-append}
 use Rattle.integer.specs.Answer.{pick}
 use Rattle.integer.proofs.Cases.{pick-by}
-use Rattle.text.specs.Letters.{letters, decimalOf}
-use Rattle.text.specs.Words.{wordOf, names, nameIn, nameOf}
+use Rattle.types.specs.Letters.{letters}
+use Rattle.types.specs.Table.{Row, Listed, onListed, messages, rowIn, rowOf, nameOf}
+use Rattle.text.specs.Decimals.{decimalOf}
+use Rattle.text.specs.Words.{wordOf}
 use Rattle.text.specs.Lines.{itemOf, endedOf, isNone, lineOf, itemsOf}
 use Rattle.text.specs.declared.Word.{Word as Wording}
 use Rattle.text.specs.declared.Word.the-variants.{Open, Closed, Columns, Pending, Active, Nothing, TraceFaultAt, Start, Malformed, Arrival}
@@ -45,21 +46,24 @@ word-bound Malformed = lit≤ tt
 word-bound Arrival = lit≤ tt
 
 -- every name of a table takes so many bytes at most
-areWithin : ℕ → List (ℕ × String) → Bool
+areWithin : ℕ → List Row → Bool
 areWithin n [] = true
-areWithin n (row ∷ rows) = pick (leb (length (letters (row .1))) n) (areWithin n rows) false
+areWithin n (row ∷ rows) = pick (leb (length (letters (row .name))) n) (areWithin n rows) false
 
-within : (n : ℕ) (rows : List (ℕ × String)) (type : ℕ) → areWithin n rows ≡ true → length (nameIn rows type) ≤ n
-unfolding areWithin nameIn
+nameIn : Listed → List ℕ
+nameIn l = onListed l (λ r. letters (r .name)) []
+
+within : (n : ℕ) (rows : List Row) (type : ℕ) → areWithin n rows ≡ true → length (nameIn (rowIn rows type)) ≤ n
+unfolding areWithin nameIn rowIn
 within n [] type = λ h. omega arith
 within n (row ∷ rows) type =
-    pick-by (λ (t : Bool). t ≡ true → length (nameIn (row ∷ rows) type) ≤ n) (leb (length (letters (row .1))) n)
-    (λ e h. pick-by (λ (l : List ℕ). length l ≤ n) (eqb type (row .0)) (λ t. leb-true (length (letters (row .1))) n e) (λ t. within n rows type h))
+    pick-by (λ (t : Bool). t ≡ true → length (nameIn (rowIn (row ∷ rows) type)) ≤ n) (leb (length (letters (row .name))) n)
+    (λ e h. pick-by (λ (l : Listed). length (nameIn l) ≤ n) (eqb type (row .number)) (λ t. leb-true (length (letters (row .name))) n e) (λ t. within n rows type h))
     (λ e h. absurd (let z : _≡_ {A = ℕ} 0 1 = cc in omega arith))
 
 pub name-bound : (type : ℕ) → length (nameOf type) ≤ 25
-unfolding nameOf names areWithin letters
-name-bound type = within 25 names type refl
+unfolding nameOf rowOf messages nameIn areWithin letters
+name-bound type = within 25 messages type refl
 
 -- so no item is longer than the columns,
 pub item-bound : (item : Item) → length (itemOf item) ≤ 33

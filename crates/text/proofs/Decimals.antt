@@ -11,7 +11,7 @@ use lib.ListN.{length, set, drop, length-append, length-set}
 use lib.Seq.{drop-cons, getD-set-same, drop-set-lt}
 use Rattle.integer.proofs.Cases.{pick-by}
 use Rattle.shortest.specs.Putting.{Put}
-use Rattle.text.specs.Letters.{decimalIn, decimalOf, spelled, numberIn}
+use Rattle.text.specs.Decimals.{decimalIn, decimalOf, spelled, numberIn}
 
 -- ---- how many there are
 

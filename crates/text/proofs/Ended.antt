@@ -10,8 +10,10 @@ use lib.Seq.{drop-cons, set-at, append-snoc}
 use Rattle.integer.specs.Answer.{pick}
 use Rattle.shortest.specs.Putting.{Put}
 use Rattle.shortest.proofs.Puts.{lent, given, put-length, Room, first-fits, ends-within, second-fits, both-fit, put-both, byte-put}
-use Rattle.text.specs.Letters.{letters, decimalOf}
-use Rattle.text.specs.Words.{wordOf, nameOf}
+use Rattle.types.specs.Letters.{letters}
+use Rattle.types.specs.Table.{nameOf}
+use Rattle.text.specs.Decimals.{decimalOf}
+use Rattle.text.specs.Words.{wordOf}
 use Rattle.text.specs.Lines.{itemOf, endedOf}
 use Rattle.text.specs.declared.Word.{Word as Wording}
 use Rattle.text.specs.declared.Item.{Item}

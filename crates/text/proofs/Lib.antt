@@ -1,7 +1,6 @@
 pub mod Placing
 pub mod Decimals
 pub mod Copied
-pub mod Naming
 pub mod Standing
 pub mod Ended
 pub mod Following

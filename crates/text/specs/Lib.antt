@@ -1,4 +1,4 @@
-pub mod Letters
+pub mod Decimals
 pub mod Words
 pub mod Parts
 pub mod Lines

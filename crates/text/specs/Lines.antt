@@ -7,8 +7,10 @@ use lib.Dec.{leb}
 use Rattle.integer.specs.Answer.{guard, unwritten, pick, Answer, refused, Nothing, wrote, Written}
 use Rattle.integer.specs.Integer.{over}
 use Rattle.measure.specs.Placing.{upTo}
-use Rattle.text.specs.Letters.{letters, decimalOf}
-use Rattle.text.specs.Words.{wordOf, nameOf}
+use Rattle.types.specs.Letters.{letters}
+use Rattle.types.specs.Table.{nameOf}
+use Rattle.text.specs.Decimals.{decimalOf}
+use Rattle.text.specs.Words.{wordOf}
 use Rattle.text.specs.declared.Item.{Item}
 use Rattle.text.specs.declared.Item.the-variants.{Number, Word, Rule, Name}
 use Rattle.text.specs.declared.Slot.{Slot}

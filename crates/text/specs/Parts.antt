@@ -3,8 +3,9 @@ use Prim.Native.Nat.{ℕ, _-_, _≤_}
 use mathlib.Core.Path.{_≡_}
 use mathlib.Core.List.{List, [], _∷_, _++_, map}
 use lib.ListN.{length, take, drop}
-use Rattle.text.specs.Letters.{letters}
-use Rattle.text.specs.Words.{wordOf, names}
+use Rattle.types.specs.Letters.{letters}
+use Rattle.types.specs.Table.{messages}
+use Rattle.text.specs.Words.{wordOf}
 use Rattle.text.specs.declared.Word.{Word}
 use Rattle.text.specs.declared.Word.the-variants.{Open, Closed, Columns, Pending, Active, Nothing, TraceFaultAt, Start, Malformed, Arrival}
 
@@ -20,7 +21,7 @@ unfoldable pub wordsText : List ℕ
 wordsText = joined (map wordOf words)
 
 unfoldable pub namesText : List ℕ
-namesText = joined (map (λ row. letters (row .1)) names)
+namesText = joined (map (λ row. letters (row .name)) messages)
 
 -- the part of a text from start up to end
 abbrev pub partOf : List ℕ → ℕ → ℕ → List ℕ

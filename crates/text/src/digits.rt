@@ -2,7 +2,7 @@
 ghost use mathlib.Core.Path.{_≡_};
 ghost use Prim.Native.Nat.{_≤_};
 ghost use lib.ListN.{length};
-ghost use Rattle.text.specs.Letters.{decimalOf};
+ghost use Rattle.text.specs.Decimals.{decimalOf};
 ghost use Rattle.shortest.specs.Putting.{Put};
 
 // How many digits n has.

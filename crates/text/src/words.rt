@@ -4,7 +4,8 @@ ghost use mathlib.Core.Path.{_≡_};
 ghost use Prim.Native.Nat.{_≤_, _-_};
 ghost use lib.ListN.{length};
 ghost use Rattle.shortest.specs.Putting.{Put};
-ghost use Rattle.text.specs.Words.{wordOf, nameOf};
+ghost use Rattle.types.specs.Table.{nameOf};
+ghost use Rattle.text.specs.Words.{wordOf};
 ghost use Rattle.text.specs.Parts.{wordsText, namesText, partOf, Lies, Stands};
 use crate::Word;
 
@@ -33,32 +34,32 @@ pub fn name_part(kind: u64) -> Part
     ensures { λ r. ⌜ Stands namesText (nameOf kind) (r .0) (r .1) ⌝ }
 {
     match kind {
-        0x2 => Part(0, 16),
-        0x3 => Part(16, 25),
-        0x4 => Part(25, 37),
-        0x5 => Part(37, 52),
-        0x6 => Part(52, 60),
-        0x7 => Part(60, 71),
-        0x8 => Part(71, 85),
-        0x9 => Part(85, 95),
-        0xA => Part(95, 106),
-        0xB => Part(106, 120),
-        0xC => Part(120, 135),
-        0xD => Part(135, 155),
-        0xE => Part(155, 167),
-        0x10 => Part(167, 173),
-        0x11 => Part(173, 192),
-        0x12 => Part(192, 214),
-        0x13 => Part(214, 239),
-        0x14 => Part(239, 260),
-        0x15 => Part(260, 276),
-        0x16 => Part(276, 281),
-        0x17 => Part(281, 293),
-        0x18 => Part(293, 301),
-        0x19 => Part(301, 312),
-        0x1A => Part(312, 330),
-        0x40 => Part(330, 342),
-        0x41 => Part(342, 354),
+        0x40 => Part(0, 12),
+        0x41 => Part(12, 24),
+        0x10 => Part(24, 30),
+        0x15 => Part(30, 46),
+        0x1A => Part(46, 64),
+        0x3 => Part(64, 73),
+        0x4 => Part(73, 85),
+        0x5 => Part(85, 100),
+        0xA => Part(100, 111),
+        0x2 => Part(111, 127),
+        0xB => Part(127, 141),
+        0x16 => Part(141, 146),
+        0x18 => Part(146, 154),
+        0x19 => Part(154, 165),
+        0x17 => Part(165, 177),
+        0xD => Part(177, 197),
+        0xE => Part(197, 209),
+        0x6 => Part(209, 217),
+        0x7 => Part(217, 228),
+        0x8 => Part(228, 242),
+        0x9 => Part(242, 252),
+        0xC => Part(252, 267),
+        0x11 => Part(267, 286),
+        0x12 => Part(286, 308),
+        0x13 => Part(308, 333),
+        0x14 => Part(333, 354),
         _ => Part(0, 0),
     }
 }
@@ -119,31 +120,31 @@ pub fn put_name(out: &mut [u8], kind: u64) -> usize
 {
     let part = name_part(kind);
     let names = b"\
-        SUBSCRIBE_UPDATE\
+        CLIENT_SETUP\
+        SERVER_SETUP\
+        GOAWAY\
+        MAX_SUBSCRIBE_ID\
+        SUBSCRIBES_BLOCKED\
         SUBSCRIBE\
         SUBSCRIBE_OK\
         SUBSCRIBE_ERROR\
+        UNSUBSCRIBE\
+        SUBSCRIBE_UPDATE\
+        SUBSCRIBE_DONE\
+        FETCH\
+        FETCH_OK\
+        FETCH_ERROR\
+        FETCH_CANCEL\
+        TRACK_STATUS_REQUEST\
+        TRACK_STATUS\
         ANNOUNCE\
         ANNOUNCE_OK\
         ANNOUNCE_ERROR\
         UNANNOUNCE\
-        UNSUBSCRIBE\
-        SUBSCRIBE_DONE\
         ANNOUNCE_CANCEL\
-        TRACK_STATUS_REQUEST\
-        TRACK_STATUS\
-        GOAWAY\
         SUBSCRIBE_ANNOUNCES\
         SUBSCRIBE_ANNOUNCES_OK\
         SUBSCRIBE_ANNOUNCES_ERROR\
-        UNSUBSCRIBE_ANNOUNCES\
-        MAX_SUBSCRIBE_ID\
-        FETCH\
-        FETCH_CANCEL\
-        FETCH_OK\
-        FETCH_ERROR\
-        SUBSCRIBES_BLOCKED\
-        CLIENT_SETUP\
-        SERVER_SETUP";
+        UNSUBSCRIBE_ANNOUNCES";
     put_part(out, names, part)
 }

@@ -1,9 +1,8 @@
 -- `fields` meets its contract. Assumes nothing.
 use borrow.Author.Needs.{needs}
-use Rattle.layout.proofs.Said.{told-of}
+use Rattle.types.proofs.Said.{said-of}
 use Rattle.measure.specs.Fields.{placed}
 use Rattle.announce.specs.Told.{saidOf}
-use Rattle.announce.proofs.ByKind.{numbered}
 use Rattle.announce.proofs.writer.fields.Statement.{statement}
 use Rattle.announce.proofs.writer.fields.Tie as tie
 
@@ -11,7 +10,6 @@ pub fields-spec : {M : Type 1} → statement M
 fields-spec =
     tie.close
     (tie.spec
-    (λ c. search needs) (λ c κs. search needs) (λ c κs. search needs)
-    (λ c. search needs) (λ c κs. search needs) (λ c κs. search needs)
-    (λ c. search needs) (λ c κs. search needs) (λ c κs. search needs)
-    (λ c. search (told-of (λ m. placed (saidOf m)), numbered)) (λ c. search (told-of (λ m. placed (saidOf m)), numbered)) (λ c. search (told-of (λ m. placed (saidOf m)), numbered)))
+    (λ c κs. search needs)
+    (λ c. search needs) (λ c κs. search needs) (λ c. search needs) (λ c κs. search needs) (λ c. search needs) (λ c κs. search needs)
+    (λ c. search (said-of saidOf placed)) (λ c. search (said-of saidOf placed)) (λ c. search (said-of saidOf placed)))

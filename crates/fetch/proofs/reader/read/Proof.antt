@@ -2,7 +2,8 @@
 use borrow.Author.Needs.{needs}
 use Rattle.layout.proofs.Family.{by-reader, by-fields, by-fault}
 use Rattle.layout.proofs.Steps.{stopping, going}
-use Rattle.fetch.specs.Layouts.{rowOf, numberOf, layoutOf, fetchCancel, trackStatusRequest}
+use Rattle.types.specs.Fetches.{fetchCancel, trackStatusRequest}
+use Rattle.fetch.specs.Kinds.{rowOf, numberOf, layoutOf}
 use Rattle.fetch.proofs.reader.read.Statement.{statement}
 use Rattle.fetch.proofs.reader.read.Tie as tie
 

@@ -2,7 +2,7 @@
 use borrow.Author.Needs.{needs}
 use Rattle.layout.proofs.Family.{typed-no, typed-whole}
 use Rattle.layout.proofs.Steps.{stopping, going}
-use Rattle.fetch.specs.Layouts.{fetchError}
+use Rattle.types.specs.Fetches.{fetchError}
 use Rattle.fetch.proofs.reader.read_error.Statement.{statement}
 use Rattle.fetch.proofs.reader.read_error.Tie as tie
 

@@ -2,7 +2,7 @@
 use borrow.Author.Needs.{needs}
 use Rattle.layout.proofs.Family.{typed-no, typed-on}
 use Rattle.layout.proofs.Steps.{stopping, going}
-use Rattle.fetch.specs.Layouts.{fetch}
+use Rattle.types.specs.Fetches.{fetch}
 use Rattle.fetch.proofs.reader.read_fetch.Statement.{statement}
 use Rattle.fetch.proofs.reader.read_fetch.Tie as tie
 

@@ -2,7 +2,7 @@
 use borrow.Author.Needs.{needs}
 use Rattle.layout.proofs.Family.{behind-no, behind-on}
 use Rattle.layout.proofs.Steps.{stopping, going}
-use Rattle.fetch.specs.Layouts.{joining}
+use Rattle.types.specs.Fetches.{joining}
 use Rattle.fetch.proofs.reader.read_joining.Statement.{statement}
 use Rattle.fetch.proofs.reader.read_joining.Tie as tie
 

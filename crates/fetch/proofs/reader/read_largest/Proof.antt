@@ -2,7 +2,7 @@
 use borrow.Author.Needs.{needs}
 use Rattle.layout.proofs.Family.{behind-no, behind-whole}
 use Rattle.layout.proofs.Steps.{stopping, going}
-use Rattle.fetch.specs.Layouts.{largest}
+use Rattle.types.specs.Fetches.{largest}
 use Rattle.fetch.proofs.reader.read_largest.Statement.{statement}
 use Rattle.fetch.proofs.reader.read_largest.Tie as tie
 

@@ -2,7 +2,7 @@
 use borrow.Author.Needs.{needs}
 use Rattle.layout.proofs.Family.{behind-no, behind-on}
 use Rattle.layout.proofs.Steps.{number-as, stopping, going}
-use Rattle.fetch.specs.Layouts.{range}
+use Rattle.types.specs.Fetches.{range}
 use Rattle.fetch.proofs.reader.read_range.Statement.{statement}
 use Rattle.fetch.proofs.reader.read_range.Tie as tie
 

@@ -2,7 +2,7 @@
 use borrow.Author.Needs.{needs}
 use Rattle.layout.proofs.Family.{behind-no, behind-on}
 use Rattle.layout.proofs.Steps.{stopping, going}
-use Rattle.fetch.specs.Layouts.{standalone}
+use Rattle.types.specs.Fetches.{standalone}
 use Rattle.fetch.proofs.reader.read_standalone.Statement.{statement}
 use Rattle.fetch.proofs.reader.read_standalone.Tie as tie
 

@@ -2,7 +2,7 @@
 use borrow.Author.Needs.{needs}
 use Rattle.layout.proofs.Family.{typed-no, typed-on}
 use Rattle.layout.proofs.Steps.{stopping, going}
-use Rattle.fetch.specs.Layouts.{trackStatus}
+use Rattle.types.specs.Fetches.{trackStatus}
 use Rattle.fetch.proofs.reader.read_status.Statement.{statement}
 use Rattle.fetch.proofs.reader.read_status.Tie as tie
 

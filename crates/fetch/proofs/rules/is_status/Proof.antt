@@ -1,6 +1,6 @@
 -- `is_status` meets its contract. Assumes nothing.
 use mathlib.Core.Path.{refl}
-use Rattle.fetch.specs.Rules.{isStatus}
+use Rattle.types.specs.Rules.{isStatus}
 use Rattle.fetch.proofs.rules.is_status.Statement.{statement}
 use Rattle.fetch.proofs.rules.is_status.Tie as tie
 

@@ -1,7 +1,7 @@
 -- `may_hold` meets its contract. Assumes nothing.
 use native.Mathlib.Omega.{arith}
 use borrow.Author.Tests.{le-leb, lt-leb}
-use Rattle.fetch.specs.Rules.{mayHold}
+use Rattle.types.specs.Rules.{mayHold}
 use Rattle.fetch.proofs.rules.may_hold.Statement.{statement}
 use Rattle.fetch.proofs.rules.may_hold.Tie as tie
 

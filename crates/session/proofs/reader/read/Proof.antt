@@ -2,7 +2,8 @@
 use borrow.Author.Needs.{needs}
 use Rattle.layout.proofs.Family.{by-reader, by-fields, by-fault}
 use Rattle.layout.proofs.Steps.{stopping, going}
-use Rattle.session.specs.Layouts.{rowOf, numberOf, layoutOf, goAway}
+use Rattle.types.specs.Sessions.{goAway}
+use Rattle.session.specs.Kinds.{rowOf, numberOf, layoutOf}
 use Rattle.session.proofs.reader.read.Statement.{statement}
 use Rattle.session.proofs.reader.read.Tie as tie
 

@@ -2,7 +2,8 @@
 use borrow.Author.Needs.{needs}
 use Rattle.layout.proofs.Family.{by-reader, by-fields, by-fault}
 use Rattle.layout.proofs.Steps.{stopping, going}
-use Rattle.subscription.specs.Layouts.{rowOf, numberOf, layoutOf, only}
+use Rattle.types.specs.Subscriptions.{only}
+use Rattle.subscription.specs.Kinds.{rowOf, numberOf, layoutOf}
 use Rattle.subscription.proofs.reader.read.Statement.{statement}
 use Rattle.subscription.proofs.reader.read.Tie as tie
 

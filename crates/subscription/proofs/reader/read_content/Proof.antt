@@ -2,7 +2,7 @@
 use borrow.Author.Needs.{needs}
 use Rattle.layout.proofs.Family.{behind-no, behind-on}
 use Rattle.layout.proofs.Steps.{byte-as, byte-past-as, stopping, going}
-use Rattle.subscription.specs.Layouts.{content}
+use Rattle.types.specs.Subscriptions.{content}
 use Rattle.subscription.proofs.reader.read_content.Statement.{statement}
 use Rattle.subscription.proofs.reader.read_content.Tie as tie
 

@@ -2,7 +2,7 @@
 use borrow.Author.Needs.{needs}
 use Rattle.layout.proofs.Family.{behind-no, behind-on}
 use Rattle.layout.proofs.Steps.{stopping, going}
-use Rattle.subscription.specs.Layouts.{delivery}
+use Rattle.types.specs.Subscriptions.{delivery}
 use Rattle.subscription.proofs.reader.read_delivery.Statement.{statement}
 use Rattle.subscription.proofs.reader.read_delivery.Tie as tie
 

@@ -2,7 +2,7 @@
 use borrow.Author.Needs.{needs}
 use Rattle.layout.proofs.Family.{typed-no, typed-whole}
 use Rattle.layout.proofs.Steps.{stopping, going}
-use Rattle.subscription.specs.Layouts.{subscribeDone}
+use Rattle.types.specs.Subscriptions.{subscribeDone}
 use Rattle.subscription.proofs.reader.read_done.Statement.{statement}
 use Rattle.subscription.proofs.reader.read_done.Tie as tie
 

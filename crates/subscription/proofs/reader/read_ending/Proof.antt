@@ -2,7 +2,7 @@
 use borrow.Author.Needs.{needs}
 use Rattle.layout.proofs.Family.{behind-no, behind-on}
 use Rattle.layout.proofs.Steps.{stopping, going}
-use Rattle.subscription.specs.Layouts.{ending}
+use Rattle.types.specs.Subscriptions.{ending}
 use Rattle.subscription.proofs.reader.read_ending.Statement.{statement}
 use Rattle.subscription.proofs.reader.read_ending.Tie as tie
 

@@ -2,7 +2,7 @@
 use borrow.Author.Needs.{needs}
 use Rattle.layout.proofs.Family.{typed-no, typed-whole}
 use Rattle.layout.proofs.Steps.{stopping, going}
-use Rattle.subscription.specs.Layouts.{subscribeError}
+use Rattle.types.specs.Subscriptions.{subscribeError}
 use Rattle.subscription.proofs.reader.read_error.Statement.{statement}
 use Rattle.subscription.proofs.reader.read_error.Tie as tie
 

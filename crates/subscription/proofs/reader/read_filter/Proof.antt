@@ -2,7 +2,7 @@
 use borrow.Author.Needs.{needs}
 use Rattle.layout.proofs.Family.{behind-no, behind-on}
 use Rattle.layout.proofs.Steps.{number-as, number-past-as, stopping, going}
-use Rattle.subscription.specs.Layouts.{filter}
+use Rattle.types.specs.Subscriptions.{filter}
 use Rattle.subscription.proofs.reader.read_filter.Statement.{statement}
 use Rattle.subscription.proofs.reader.read_filter.Tie as tie
 

@@ -2,7 +2,7 @@
 use borrow.Author.Needs.{needs}
 use Rattle.layout.proofs.Family.{typed-no, typed-on}
 use Rattle.layout.proofs.Steps.{stopping, going}
-use Rattle.subscription.specs.Layouts.{subscribeOk}
+use Rattle.types.specs.Subscriptions.{subscribeOk}
 use Rattle.subscription.proofs.reader.read_ok.Statement.{statement}
 use Rattle.subscription.proofs.reader.read_ok.Tie as tie
 

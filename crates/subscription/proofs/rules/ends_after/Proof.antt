@@ -1,6 +1,6 @@
 -- `ends_after` meets its contract. Assumes nothing.
 use mathlib.Core.Path.{refl}
-use Rattle.subscription.specs.Rules.{endsAfter}
+use Rattle.types.specs.Rules.{endsAfter}
 use Rattle.subscription.proofs.rules.ends_after.Statement.{statement}
 use Rattle.subscription.proofs.rules.ends_after.Tie as tie
 

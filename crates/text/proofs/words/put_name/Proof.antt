@@ -1,18 +1,18 @@
 -- `put_name` meets its contract: the name is the part of the text that was put. Assumes nothing.
 use borrow.Author.Needs.{needs}
-use Rattle.text.specs.Letters.{letters}
-use Rattle.text.specs.Words.{names}
+use Rattle.types.specs.Letters.{letters}
+use Rattle.types.specs.Table.{messages}
 use Rattle.text.specs.Parts.{joined, namesText}
 use Rattle.text.proofs.Standing.{stands-fits, stands-put}
 use Rattle.text.proofs.words.put_name.Statement.{statement}
 use Rattle.text.proofs.words.put_name.Tie as tie
 
 asks : tie.Need-put-part-requires
-unfolding letters names joined namesText
+unfolding letters messages joined namesText
 asks c κs = stands-fits (c .before .before .before .name-part .ensures) (c .before .before .before .before .before .pre)
 
 returns : tie.Need-returns
-unfolding letters names joined namesText
+unfolding letters messages joined namesText
 returns c = stands-put (c .before .before .before .before .before .before .name-part .ensures) (c .before .before .put-part .ensures)
 
 pub put-name-spec : {M : Type 1} → statement M

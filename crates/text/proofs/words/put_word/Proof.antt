@@ -1,6 +1,6 @@
 -- `put_word` meets its contract: the word is the part of the text that was put. Assumes nothing.
 use borrow.Author.Needs.{needs}
-use Rattle.text.specs.Letters.{letters}
+use Rattle.types.specs.Letters.{letters}
 use Rattle.text.specs.Words.{wordOf}
 use Rattle.text.specs.Parts.{words, joined, wordsText}
 use Rattle.text.proofs.Standing.{stands-fits, stands-put}

@@ -1,7 +1,7 @@
 -- `word_part` meets its contract: in each arm, the part is the word. Assumes nothing.
 use mathlib.Core.Path.{refl}
 use borrow.Author.Needs.{needs}
-use Rattle.text.specs.Letters.{letters}
+use Rattle.types.specs.Letters.{letters}
 use Rattle.text.specs.Words.{wordOf}
 use Rattle.text.specs.Parts.{words, joined, wordsText}
 use Rattle.text.proofs.Standing.{standing}

@@ -1,18 +1,11 @@
--- Text is ASCII: a letter is one byte.
+-- Numbers in decimal digits.
 use Prim.Native.Nat.{ℕ, zero, suc, _+_, _-_, _*_, _/_, _%_}
-use Prim.Native.Char.{code}
-use Prim.Native.String.{String, [] as empty, _∷_ as _then_}
 use mathlib.Core.List.{List, [], _∷_, _++_}
 use lib.Dec.{ltb}
 use Rattle.integer.specs.Answer.{pick}
 
--- the bytes of a text
-unfoldable pub letters : String → List ℕ
-letters empty = []
-letters (c then rest) = code c ∷ letters rest
-
--- a number in decimal digits, if so many are enough for it: one below ten is its digit, another is its tenth part and then its
--- last digit
+-- a number in decimal digits, if so many are enough for it: one below ten is its digit, another is its tenth part and
+-- then its last digit
 unfoldable pub decimalIn : ℕ → ℕ → List ℕ
 decimalIn zero n = []
 decimalIn (suc k) n = pick (ltb n 10) ((48 + n) ∷ []) (decimalIn k (n / 10) ++ (48 + n % 10) ∷ [])

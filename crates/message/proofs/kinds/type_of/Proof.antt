@@ -1,6 +1,4 @@
 -- `type_of` meets its contract: a known number stands for its message, and every other for none. Assumes nothing.
-use Prim.Native.Nat.{_≤_}
-use mathlib.Core.Path.{refl}
 use native.Mathlib.Omega.{arith}
 use Rattle.subscription.specs.declared.kinds.SubscriptionKind.the-variants as subscription
 use Rattle.fetch.specs.declared.kinds.FetchKind.the-variants as fetch
@@ -9,18 +7,19 @@ use Rattle.announce.specs.declared.kinds.Naming.the-variants as naming
 use Rattle.announce.specs.declared.kinds.Asking.the-variants as asking
 use Rattle.announce.specs.declared.kinds.Refusing.the-variants as refusing
 use Rattle.session.specs.declared.kinds.SessionKind.the-variants as session
-use Rattle.subscription.specs.Layouts.{rowOf as subscriptionRow}
-use Rattle.fetch.specs.Layouts.{rowOf as fetchRow}
-use Rattle.announce.specs.Layouts.{numberOf as announceNumber}
-use Rattle.session.specs.Layouts.{rowOf as sessionRow}
-use Rattle.message.specs.Types.{known, numberOf}
+use Rattle.subscription.specs.Kinds.{rowOf as subscriptionRow}
+use Rattle.fetch.specs.Kinds.{rowOf as fetchRow}
+use Rattle.announce.specs.Kinds.{rowOf as announceRow}
+use Rattle.session.specs.Kinds.{rowOf as sessionRow}
+use Rattle.types.proofs.Gaps.{below-the-first}
+use Rattle.message.specs.Types.{numberOf}
 use Rattle.message.specs.declared.Kind.the-variants.{Subscription, Fetch, Announce, Session}
-use Rattle.message.proofs.Known.{type-known, type-gap, type-low, type-middle, type-high, past}
-use Rattle.message.proofs.types.type_of.Statement.{statement}
-use Rattle.message.proofs.types.type_of.Tie as tie
+use Rattle.message.proofs.Known.{type-known, type-none, type-gap, type-missed}
+use Rattle.message.proofs.kinds.type_of.Statement.{statement}
+use Rattle.message.proofs.kinds.type_of.Tie as tie
 
 pub type-of-spec : {M : Type 1} → statement M
-unfolding known numberOf subscriptionRow fetchRow announceNumber sessionRow
+unfolding numberOf subscriptionRow fetchRow announceRow sessionRow
 type-of-spec =
     tie.close
     (tie.spec
@@ -37,7 +36,7 @@ type-of-spec =
     (λ c. type-known (Announce (Refused refusing.AnnounceCancel)) (c .match .keys11))
     (λ c. type-known (Fetch fetch.TrackStatusRequest) (c .match .keys12))
     (λ c. type-known (Fetch fetch.TrackStatus) (c .match .keys13))
-    (λ c. type-gap 0xF (c .match .keys14) refl)
+    (λ c. type-gap (c .match .keys14))
     (λ c. type-known (Session session.GoAway) (c .match .keys15))
     (λ c. type-known (Announce (Asked asking.SubscribeAnnounces)) (c .match .keys16))
     (λ c. type-known (Announce (Named naming.SubscribeAnnouncesOk)) (c .match .keys17))
@@ -51,11 +50,6 @@ type-of-spec =
     (λ c. type-known (Subscription subscription.SubscribesBlocked) (c .match .keys25))
     (λ c. type-known (Session session.ClientSetup) (c .match .keys26))
     (λ c. type-known (Session session.ServerSetup) (c .match .keys27))
-    (λ c. type-low (omega arith))
-    (λ c.
-    let r = c .before .before .match .rest in
-    let h : 2 ≤ c .before .before .before .args .number = c .before .if1 .left in
-    type-middle (past (past (past (past (past (past (past (past (past (past (past (past (past (past (past (past (past (past (past (past (past (past (past (past (past h (r .0 .0 .0 .0 .0 .0 .0 .0 .0 .0 .0 .0 .0 .0 .0 .0 .0 .0 .0 .0 .0 .0 .0 .0 .0 .0 .1)) (r .0 .0 .0 .0 .0 .0 .0 .0 .0 .0 .0 .0 .0 .0 .0 .0 .0 .0 .0 .0 .0 .0 .0 .0 .0 .1)) (r .0 .0 .0 .0 .0 .0 .0 .0 .0 .0 .0 .0 .0 .0 .0 .0 .0 .0 .0 .0 .0 .0 .0 .0 .1)) (r .0 .0 .0 .0 .0 .0 .0 .0 .0 .0 .0 .0 .0 .0 .0 .0 .0 .0 .0 .0 .0 .0 .0 .1)) (r .0 .0 .0 .0 .0 .0 .0 .0 .0 .0 .0 .0 .0 .0 .0 .0 .0 .0 .0 .0 .0 .0 .1)) (r .0 .0 .0 .0 .0 .0 .0 .0 .0 .0 .0 .0 .0 .0 .0 .0 .0 .0 .0 .0 .0 .1)) (r .0 .0 .0 .0 .0 .0 .0 .0 .0 .0 .0 .0 .0 .0 .0 .0 .0 .0 .0 .0 .1)) (r .0 .0 .0 .0 .0 .0 .0 .0 .0 .0 .0 .0 .0 .0 .0 .0 .0 .0 .0 .1)) (r .0 .0 .0 .0 .0 .0 .0 .0 .0 .0 .0 .0 .0 .0 .0 .0 .0 .0 .1)) (r .0 .0 .0 .0 .0 .0 .0 .0 .0 .0 .0 .0 .0 .0 .0 .0 .0 .1)) (r .0 .0 .0 .0 .0 .0 .0 .0 .0 .0 .0 .0 .0 .0 .0 .0 .1)) (r .0 .0 .0 .0 .0 .0 .0 .0 .0 .0 .0 .0 .0 .0 .0 .1)) (r .0 .0 .0 .0 .0 .0 .0 .0 .0 .0 .0 .0 .0 .0 .1)) (r .0 .0 .0 .0 .0 .0 .0 .0 .0 .0 .0 .0 .0 .1)) (r .0 .0 .0 .0 .0 .0 .0 .0 .0 .0 .0 .0 .1)) (r .0 .0 .0 .0 .0 .0 .0 .0 .0 .0 .0 .1)) (r .0 .0 .0 .0 .0 .0 .0 .0 .0 .0 .1)) (r .0 .0 .0 .0 .0 .0 .0 .0 .0 .1)) (r .0 .0 .0 .0 .0 .0 .0 .0 .1)) (r .0 .0 .0 .0 .0 .0 .0 .1)) (r .0 .0 .0 .0 .0 .0 .1)) (r .0 .0 .0 .0 .0 .1)) (r .0 .0 .0 .0 .1)) (r .0 .0 .0 .1)) (r .0 .0 .1)) (c .if2 .taken))
-    (λ c.
-    let r = c .before .before .match .rest in
-    type-high (past (past (c .if2 .left) (r .0 .1)) (r .1))))
+    (λ c. type-none _ (below-the-first (omega arith)))
+    (λ c. type-missed _ (c .before .before .match .rest))
+    (λ c. type-missed _ (c .before .before .match .rest)))

@@ -1,0 +1,21 @@
+-- The row of the table that each kind of message stands in.
+use Prim.Native.Nat.{ℕ}
+use Rattle.layout.specs.Layout.{Layout}
+use Rattle.types.specs.Table.{Row, FETCH, «FETCH_OK», «FETCH_ERROR», «FETCH_CANCEL», «TRACK_STATUS_REQUEST», «TRACK_STATUS»}
+use Rattle.fetch.specs.declared.kinds.FetchKind.{FetchKind}
+use Rattle.fetch.specs.declared.kinds.FetchKind.the-variants.{Fetch, FetchOk, FetchError, FetchCancel, TrackStatusRequest, TrackStatus}
+
+unfoldable pub rowOf : FetchKind → Row
+rowOf Fetch = FETCH
+rowOf FetchOk = «FETCH_OK»
+rowOf FetchError = «FETCH_ERROR»
+rowOf FetchCancel = «FETCH_CANCEL»
+rowOf TrackStatusRequest = «TRACK_STATUS_REQUEST»
+rowOf TrackStatus = «TRACK_STATUS»
+
+-- its number, and the layout of its body
+abbrev pub numberOf : FetchKind → ℕ
+numberOf kind = rowOf kind .number
+
+abbrev pub layoutOf : FetchKind → Layout
+layoutOf kind = rowOf kind .layout

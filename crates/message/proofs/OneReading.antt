@@ -1,0 +1,192 @@
+-- FOR ALL BYTES THERE IS ONE READING that tells what reading them answers: what is answered can always be told, since a message is
+-- made again of the fields that its layout reads; and it is told in one way. Assumes nothing.
+use Prim.Native.Nat.{ℕ, _+_}
+use mathlib.Core.Path.{_≡_, refl, sym, ap, _∙_}
+use mathlib.Core.List.{List, [], _∷_}
+use native.Mathlib.Omega.{arith}
+use borrow.Author.Tests.{eqb-true}
+use lib.Dec.{eqb}
+use Rattle.integer.specs.Answer.{Answer, whole as answered, refused}
+use Rattle.integer.proofs.Cases.{pick-by}
+use Rattle.field.specs.Outcome.{Outcome, whole, no}
+use Rattle.field.specs.declared.Fault.the-variants.{Cut, Forbidden, Oversize}
+use Rattle.field.specs.declared.Piece.{Piece}
+use Rattle.layout.specs.Layout.{forbidden, scan}
+use Rattle.layout.specs.Typed.{Typed, typed}
+use Rattle.layout.proofs.Every.{Every, every-read}
+use Rattle.types.specs.Table.{Row, ofRow, messages, Listed, listed, unlisted, onListed, rowIn, rowOf, layoutOf}
+use Rattle.subscription.specs.Kinds.{rowOf as subscriptionRow}
+use Rattle.subscription.proofs.Made.{made-says as subscription-says}
+use Rattle.subscription.specs.declared.kinds.SubscriptionKind.the-variants as subscription
+use Rattle.fetch.specs.Kinds.{rowOf as fetchRow}
+use Rattle.fetch.proofs.Made.{made-says as fetch-says}
+use Rattle.fetch.specs.declared.kinds.FetchKind.the-variants as fetch
+use Rattle.announce.specs.Kinds.{rowOf as announceRow}
+use Rattle.announce.proofs.Made.{made-says as announce-says}
+use Rattle.announce.specs.declared.kinds.AnnounceKind.the-variants.{Named, Asked, Refused}
+use Rattle.announce.specs.declared.kinds.Naming.the-variants as naming
+use Rattle.announce.specs.declared.kinds.Asking.the-variants as asking
+use Rattle.announce.specs.declared.kinds.Refusing.the-variants as refusing
+use Rattle.session.specs.Kinds.{rowOf as sessionRow}
+use Rattle.session.proofs.Made.{made-says as session-says}
+use Rattle.session.specs.declared.kinds.SessionKind.the-variants as session
+use Rattle.message.specs.Types.{saidOf}
+use Rattle.message.specs.Reading.{longest, filledBy, readOf, told}
+use Rattle.message.specs.declared.Reading.{Reading}
+use Rattle.message.proofs.Made.{familyOf, messageOf, refusalOf, answerOf}
+use Rattle.message.proofs.Front.{Stops, no-type, unknown, no-length, too-long, missing, Judged, stopped, present, judged}
+use Rattle.message.proofs.Once.{answer-back}
+
+-- ---- a message of any row
+
+-- whatever fields its layout reads, the message that is made of them says them
+abbrev Says : Row → Type 0
+Says r = Every (r .layout) (λ ps. saidOf (messageOf (ofRow r ps)) ≡ ofRow r ps)
+
+-- this holds of every row of the table,
+abbrev All : (Row → Type 0) → List Row → Type 0
+All P [] = Unit {0}
+All P (r ∷ rs) = P r × All P rs
+
+all-say : All Says messages
+unfolding messages rowIn rowOf familyOf messageOf subscriptionRow fetchRow announceRow sessionRow
+all-say = (
+  session-says session.ClientSetup,
+  (
+    session-says session.ServerSetup,
+    (
+      session-says session.GoAway,
+      (
+        subscription-says subscription.MaxSubscribeId,
+        (
+          subscription-says subscription.SubscribesBlocked,
+          (
+            subscription-says subscription.Subscribe,
+            (
+              subscription-says subscription.SubscribeOk,
+              (
+                subscription-says subscription.SubscribeError,
+                (
+                  subscription-says subscription.Unsubscribe,
+                  (
+                    subscription-says subscription.SubscribeUpdate,
+                    (
+                      subscription-says subscription.SubscribeDone,
+                      (
+                        fetch-says fetch.Fetch,
+                        (
+                          fetch-says fetch.FetchOk,
+                          (
+                            fetch-says fetch.FetchError,
+                            (
+                              fetch-says fetch.FetchCancel,
+                              (
+                                fetch-says fetch.TrackStatusRequest,
+                                (
+                                  fetch-says fetch.TrackStatus,
+                                  (
+                                    announce-says (Asked asking.Announce),
+                                    (
+                                      announce-says (Named naming.AnnounceOk),
+                                      (
+                                        announce-says (Refused refusing.AnnounceError),
+                                        (
+                                          announce-says (Named naming.Unannounce),
+                                          (
+                                            announce-says (Refused refusing.AnnounceCancel),
+                                            (
+                                              announce-says (Asked asking.SubscribeAnnounces),
+                                              (
+                                                announce-says (Named naming.SubscribeAnnouncesOk),
+                                                (
+                                                  announce-says (Refused refusing.SubscribeAnnouncesError),
+                                                  (announce-says (Named naming.UnsubscribeAnnounces), tt),
+                                                ),
+                                              ),
+                                            ),
+                                          ),
+                                        ),
+                                      ),
+                                    ),
+                                  ),
+                                ),
+                              ),
+                            ),
+                          ),
+                        ),
+                      ),
+                    ),
+                  ),
+                ),
+              ),
+            ),
+          ),
+        ),
+      ),
+    ),
+  ),
+)
+
+-- and so of the one in which a type stands
+row-is : (P : Row → Type 0) (rows : List Row) (type : ℕ) → All P rows → {r : Row} → rowIn rows type ≡ listed r → (r .number ≡ type) × P r
+unfolding rowIn
+row-is P [] type all {r} h = absurd (let z : _≡_ {A = ℕ} 0 1 = cc in omega arith)
+row-is P (q ∷ qs) type all {r} h =
+    pick-by (λ (l : Listed). l ≡ listed r → (r .number ≡ type) × P r) (eqb type (q .number))
+    (λ e k. let same : r ≡ q = cc in rw same (sym (eqb-true type (q .number) e), all .0))
+    (λ e k. row-is P qs type (all .1) k)
+    h
+
+-- nothing is read of one that stands in none
+nothing : (s : List ℕ) (at : ℕ) {ps : List Piece} {end : ℕ} → scan forbidden s at ≡ whole ps end → ⊥
+unfolding scan
+nothing s at h = let z : _≡_ {A = ℕ} 0 1 = cc in omega arith
+
+-- A message is made again of the fields that were read of it.
+said-back : (type : ℕ) (s : List ℕ) (at : ℕ) {ps : List Piece} {end : ℕ} → scan (layoutOf type) s at ≡ whole ps end
+    → saidOf (messageOf (record { type = type; pieces = ps })) ≡ record { type = type; pieces = ps }
+unfolding layoutOf rowOf
+said-back type s at {ps} {end} = go (rowIn messages type) refl
+  where
+    go : (l : Listed) → rowIn messages type ≡ l → scan (onListed l (λ r. r .layout) forbidden) s at ≡ whole ps end
+        → saidOf (messageOf (record { type = type; pieces = ps })) ≡ record { type = type; pieces = ps }
+    go (listed r) e h =
+        let f = row-is Says messages type all-say e in
+        rw (← f .0) (every-read (λ qs. saidOf (messageOf (ofRow r qs)) ≡ ofRow r qs) (r .layout) s at (f .1) h)
+    go unlisted e h = absurd (nothing s at h)
+
+-- ---- so what is answered is told
+
+stop-told : {limit : ℕ} {s : List ℕ} {n : ℕ} → Stops limit s n → told (refusalOf n) ≡ refused n
+stop-told (no-type e) = refl
+stop-told (unknown e k) = refl
+stop-told (no-length e k f) = refl
+stop-told (too-long h long) = refl
+stop-told (missing h short room) = refl
+
+body-told : (end type : ℕ) (s : List ℕ) (at : ℕ) (o : Outcome (List Piece)) → o ≡ scan (layoutOf type) s at → told (answerOf (filledBy end (typed type o))) ≡ filledBy end (typed type o)
+unfolding answerOf
+body-told end type s at (whole ps last) h =
+    pick-by (λ a. told (answerOf a) ≡ a) (eqb last end) (λ e. ap (λ t. answered t end) (said-back type s at (sym h))) (λ e. refl)
+body-told end type s at (no Cut) h = refl
+body-told end type s at (no Forbidden) h = refl
+body-told end type s at (no Oversize) h = refl
+
+-- ---- THE READING
+
+unfoldable pub readingOf : List ℕ → Reading
+readingOf s = answerOf (readOf s)
+
+-- it tells what reading answers,
+pub reading-is : (s : List ℕ) → told (readingOf s) ≡ readOf s
+unfolding readingOf answerOf
+reading-is s = go (judged longest s)
+  where
+    go : {o : Answer Typed} → Judged longest s o → told (answerOf o) ≡ o
+    go (stopped h) = stop-told h
+    go (present {type = type} {size = size} {at = at} {fields = fields} h short room e) = body-told (at + size) type _ at fields e
+
+-- and no other does
+pub reading-only : (s : List ℕ) (r : Reading) → told r ≡ readOf s → r ≡ readingOf s
+unfolding readingOf
+reading-only s r e = sym (answer-back r) ∙ ap answerOf e
