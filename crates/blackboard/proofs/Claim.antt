@@ -9,7 +9,7 @@ use Rattle.types.specs.Fetches.{fetchCancel}
 use Rattle.types.specs.Table.{messages, rowIn, rowOf, known, layoutOf}
 use Rattle.message.specs.Reading.{bodyUpTo, readUpTo}
 use Rattle.message.specs.Writing.{allowedOf, writeUpTo}
-use Rattle.fetch.specs.Allowed.{allowedOf as fetchAllowed}
+use Rattle.layout.specs.Allowed.{allowed}
 use Rattle.measure.specs.Judging.{right, sized}
 use Rattle.measure.specs.Measuring.{rightAll, sizedAll, encodeAll}
 use Rattle.shortest.specs.Writing.{writtenOf, frame}
@@ -20,7 +20,6 @@ use Rattle.types.specs.Subscriptions.{filter, delivery, subscribe, content, sub
 use Rattle.subscription.proofs.Made.{messageOf as subscriptionOf}
 use Rattle.message.proofs.Made.{familyOf, messageOf as madeOf, answerOf}
 use Rattle.message.proofs.OneReading.{readingOf}
-use Rattle.subscription.specs.Allowed.{allowedFilter, allowedOf as subscriptionAllowed}
 use Rattle.message.specs.Sound.{soundOf}
 use Rattle.row.specs.Places.{before, small, smallPlace}
 use Rattle.row.specs.Ranges.{inRange, isKnown, smallRange, settledOf}
@@ -41,7 +40,7 @@ use Rattle.integer.specs.Integer.{wide, room, tag, sizeOf, spell, bytesOf, encO
 use Rattle.blackboard.specs.Table.{Line, answersTo, found, stated, lines}
 
 computed : map found lines ≡ map stated lines
-unfolding found stated lines wide room tag sizeOf spell bytesOf readOf putOf writeOf numberAt fieldAt scan fetchCancel messages rowIn rowOf known layoutOf bodyUpTo readUpTo writeUpTo allowedOf fetchAllowed right sized rightAll sizedAll encodeAll encode encField mean writtenOf frame encOf answersTo smallSpan smallList smallPiece smallAll askable allowedFilter subscriptionAllowed soundOf small smallPlace isKnown smallRange agree suits isRow isPending isNowhere isUnused held rising hasAlias distinct allUnused bounded isLedger breaks stops gateOf gated startOf added subscribeStep takeOf textAt numberedAt entryAt mostOf entriesAt few listAt placeAt place parameters givable filter delivery subscribe content subscribeOk subscriptionOf familyOf madeOf answerOf readingOf before inRange settledOf greater risen countedRow arriveOf openOf find changed okStep arrivalStep smallArrival arrivalOf tagOf valueOf fieldSize isWhole feedByte feed letters decimalIn decimalOf wordOf itemOf endedOf isNone lineOf startedBy controlBy arrivedBy eventOf offsetOf stepOf step fed endOf runOf rowsText ledgerText textOf reportOf
+unfolding found stated lines wide room tag sizeOf spell bytesOf readOf putOf writeOf numberAt fieldAt scan fetchCancel messages rowIn rowOf known layoutOf bodyUpTo readUpTo writeUpTo allowed allowedOf right sized rightAll sizedAll encodeAll encode encField mean writtenOf frame encOf answersTo smallSpan smallList smallPiece smallAll askable soundOf small smallPlace isKnown smallRange agree suits isRow isPending isNowhere isUnused held rising hasAlias distinct allUnused bounded isLedger breaks stops gateOf gated startOf added subscribeStep takeOf textAt numberedAt entryAt mostOf entriesAt few listAt placeAt place parameters givable filter delivery subscribe content subscribeOk subscriptionOf familyOf madeOf answerOf readingOf before inRange settledOf greater risen countedRow arriveOf openOf find changed okStep arrivalStep smallArrival arrivalOf tagOf valueOf fieldSize isWhole feedByte feed letters decimalIn decimalOf wordOf itemOf endedOf isNone lineOf startedBy controlBy arrivedBy eventOf offsetOf stepOf step fed endOf runOf rowsText ledgerText textOf reportOf
 computed = refl
 
 -- two functions that map a list alike agree at each of its members

@@ -1,8 +1,10 @@
 // A message as its fields, in the order of its layout; and whether its values are permitted.
 ghost use mathlib.Core.Path.{_≡_};
+ghost use Rattle.layout.specs.Allowed.{allowed};
 ghost use Rattle.measure.specs.Fields.{placed};
+ghost use Rattle.types.specs.Fetches.{trackStatus};
+ghost use Rattle.fetch.specs.Kinds.{layoutOf, kindOf};
 ghost use Rattle.fetch.specs.Told.{joiningType, fetchPieces, statusPieces, saidOf};
-ghost use Rattle.fetch.specs.Allowed.{allowedOf};
 use crate::Fetch;
 use crate::FetchMessage;
 use crate::Range;
@@ -124,9 +126,9 @@ fn joining_type(absolute: bool) -> u64
     2
 }
 
-// Whether a message holds no forbidden value.
+// Whether a message holds no value that its layout forbids.
 pub fn is_allowed(m: FetchMessage) -> bool
-    ensures { λ r. ⌜ r ≡ allowedOf m ⌝ }
+    ensures { λ r. ⌜ r ≡ allowed (layoutOf (kindOf m)) (saidOf m .pieces) ⌝ }
 {
     match m {
         FetchMessage::Fetch(x) => field::is_askable(x.order),
@@ -134,16 +136,21 @@ pub fn is_allowed(m: FetchMessage) -> bool
         FetchMessage::FetchError(_) => true,
         FetchMessage::FetchCancel(_) => true,
         FetchMessage::TrackStatusRequest(_) => true,
-        FetchMessage::TrackStatus(x) => {
-            let status = x.status;
-            let largest = x.largest;
-            if !is_status(status) {
-                return false;
-            }
-            if !may_hold(status, largest.group) {
-                return false;
-            }
-            may_hold(status, largest.object)
-        }
+        FetchMessage::TrackStatus(x) => is_status_allowed(x),
     }
+}
+
+// Its status, and then each number of its largest place.
+fn is_status_allowed(x: TrackStatus) -> bool
+    ensures { λ r. ⌜ r ≡ allowed trackStatus (statusPieces x) ⌝ }
+{
+    let status = x.status;
+    let largest = x.largest;
+    if !is_status(status) {
+        return false;
+    }
+    if !may_hold(status, largest.group) {
+        return false;
+    }
+    may_hold(status, largest.object)
 }

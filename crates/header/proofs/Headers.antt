@@ -4,28 +4,25 @@
 use Prim.Native.Nat.{ℕ, _≤_}
 use mathlib.Core.Path.{_≡_, refl, sym, ap, _∙_}
 use mathlib.Core.Bool.{Bool, true, false}
-use mathlib.Core.List.{List, [], _++_, map}
+use mathlib.Core.List.{List, [], _++_}
 use native.Mathlib.Omega.{arith}
 use lib.ListN.{length, take}
 use lib.Dec.{lit≤}
 use Rattle.integer.specs.Answer.{Answer, whole as answered, refused}
 use Rattle.integer.specs.Integer.{encOf}
 use Rattle.field.specs.Outcome.{answer}
-use Rattle.field.specs.Value.{mean}
 use Rattle.field.specs.declared.Piece.{Piece}
 use Rattle.layout.specs.Layout.{Layout, scan}
 use Rattle.layout.specs.Typed.{Typed}
 use Rattle.measure.specs.Measuring.{sizedAll}
-use Rattle.shortest.proofs.Fitting.{fitting}
 use Rattle.header.specs.Layouts as layouts
-use Rattle.header.specs.Layouts.{Named, datagrams, streams}
+use Rattle.header.specs.Layouts.{Named, layoutOf, datagrams, streams}
 use Rattle.header.specs.Told.{datagramSaid, streamSaid, subgroupObjectPieces, fetchObjectPieces}
 use Rattle.header.specs.Reading.{headedOf, datagramOf, streamOf, subgroupObjectOf, fetchObjectOf}
-use Rattle.header.specs.Allowed.{datagramAllowed, payloadAllowed}
 use Rattle.header.specs.Writing.{headerWritten, datagramWritten, subgroupObjectWritten, fetchObjectWritten}
 use Rattle.header.specs.Laws.{Kept, Shortest, Steady}
 use Rattle.header.specs.Codecs.{takesPayload, datagram, stream, untyped, subgroupObject, fetchObject}
-use Rattle.header.proofs.Shape.{Shaped, datagram-shape, stream-shape, subgroup-object-shape, fetch-object-shape}
+use Rattle.header.proofs.Shape.{Fits, Shaped, datagram-shape, stream-shape, subgroup-object-shape, fetch-object-shape}
 use Rattle.header.proofs.Writes.{Writable, datagram-writable, stream-writable, stream-any, subgroup-object-sized, fetch-object-sized}
 use Rattle.header.proofs.Front.{apart, was-whole, scan-steady, headed-steady}
 use Rattle.header.proofs.More.{bare-more, headed-more}
@@ -63,41 +60,41 @@ fetch-object-steady = steady fetchObjectOf (bare-steady layouts.fetchObject) (ba
 
 -- ---- headers without a type
 
-module _ {A : Type 0} (l : Layout) (said : A → List Piece) (allowed : A → Bool) (shape : (s : List ℕ) (a : A) → fitting l (map (mean s) (said a)) ≡ allowed a) (sizes : (s : List ℕ) (a : A) → sizedAll s (said a) ≡ true) where
-  bare-kept : Kept (record { said = said; typed = untyped; readOf = λ s. answer 1 (scan l s 0); writeOf = λ s a before. headerWritten (allowed a) [] s (said a) before; takesMore = λ _. true })
+module _ {A : Type 0} (l : Layout) (said : A → List Piece) (shape : (s : List ℕ) (a : A) → Fits l s (said a)) (sizes : (s : List ℕ) (a : A) → sizedAll s (said a) ≡ true) where
+  bare-kept : Kept (record { said = said; typed = untyped; readOf = λ s. answer 1 (scan l s 0); writeOf = λ s a before. headerWritten l [] s (said a) before; takesMore = λ _. true })
   bare-kept =
       record {
         reads-back = λ s a before rest says _.
-            let b = bare-back l s (said a) (allowed a) (shape s a) (sizes s a) before rest says in
+            let b = bare-back l s (said a) (shape s a) (sizes s a) before rest says in
             record { found = b .found; reads = ap (answer 1) (b .reads); same = record { type = refl; values = b .means } };
-        no-longer = λ s a before read. fields.no-longer l [] s (said a) (allowed a) (shape s a) before (was-whole (scan l s 0) read) (lit≤ tt);
-        only-room = λ s a before read. fields.only-room l [] s (said a) (allowed a) (shape s a) before (was-whole (scan l s 0) read) (lit≤ tt);
-        written-again = λ s a before read. fields.written-again l [] s (said a) (allowed a) (shape s a) before (was-whole (scan l s 0) read) (lit≤ tt);
+        no-longer = λ s a before read. fields.no-longer l [] s (said a) (shape s a) before (was-whole (scan l s 0) read) (lit≤ tt);
+        only-room = λ s a before read. fields.only-room l [] s (said a) (shape s a) before (was-whole (scan l s 0) read) (lit≤ tt);
+        written-again = λ s a before read. fields.written-again l [] s (said a) (shape s a) before (was-whole (scan l s 0) read) (lit≤ tt);
       }
 
 pub subgroup-object-kept : Kept subgroupObject
 unfolding subgroupObjectOf subgroupObjectWritten
-subgroup-object-kept = bare-kept layouts.subgroupObject subgroupObjectPieces (λ o. payloadAllowed (o .payload)) subgroup-object-shape subgroup-object-sized
+subgroup-object-kept = bare-kept layouts.subgroupObject subgroupObjectPieces subgroup-object-shape subgroup-object-sized
 
 pub fetch-object-kept : Kept fetchObject
 unfolding fetchObjectOf fetchObjectWritten
-fetch-object-kept = bare-kept layouts.fetchObject fetchObjectPieces (λ o. payloadAllowed (o .payload)) fetch-object-shape fetch-object-sized
+fetch-object-kept = bare-kept layouts.fetchObject fetchObjectPieces fetch-object-shape fetch-object-sized
 
 -- ---- headers behind a type
 
-module _ {A : Type 0} (cut : ℕ) (types : ℕ → Named) (said : A → Typed) (allowed : A → Bool) (shape : (s : List ℕ) (a : A) → Shaped types s (said a) (allowed a)) (writable : (s : List ℕ) (a : A) → Writable s (said a)) where
+module _ {A : Type 0} (cut : ℕ) (types : ℕ → Named) (said : A → Typed) (shape : (s : List ℕ) (a : A) → Shaped types s (said a)) (writable : (s : List ℕ) (a : A) → Writable s (said a)) where
   -- a reader that says whole where a header is read whole, and only bytes follow that may
   record Reader (takesMore : A → Bool) (readOf : List ℕ → Answer Typed) : Type 0 where
     heads : (s : List ℕ) {t : Typed} {used : ℕ} → readOf s ≡ answered t used → headedOf cut types s ≡ answered t used
     reads : (a : A) (s rest : List ℕ) {t : Typed} {used : ℕ} → t .type ≡ said a .type → (takesMore a ≡ false → rest ≡ []) → length s ≤ used → headedOf cut types (s ++ rest) ≡ answered t used → readOf (s ++ rest) ≡ answered t used
 
   module _ (takesMore : A → Bool) (readOf : List ℕ → Answer Typed) (r : Reader takesMore readOf) where
-    typed-kept : Kept (record { said = said; typed = λ t. t; readOf = readOf; writeOf = λ s a before. headerWritten (allowed a) (encOf (said a .type)) s (said a .pieces) before; takesMore = takesMore })
+    typed-kept : Kept (record { said = said; typed = λ t. t; readOf = readOf; writeOf = λ s a before. headerWritten (layoutOf (types (said a .type))) (encOf (said a .type)) s (said a .pieces) before; takesMore = takesMore })
     typed-kept =
         record {
           reads-back = λ s a before rest {n} says follows.
               let b = typed-back cut types s (shape s a) before (writable s a) rest says in
-              let bytes = take n (headerWritten (allowed a) (encOf (said a .type)) s (said a .pieces) before .holds) in
+              let bytes = take n (headerWritten (layoutOf (types (said a .type))) (encOf (said a .type)) s (said a .pieces) before .holds) in
               record { found = b .found; reads = r .reads a bytes rest (b .same .type) follows (omega (arith, typed-count cut types s (shape s a) before (writable s a) says)) (b .reads); same = b .same };
           no-longer = λ s a before read. typed-no-longer cut types s (shape s a) before (r .heads s read);
           only-room = λ s a before read. typed-only-room cut types s (shape s a) before (r .heads s read);
@@ -107,14 +104,14 @@ module _ {A : Type 0} (cut : ℕ) (types : ℕ → Named) (said : A → Typed) (
 pub datagram-kept : Kept datagram
 unfolding datagramWritten
 datagram-kept =
-    typed-kept 4 datagrams datagramSaid datagramAllowed datagram-shape datagram-writable takesPayload datagramOf
+    typed-kept 4 datagrams datagramSaid datagram-shape datagram-writable takesPayload datagramOf
     (record { heads = λ s h. is-headed s h; reads = λ d s rest e f end h. may-follow d s rest e f end h })
 
 -- that of a stream is written the same over any bytes
-stream-over : Kept (record { said = streamSaid; typed = λ t. t; readOf = streamOf; writeOf = λ s h before. headerWritten true (encOf (streamSaid h .type)) s (streamSaid h .pieces) before; takesMore = λ _. true })
+stream-over : Kept (record { said = streamSaid; typed = λ t. t; readOf = streamOf; writeOf = λ s h before. headerWritten (layoutOf (streams (streamSaid h .type))) (encOf (streamSaid h .type)) s (streamSaid h .pieces) before; takesMore = λ _. true })
 unfolding streamOf
 stream-over =
-    typed-kept 1 streams streamSaid (λ _. true) stream-shape stream-writable (λ _. true) streamOf
+    typed-kept 1 streams streamSaid stream-shape stream-writable (λ _. true) streamOf
     (record { heads = λ s h. h; reads = λ a s rest e f end h. h })
 
 pub stream-kept : Kept stream
@@ -133,13 +130,13 @@ stream-kept =
 pub datagram-shortest : Shortest datagram
 unfolding datagramWritten
 datagram-shortest =
-    shortest datagram (typed-form 4 datagrams datagramSaid datagramAllowed takesPayload datagramOf (λ s t used h. is-headed s h))
+    shortest datagram (typed-form 4 datagrams datagramSaid takesPayload datagramOf (λ s t used h. is-headed s h))
 
 -- that of a stream, whatever bytes it is written over
 stream-form : Form stream
 unfolding streamOf
 stream-form =
-    let f = typed-form 1 streams streamSaid (λ _. true) (λ _. true) streamOf (λ s t used h. h) in
+    let f = typed-form 1 streams streamSaid (λ _. true) streamOf (λ s t used h. h) in
     record {
       form = f .form;
       written = λ s h before says. rw (stream-any s h before) (f .written s h before (rw (stream-any s h before) at says));
@@ -153,8 +150,8 @@ stream-shortest = shortest stream stream-form
 pub subgroup-object-shortest : Shortest subgroupObject
 unfolding subgroupObjectOf subgroupObjectWritten
 subgroup-object-shortest =
-    shortest subgroupObject (bare-form layouts.subgroupObject subgroupObjectPieces (λ o. payloadAllowed (o .payload)))
+    shortest subgroupObject (bare-form layouts.subgroupObject subgroupObjectPieces)
 
 pub fetch-object-shortest : Shortest fetchObject
 unfolding fetchObjectOf fetchObjectWritten
-fetch-object-shortest = shortest fetchObject (bare-form layouts.fetchObject fetchObjectPieces (λ o. payloadAllowed (o .payload)))
+fetch-object-shortest = shortest fetchObject (bare-form layouts.fetchObject fetchObjectPieces)

@@ -1,7 +1,7 @@
 -- What reader and writer owe each other: for a header behind its type, by what its types name, and for one without. Assumes nothing.
 use Prim.Native.Nat.{ℕ, _+_, _≤_}
 use mathlib.Core.Path.{_≡_, refl, sym, ap, _∙_}
-use mathlib.Core.Bool.{Bool, true}
+use mathlib.Core.Bool.{true}
 use mathlib.Core.List.{List, [], _++_, map}
 use native.Mathlib.Nat.{zero-add}
 use native.Mathlib.Omega.{arith}
@@ -18,11 +18,10 @@ use Rattle.layout.specs.Layout.{Layout, scan}
 use Rattle.layout.specs.Typed.{Typed}
 use Rattle.layout.specs.Same.{Same}
 use Rattle.measure.specs.Measuring.{sizedAll, encodeAll}
-use Rattle.shortest.proofs.Fitting.{fitting}
-use Rattle.header.specs.Layouts.{Named, known}
+use Rattle.header.specs.Layouts.{Named, known, layoutOf}
 use Rattle.header.specs.Reading.{headedOf}
 use Rattle.header.specs.Writing.{headerWritten}
-use Rattle.header.proofs.Shape.{Shaped}
+use Rattle.header.proofs.Shape.{Fits, Shaped}
 use Rattle.header.proofs.Writes.{Writable}
 use Rattle.header.proofs.Front.{HeadedAt, parts, joined}
 use Rattle.header.proofs.Fields as fields
@@ -35,12 +34,12 @@ pub record FieldsBack (l : Layout) (after : List ℕ) (n : ℕ) (s : List ℕ) (
   pub reads : scan l after 0 ≡ whole found n
   pub means : map (mean after) found ≡ map (mean s) ps
 
-pub bare-back : (l : Layout) (s : List ℕ) (ps : List Piece) (allowed : Bool) → fitting l (map (mean s) ps) ≡ allowed → sizedAll s ps ≡ true → (before rest : List ℕ) {n : ℕ} → headerWritten allowed [] s ps before .says ≡ wrote n → FieldsBack l (take n (headerWritten allowed [] s ps before .holds) ++ rest) n s ps
+pub bare-back : (l : Layout) (s : List ℕ) (ps : List Piece) → Fits l s ps → sizedAll s ps ≡ true → (before rest : List ℕ) {n : ℕ} → headerWritten l [] s ps before .says ≡ wrote n → FieldsBack l (take n (headerWritten l [] s ps before .holds) ++ rest) n s ps
 unfolding encodeAll
-bare-back l s ps allowed shape sizes before rest says =
-    let b = fields.back l [] s ps allowed shape before sizes says rest in
-    let count = fields.count l [] s ps allowed shape before sizes says in
-    rw (fields.stands l [] s ps allowed shape before sizes says)
+bare-back l s ps shape sizes before rest says =
+    let b = fields.back l [] s ps shape before sizes says rest in
+    let count = fields.count l [] s ps shape before sizes says in
+    rw (fields.stands l [] s ps shape before sizes says)
     (record { found = b .found; reads = b .reads ∙ ap (whole (b .found)) (omega (arith, count)); means = b .means })
 
 -- ---- behind a type
@@ -49,10 +48,13 @@ bare-back l s ps allowed shape sizes before rest says =
 same-layout : {l m : Layout} {n : Named} → n ≡ known l → n ≡ known m → l ≡ m
 same-layout e f = cc
 
-module _ (cut : ℕ) (types : ℕ → Named) (s : List ℕ) {t : Typed} {allowed : Bool} (shape : Shaped types s t allowed) (before : List ℕ) where
-  -- what is written of it
+module _ (cut : ℕ) (types : ℕ → Named) (s : List ℕ) {t : Typed} (shape : Shaped types s t) (before : List ℕ) where
+  -- its layout, and what is written of it
+  abbrev layout : Layout
+  layout = layoutOf (types (t .type))
+
   abbrev pub written : Written
-  written = headerWritten allowed (encOf (t .type)) s (t .pieces) before
+  written = headerWritten layout (encOf (t .type)) s (t .pieces) before
 
   -- a header that is read whole, from so many bytes, and is like it
   pub record HeaderBack (after : List ℕ) (n : ℕ) : Type 0 where
@@ -63,16 +65,15 @@ module _ (cut : ℕ) (types : ℕ → Named) (s : List ℕ) {t : Typed} {allowed
   pub typed-back : Writable s t → (rest : List ℕ) {n : ℕ} → written .says ≡ wrote n → HeaderBack (take n (written .holds) ++ rest) n
   unfolding encodeAll
   typed-back w rest {n} says =
-      let l = shape .layout in
       let type = t .type in
       let ps = t .pieces in
       let bytes = encOf type ++ encodeAll s ps in
-      let b = fields.back l (encOf type) s ps allowed (shape .fits) before (w .1) says rest in
-      let count = fields.count l (encOf type) s ps allowed (shape .fits) before (w .1) says in
+      let b = fields.back layout (encOf type) s ps (shape .fits) before (w .1) says rest in
+      let count = fields.count layout (encOf type) s ps (shape .fits) before (w .1) says in
       let at = number-back (bytes ++ rest) type (leb-true type greatest (w .0)) (front (encOf type) (encodeAll s ps) (from-start [] bytes rest)) in
-      let all : HeadedAt types (bytes ++ rest) (record { type = type; pieces = b .found }) (length (encOf type) + length (encode (map (mean s) ps))) = record { layout = l; next = length (encOf type); type-at = at ∙ ap (whole type) (zero-add (length (encOf type))); named = shape .named; fields = b .reads } in
+      let all : HeadedAt types (bytes ++ rest) (record { type = type; pieces = b .found }) (length (encOf type) + length (encode (map (mean s) ps))) = record { layout = layout; next = length (encOf type); type-at = at ∙ ap (whole type) (zero-add (length (encOf type))); named = shape .named; fields = b .reads } in
       let ends : length (encOf type) + length (encode (map (mean s) ps)) ≡ n = omega (arith, count, length-append (encOf type) (encodeAll s ps)) in
-      rw (fields.stands l (encOf type) s ps allowed (shape .fits) before (w .1) says)
+      rw (fields.stands layout (encOf type) s ps (shape .fits) before (w .1) says)
       (record {
         found = record { type = type; pieces = b .found };
         reads = joined cut types (bytes ++ rest) all ∙ ap (answered (record { type = type; pieces = b .found })) ends;
@@ -82,15 +83,14 @@ module _ (cut : ℕ) (types : ℕ → Named) (s : List ℕ) {t : Typed} {allowed
   -- its bytes are so many
   pub typed-count : Writable s t → {n : ℕ} → written .says ≡ wrote n → length (take n (written .holds)) ≡ n
   typed-count w says =
-      let l = shape .layout in
-      ap length (fields.stands l (encOf (t .type)) s (t .pieces) allowed (shape .fits) before (w .1) says)
-      ∙ sym (fields.count l (encOf (t .type)) s (t .pieces) allowed (shape .fits) before (w .1) says)
+      ap length (fields.stands layout (encOf (t .type)) s (t .pieces) (shape .fits) before (w .1) says)
+      ∙ sym (fields.count layout (encOf (t .type)) s (t .pieces) (shape .fits) before (w .1) says)
 
   module _ {used : ℕ} (read : headedOf cut types s ≡ answered t used) where
     -- the fields of a header that was read, behind its type
     record Behind : Type 0 where
       at : ℕ
-      found : scan (shape .layout) s at ≡ whole (t .pieces) used
+      found : scan layout s at ≡ whole (t .pieces) used
       short : length (encOf (t .type)) ≤ at
 
     behind : Behind
@@ -100,10 +100,10 @@ module _ (cut : ℕ) (types : ℕ → Named) (s : List ℕ) {t : Typed} {allowed
         record { at = p .next; found = rw (same-layout (shape .named) (p .named)) (p .fields); short = omega (arith, n .fits) }
 
     pub typed-no-longer : {n : ℕ} → written .says ≡ wrote n → n ≤ used
-    typed-no-longer = fields.no-longer (shape .layout) (encOf (t .type)) s (t .pieces) allowed (shape .fits) before (behind .found) (behind .short)
+    typed-no-longer = fields.no-longer layout (encOf (t .type)) s (t .pieces) (shape .fits) before (behind .found) (behind .short)
 
     pub typed-only-room : {k : ℕ} → written .says ≡ refused k → k ≡ 7
-    typed-only-room = fields.only-room (shape .layout) (encOf (t .type)) s (t .pieces) allowed (shape .fits) before (behind .found) (behind .short)
+    typed-only-room = fields.only-room layout (encOf (t .type)) s (t .pieces) (shape .fits) before (behind .found) (behind .short)
 
     pub typed-written-again : used ≤ length before → (n : ℕ) × (written .says ≡ wrote n)
-    typed-written-again = fields.written-again (shape .layout) (encOf (t .type)) s (t .pieces) allowed (shape .fits) before (behind .found) (behind .short)
+    typed-written-again = fields.written-again layout (encOf (t .type)) s (t .pieces) (shape .fits) before (behind .found) (behind .short)

@@ -2,6 +2,7 @@ pub mod Behind
 pub mod Headed
 pub mod Closing
 pub mod Ending
+pub mod Allows
 pub mod Writes
 pub mod Once
 pub mod Shape

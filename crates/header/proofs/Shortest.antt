@@ -19,7 +19,7 @@ use Rattle.layout.proofs.Shortest.{scanned-shortest}
 use Rattle.measure.specs.Measuring.{encodeAll}
 use Rattle.shortest.proofs.Passed.{was-written}
 use Rattle.shortest.proofs.Alike.{wrote-bytes, encoded-alike}
-use Rattle.header.specs.Layouts.{Named}
+use Rattle.header.specs.Layouts.{Named, layoutOf}
 use Rattle.header.specs.Reading.{headedOf}
 use Rattle.header.specs.Writing.{headerWritten}
 use Rattle.header.specs.Laws.{Codec, Shortest}
@@ -59,9 +59,9 @@ shortest c f =
 -- ---- fields behind what stands before them
 
 -- what is written of them
-header-stands : (allowed : Bool) (front s : List ℕ) (ps : List Piece) (before : List ℕ) {n : ℕ} → headerWritten allowed front s ps before .says ≡ wrote n → Stands (headerWritten allowed front s ps before) (front ++ encodeAll s ps) n
+header-stands : (l : Layout) (front s : List ℕ) (ps : List Piece) (before : List ℕ) {n : ℕ} → headerWritten l front s ps before .says ≡ wrote n → Stands (headerWritten l front s ps before) (front ++ encodeAll s ps) n
 unfolding headerWritten
-header-stands allowed front s ps before h = let w = was-written _ _ _ _ before h in record { used = w .used; there = wrote-bytes w }
+header-stands l front s ps before h = let w = was-written _ _ _ _ before h in record { used = w .used; there = wrote-bytes w }
 
 -- and what they are read from
 fields-least : (l : Layout) (s : List ℕ) (at : ℕ) {ps : List Piece} {end : ℕ} → scan l s at ≡ whole ps end → Least s at (encodeAll s ps) end
@@ -70,23 +70,23 @@ fields-least l s at h = scanned-shortest (scanned l s at h) .least
 
 -- ---- a header without a type
 
-pub bare-form : {A : Type 0} (l : Layout) (said : A → List Piece) (allowed : A → Bool) → Form (record { said = said; typed = untyped; readOf = λ s. answer 1 (scan l s 0); writeOf = λ s a before. headerWritten (allowed a) [] s (said a) before; takesMore = λ _. true })
-bare-form l said allowed =
+pub bare-form : {A : Type 0} (l : Layout) (said : A → List Piece) → Form (record { said = said; typed = untyped; readOf = λ s. answer 1 (scan l s 0); writeOf = λ s a before. headerWritten l [] s (said a) before; takesMore = λ _. true })
+bare-form l said =
     record {
       form = encodeAll;
-      written = λ s a before says. header-stands (allowed a) [] s (said a) before says;
+      written = λ s a before says. header-stands l [] s (said a) before says;
       least = λ s read. fields-least l s 0 (was-whole (scan l s 0) read);
       alike = λ s r a b e. encoded-alike s r a b (e .values);
     }
 
 -- ---- a header behind its type
 
-pub typed-form : {A : Type 0} (cut : ℕ) (types : ℕ → Named) (said : A → Typed) (allowed takesMore : A → Bool) (readOf : List ℕ → Answer Typed) → ((s : List ℕ) (t : Typed) (used : ℕ) → readOf s ≡ answered t used → headedOf cut types s ≡ answered t used)
-    → Form (record { said = said; typed = λ t. t; readOf = readOf; writeOf = λ s a before. headerWritten (allowed a) (encOf (said a .type)) s (said a .pieces) before; takesMore = takesMore })
-typed-form cut types said allowed takesMore readOf heads =
+pub typed-form : {A : Type 0} (cut : ℕ) (types : ℕ → Named) (said : A → Typed) (takesMore : A → Bool) (readOf : List ℕ → Answer Typed) → ((s : List ℕ) (t : Typed) (used : ℕ) → readOf s ≡ answered t used → headedOf cut types s ≡ answered t used)
+    → Form (record { said = said; typed = λ t. t; readOf = readOf; writeOf = λ s a before. headerWritten (layoutOf (types (said a .type))) (encOf (said a .type)) s (said a .pieces) before; takesMore = takesMore })
+typed-form cut types said takesMore readOf heads =
     record {
       form = λ s t. encOf (t .type) ++ encodeAll s (t .pieces);
-      written = λ s a before says. header-stands (allowed a) (encOf (said a .type)) s (said a .pieces) before says;
+      written = λ s a before says. header-stands (layoutOf (types (said a .type))) (encOf (said a .type)) s (said a .pieces) before says;
       least = λ s {b} {used} read.
           let p = parts cut types s (heads s b used read) in
           least-then (least-number s 0 (p .type-at)) (fields-least (p .layout) s (p .next) (p .fields));

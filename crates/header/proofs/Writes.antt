@@ -10,12 +10,14 @@ use Rattle.integer.specs.Integer.{encOf, greatest}
 use Rattle.field.specs.Value.{mean, encField, encode}
 use Rattle.field.specs.declared.Piece.{Piece}
 use Rattle.field.specs.declared.Piece.the-variants.{Number}
+use Rattle.layout.specs.Layout.{Layout}
+use Rattle.layout.specs.Allowed.{allowed}
 use Rattle.layout.specs.Typed.{Typed}
 use Rattle.measure.specs.Judging.{right, sized}
 use Rattle.measure.specs.Measuring.{rightAll, sizedAll, encodeAll}
 use Rattle.shortest.specs.Writing.{writtenOf, bareOf}
+use Rattle.header.specs.Layouts.{layoutOf, datagrams, streams, payload, subgroupObject, fetchObject}
 use Rattle.header.specs.Told.{datagramSaid, streamSaid, payloadPieces, subgroupObjectPieces, fetchObjectPieces}
-use Rattle.header.specs.Allowed.{datagramAllowed, payloadAllowed}
 use Rattle.header.specs.Writing.{headerWritten, datagramWritten, streamWritten, subgroupObjectWritten, fetchObjectWritten}
 use Rattle.header.specs.declared.Datagram.{Datagram}
 use Rattle.header.specs.declared.Datagram.the-variants.{Object, Status as WithStatus}
@@ -25,6 +27,7 @@ use Rattle.header.specs.declared.Payload.{Payload}
 use Rattle.header.specs.declared.Payload.the-variants.{Length, Status}
 use Rattle.header.specs.declared.SubgroupObject.{SubgroupObject}
 use Rattle.header.specs.declared.FetchObject.{FetchObject}
+use Rattle.header.proofs.Allows.{stream-allowed}
 
 -- ---- no header has a field with a size, and the number of each type can be written
 
@@ -57,55 +60,55 @@ module _ (s : List ℕ) where
 
 -- ---- the header of a stream points into no bytes, so it is the same over any
 
-pub stream-any : (s : List ℕ) (h : StreamHeader) (before : List ℕ) → streamWritten h before ≡ headerWritten true (encOf (streamSaid h .type)) s (streamSaid h .pieces) before
+pub stream-any : (s : List ℕ) (h : StreamHeader) (before : List ℕ) → streamWritten h before ≡ headerWritten (layoutOf (streams (streamSaid h .type))) (encOf (streamSaid h .type)) s (streamSaid h .pieces) before
 unfolding streamWritten headerWritten rightAll right encodeAll mean
 stream-any s (Subgroup h) before = refl
 stream-any s (Fetch id) before = refl
 
 -- ---- what is written
 
-module _ (s before : List ℕ) {a : Bool} (allowed : Bool) (judged : a ≡ allowed) where
+module _ (s before : List ℕ) {a : Bool} (l : Layout) (ps : List Piece) (judged : a ≡ allowed l ps) where
   -- a value is forbidden,
-  pub not-allowed : (front : List ℕ) (ps : List Piece) → not a ≡ true → Leaves (headerWritten allowed front s ps before) (refused 5) before
+  pub not-allowed : (front : List ℕ) → not a ≡ true → Leaves (headerWritten l front s ps before) (refused 5) before
   unfolding headerWritten writtenOf
-  not-allowed front ps h = let f : allowed ≡ false = sym judged ∙ not-true a h in record { says = rw f; holds = rw f }
+  not-allowed front h = let f : allowed l ps ≡ false = sym judged ∙ not-true a h in record { says = rw f; holds = rw f }
 
-  module _ (ps : List Piece) {said : Answer Nothing} {after : List ℕ} (h : not a ≡ false) (sizes : sizedAll s ps ≡ true) where
+  module _ {said : Answer Nothing} {after : List ℕ} (h : not a ≡ false) (sizes : sizedAll s ps ≡ true) where
     -- or none is, and the fields are written alone,
-    alone : Leaves (bareOf s ps before) said after → Leaves (headerWritten allowed [] s ps before) said after
+    alone : Leaves (bareOf s ps before) said after → Leaves (headerWritten l [] s ps before) said after
     unfolding headerWritten bareOf
-    alone l = let g : allowed ≡ true = sym judged ∙ not-false a h in rw g (rw sizes at l)
+    alone w = let g : allowed l ps ≡ true = sym judged ∙ not-false a h in rw g (rw sizes at w)
 
     -- or behind a type, which is one number more
-    behind-type : (type : ℕ) → leb type greatest ≡ true → Leaves (bareOf s (Number type ∷ ps) before) said after → Leaves (headerWritten allowed (encOf type) s ps before) said after
+    behind-type : (type : ℕ) → leb type greatest ≡ true → Leaves (bareOf s (Number type ∷ ps) before) said after → Leaves (headerWritten l (encOf type) s ps before) said after
     unfolding headerWritten bareOf rightAll right sizedAll sized encodeAll encode mean encField
-    behind-type type w l = let g : allowed ≡ true = sym judged ∙ not-false a h in rw g (rw (w, sizes) at l)
+    behind-type type small w = let g : allowed l ps ≡ true = sym judged ∙ not-false a h in rw g (rw (small, sizes) at w)
 
 -- the number of its type, and then its fields
 abbrev pub numbered : Typed → List Piece
 numbered t = Number (t .type) ∷ t .pieces
 
 -- a datagram,
-pub datagram-written : (s : List ℕ) (d : Datagram) (before : List ℕ) {a : Bool} {said : Answer Nothing} {after : List ℕ} → a ≡ datagramAllowed d → not a ≡ false → Leaves (bareOf s (numbered (datagramSaid d)) before) said after → Leaves (datagramWritten s d before) said after
+pub datagram-written : (s : List ℕ) (d : Datagram) (before : List ℕ) {a : Bool} {said : Answer Nothing} {after : List ℕ} → a ≡ allowed (layoutOf (datagrams (datagramSaid d .type))) (datagramSaid d .pieces) → not a ≡ false → Leaves (bareOf s (numbered (datagramSaid d)) before) said after → Leaves (datagramWritten s d before) said after
 unfolding datagramWritten
 datagram-written s d before judged h l =
     let w = datagram-writable s d in
-    behind-type s before (datagramAllowed d) judged (datagramSaid d .pieces) h (w .1) (datagramSaid d .type) (w .0) l
+    behind-type s before (layoutOf (datagrams (datagramSaid d .type))) (datagramSaid d .pieces) judged h (w .1) (datagramSaid d .type) (w .0) l
 
 -- the header of a stream, which holds nothing that could be forbidden,
 pub stream-written : (h : StreamHeader) (before : List ℕ) {said : Answer Nothing} {after : List ℕ} → Leaves (bareOf [] (numbered (streamSaid h)) before) said after → Leaves (streamWritten h before) said after
 unfolding streamWritten
 stream-written h before l =
     let w = stream-writable [] h in
-    behind-type [] before true refl (streamSaid h .pieces) refl (w .1) (streamSaid h .type) (w .0) l
+    behind-type [] before (layoutOf (streams (streamSaid h .type))) (streamSaid h .pieces) (stream-allowed h) refl (w .1) (streamSaid h .type) (w .0) l
 
 -- and the headers of objects, which have no type
-pub subgroup-object-written : (s : List ℕ) (o : SubgroupObject) (before : List ℕ) {a : Bool} {said : Answer Nothing} {after : List ℕ} → a ≡ payloadAllowed (o .payload) → not a ≡ false → Leaves (bareOf s (subgroupObjectPieces o) before) said after → Leaves (subgroupObjectWritten s o before) said after
-unfolding subgroupObjectWritten
+pub subgroup-object-written : (s : List ℕ) (o : SubgroupObject) (before : List ℕ) {a : Bool} {said : Answer Nothing} {after : List ℕ} → a ≡ allowed payload (payloadPieces (o .payload)) → not a ≡ false → Leaves (bareOf s (subgroupObjectPieces o) before) said after → Leaves (subgroupObjectWritten s o before) said after
+unfolding subgroupObjectWritten allowed subgroupObject
 subgroup-object-written s o before judged h l =
-    alone s before (payloadAllowed (o .payload)) judged (subgroupObjectPieces o) h (subgroup-object-sized s o) l
+    alone s before subgroupObject (subgroupObjectPieces o) judged h (subgroup-object-sized s o) l
 
-pub fetch-object-written : (s : List ℕ) (o : FetchObject) (before : List ℕ) {a : Bool} {said : Answer Nothing} {after : List ℕ} → a ≡ payloadAllowed (o .payload) → not a ≡ false → Leaves (bareOf s (fetchObjectPieces o) before) said after → Leaves (fetchObjectWritten s o before) said after
-unfolding fetchObjectWritten
+pub fetch-object-written : (s : List ℕ) (o : FetchObject) (before : List ℕ) {a : Bool} {said : Answer Nothing} {after : List ℕ} → a ≡ allowed payload (payloadPieces (o .payload)) → not a ≡ false → Leaves (bareOf s (fetchObjectPieces o) before) said after → Leaves (fetchObjectWritten s o before) said after
+unfolding fetchObjectWritten allowed fetchObject
 fetch-object-written s o before judged h l =
-    alone s before (payloadAllowed (o .payload)) judged (fetchObjectPieces o) h (fetch-object-sized s o) l
+    alone s before fetchObject (fetchObjectPieces o) judged h (fetch-object-sized s o) l

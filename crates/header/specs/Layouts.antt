@@ -59,6 +59,11 @@ pub data Named : Type 0 where
   known : Layout → Named
   unknown : Named
 
+-- it, and where there is none, that everything is forbidden
+abbrev pub layoutOf : Named → Layout
+layoutOf (known l) = l
+layoutOf unknown = forbidden
+
 abbrev pub onKnown : {A : Type 0} → Named → (Layout → A) → A → A
 onKnown (known l) f none = f l
 onKnown unknown f none = none

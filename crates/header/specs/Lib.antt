@@ -2,7 +2,6 @@ pub mod Rules
 pub mod Layouts
 pub mod Told
 pub mod Reading
-pub mod Allowed
 pub mod Writing
 pub mod Arrivals
 pub mod Laws

@@ -1,37 +1,42 @@
 -- What writing a data header does: 5, then 7. Its fields have no sizes, and no length bounds it.
 use Prim.Native.Nat.{ℕ}
 use mathlib.Core.List.{List, [], _++_}
-use mathlib.Core.Bool.{Bool, true}
+use mathlib.Core.Bool.{true}
 use Rattle.integer.specs.Answer.{Written}
 use Rattle.integer.specs.Integer.{encOf}
 use Rattle.field.specs.Outcome.{both}
 use Rattle.field.specs.declared.Piece.{Piece}
+use Rattle.layout.specs.Layout.{Layout}
+use Rattle.layout.specs.Allowed.{allowed}
 use Rattle.measure.specs.Measuring.{rightAll, encodeAll}
 use Rattle.shortest.specs.Writing.{writtenOf}
+use Rattle.header.specs.Layouts.{layoutOf, datagrams, streams, subgroupObject, fetchObject}
 use Rattle.header.specs.Told.{datagramSaid, streamSaid, subgroupObjectPieces, fetchObjectPieces}
-use Rattle.header.specs.Allowed.{datagramAllowed, payloadAllowed}
 use Rattle.header.specs.declared.Datagram.{Datagram}
 use Rattle.header.specs.declared.StreamHeader.{StreamHeader}
 use Rattle.header.specs.declared.SubgroupObject.{SubgroupObject}
 use Rattle.header.specs.declared.FetchObject.{FetchObject}
 
--- fields over the bytes s, behind what stands before them, into a buffer: where they are allowed
-unfoldable pub headerWritten : Bool → List ℕ → List ℕ → List Piece → List ℕ → Written
-headerWritten allowed front s ps before =
-    writtenOf (both allowed (rightAll s ps)) true true (front ++ encodeAll s ps) before
+-- fields over the bytes s, behind what stands before them, into a buffer: where their layout forbids none of them
+unfoldable pub headerWritten : Layout → List ℕ → List ℕ → List Piece → List ℕ → Written
+headerWritten l front s ps before =
+    writtenOf (both (allowed l ps) (rightAll s ps)) true true (front ++ encodeAll s ps) before
 
 -- a datagram, behind its type
 unfoldable pub datagramWritten : List ℕ → Datagram → List ℕ → Written
 datagramWritten s d before =
-    headerWritten (datagramAllowed d) (encOf (datagramSaid d .type)) s (datagramSaid d .pieces) before
+    let t = datagramSaid d in
+    headerWritten (layoutOf (datagrams (t .type))) (encOf (t .type)) s (t .pieces) before
 
 -- the header of a stream, which points into no bytes
 unfoldable pub streamWritten : StreamHeader → List ℕ → Written
-streamWritten h before = headerWritten true (encOf (streamSaid h .type)) [] (streamSaid h .pieces) before
+streamWritten h before =
+    let t = streamSaid h in
+    headerWritten (layoutOf (streams (t .type))) (encOf (t .type)) [] (t .pieces) before
 
 -- the header of an object, which has no type
 unfoldable pub subgroupObjectWritten : List ℕ → SubgroupObject → List ℕ → Written
-subgroupObjectWritten s o before = headerWritten (payloadAllowed (o .payload)) [] s (subgroupObjectPieces o) before
+subgroupObjectWritten s o before = headerWritten subgroupObject [] s (subgroupObjectPieces o) before
 
 unfoldable pub fetchObjectWritten : List ℕ → FetchObject → List ℕ → Written
-fetchObjectWritten s o before = headerWritten (payloadAllowed (o .payload)) [] s (fetchObjectPieces o) before
+fetchObjectWritten s o before = headerWritten fetchObject [] s (fetchObjectPieces o) before

@@ -1,8 +1,10 @@
 // A header is written as its shortest form: 5, then 7, each over the whole header; a refusal writes nothing.
 ghost use mathlib.Core.Path.{_≡_};
 ghost use Rattle.integer.specs.Answer.{Leaves};
+ghost use Rattle.layout.specs.Allowed.{allowed};
 ghost use Rattle.shortest.specs.Writing.{answering};
-ghost use Rattle.header.specs.Allowed.{datagramAllowed, payloadAllowed};
+ghost use Rattle.header.specs.Layouts.{layoutOf, datagrams, payload};
+ghost use Rattle.header.specs.Told.{datagramSaid, payloadPieces};
 ghost use Rattle.header.specs.Writing.{datagramWritten, streamWritten, subgroupObjectWritten, fetchObjectWritten};
 use crate::Datagram;
 use crate::FetchObject;
@@ -91,8 +93,9 @@ pub fn write_fetch_object(out: &mut [u8], bytes: &[u8], o: FetchObject) -> Writi
     }
 }
 
+// Whether a datagram holds no value that its layout forbids.
 fn is_datagram_allowed(d: Datagram) -> bool
-    ensures { λ r. ⌜ r ≡ datagramAllowed d ⌝ }
+    ensures { λ r. ⌜ r ≡ allowed (layoutOf (datagrams (datagramSaid d .type))) (datagramSaid d .pieces) ⌝ }
 {
     match d {
         Datagram::Object(_) => true,
@@ -102,7 +105,7 @@ fn is_datagram_allowed(d: Datagram) -> bool
 
 // Where the length is 0, a status has to stand in place of it.
 fn is_payload_allowed(p: Payload) -> bool
-    ensures { λ r. ⌜ r ≡ payloadAllowed p ⌝ }
+    ensures { λ r. ⌜ r ≡ allowed payload (payloadPieces p) ⌝ }
 {
     match p {
         Payload::Length(length) => 0 < length,

@@ -5,6 +5,7 @@ pub mod Shortest
 pub mod Stable
 pub mod Cuts
 pub mod Inside
+pub mod Allowed
 pub mod Theorems
 pub mod Steps
 pub mod Family

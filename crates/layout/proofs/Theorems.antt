@@ -13,11 +13,13 @@ use Rattle.field.specs.declared.Piece.{Piece}
 use Rattle.layout.specs.Layout.{Layout, scan, readBy}
 use Rattle.layout.specs.Permitted.{permitted}
 use Rattle.layout.specs.Inside.{Inside}
+use Rattle.layout.specs.Allowed.{allowed}
 use Rattle.layout.proofs.Back as back
 use Rattle.layout.proofs.Shortest as shorter
 use Rattle.layout.proofs.Stable as stable
 use Rattle.layout.proofs.Cuts as cuts
 use Rattle.layout.proofs.Inside as within
+use Rattle.layout.proofs.Allowed as values
 
 module _ (l : Layout) where
   -- 1. A permitted list of fields, encoded and followed by anything, is read back as the same fields, and exactly those bytes
@@ -64,3 +66,7 @@ module _ (l : Layout) where
   -- 5. Every part that was found lies within the bytes used.
   pub inside : (s : List ℕ) (at : ℕ) {ps : List Piece} {end : ℕ} → scan l s at ≡ whole ps end → Inside at end ps
   inside = within.inside l
+
+  -- 6. No value that was found is one that is forbidden.
+  pub read-allowed : (s : List ℕ) (at : ℕ) {ps : List Piece} {end : ℕ} → scan l s at ≡ whole ps end → allowed l ps ≡ true
+  read-allowed = values.read-allowed l

@@ -1,4 +1,5 @@
 pub mod Layout
+pub mod Allowed
 pub mod Permitted
 pub mod Inside
 pub mod Typed

@@ -12,6 +12,7 @@ use Rattle.integer.specs.Answer.{whole as answered, refused, wrote}
 use Rattle.integer.specs.Integer.{greatest}
 use Rattle.field.specs.Outcome.{both}
 use Rattle.field.proofs.Found.{number-at}
+use Rattle.layout.proofs.Allowed.{read-allowed}
 use Rattle.layout.proofs.Scanned.{scanned}
 use Rattle.layout.proofs.Shortest.{scanned-shortest}
 use Rattle.measure.specs.Measuring.{rightAll, sizedAll, encodeAll}
@@ -25,7 +26,6 @@ use Rattle.message.specs.Reading.{longest, readOf}
 use Rattle.message.specs.Writing.{allowedOf, writeUpTo, writeOf}
 use Rattle.message.specs.declared.Message.{Message}
 use Rattle.message.proofs.Front.{parts}
-use Rattle.message.proofs.Shape.{permitted-allowed}
 use Rattle.message.proofs.Alike.{framed}
 use Rattle.message.proofs.Only.{read-least}
 
@@ -33,7 +33,7 @@ use Rattle.message.proofs.Only.{read-least}
 
 -- a message that was read passes every check of the writer, and is written in as many bytes as it was read from at most
 passes : (s : List ℕ) (m : Message) {used : ℕ} → readOf s ≡ answered (saidOf m) used → Passes (both (allowedOf m) (both (leb (saidOf m .type) greatest) (rightAll s (saidOf m .pieces)))) (sizedAll s (saidOf m .pieces)) (leb (length (encodeAll s (saidOf m .pieces))) longest) (framed s (saidOf m)) used
-unfolding encodeAll
+unfolding allowedOf encodeAll
 passes s m {used} h =
     let type = saidOf m .type in
     let ps = saidOf m .pieces in
@@ -45,7 +45,7 @@ passes s m {used} h =
     let judged = scanned-right (layoutOf type) s (w .at) found in
     let less : length body ≤ w .size = omega (arith, best .least .fits, w .ends) in
     record {
-      is-right = rw (permitted-allowed s m (best .allowed), le-leb type greatest (t .small)) (judged .0);
+      is-right = rw (read-allowed (layoutOf type) s (w .at) found, le-leb type greatest (t .small)) (judged .0);
       is-sized = judged .1;
       is-short = le-leb (length body) longest (omega (arith, w .short));
       fits = rw zero-add at (read-least s h .fits);

@@ -16,6 +16,7 @@ pub mod Places
 pub mod Once
 pub mod Writes
 pub mod Sounding
+pub mod Allows
 pub mod Shape
 pub mod RoundTrip
 pub mod Alike

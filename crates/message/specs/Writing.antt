@@ -1,27 +1,23 @@
 -- What writing a control message does: "The writer checks 5, 6, 3, 7 in that order".
 use Prim.Native.Nat.{ℕ}
 use mathlib.Core.List.{List}
-use mathlib.Core.Bool.{Bool, true}
+use mathlib.Core.Bool.{Bool}
 use lib.ListN.{length}
 use lib.Dec.{leb}
 use Rattle.integer.specs.Answer.{Written}
 use Rattle.integer.specs.Integer.{greatest}
 use Rattle.field.specs.Outcome.{both}
+use Rattle.layout.specs.Allowed.{allowed}
 use Rattle.measure.specs.Measuring.{rightAll, sizedAll, encodeAll}
 use Rattle.shortest.specs.Writing.{writtenOf, frame}
-use Rattle.subscription.specs.Allowed.{allowedOf as subscriptionAllowed}
-use Rattle.fetch.specs.Allowed.{allowedOf as fetchAllowed}
+use Rattle.types.specs.Table.{layoutOf}
 use Rattle.message.specs.Types.{saidOf}
 use Rattle.message.specs.Reading.{longest}
 use Rattle.message.specs.declared.Message.{Message}
-use Rattle.message.specs.declared.Message.the-variants.{Subscription, Fetch, Announce, Session}
 
--- "Forbidden field values (5)": a namespace's messages, and those of a session, hold none
+-- "Forbidden field values (5)": what the layout of its type forbids, none of its fields holds
 unfoldable pub allowedOf : Message → Bool
-allowedOf (Subscription m) = subscriptionAllowed m
-allowedOf (Fetch m) = fetchAllowed m
-allowedOf (Announce m) = true
-allowedOf (Session m) = true
+allowedOf m = allowed (layoutOf (saidOf m .type)) (saidOf m .pieces)
 
 -- a message over the bytes s, into a buffer, when its body may take up to a limit
 unfoldable pub writeUpTo : ℕ → List ℕ → Message → List ℕ → Written

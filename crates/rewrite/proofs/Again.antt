@@ -9,15 +9,16 @@ use Rattle.integer.specs.Answer.{Answer, whole, refused, Written}
 use Rattle.integer.specs.Integer.{greatest}
 use Rattle.field.specs.Outcome.{both}
 use Rattle.field.specs.Value.{mean}
+use Rattle.layout.specs.Allowed.{allowed}
 use Rattle.measure.specs.Measuring.{rightAll, sizedAll, encodeAll}
 use Rattle.shortest.specs.Writing.{writtenOf}
 use Rattle.message.specs.Types.{saidOf}
 use Rattle.message.specs.Reading.{longest, readOf}
 use Rattle.message.specs.Writing.{allowedOf, writeUpTo, writeOf}
 use Rattle.message.proofs.Theorems as messages
+use Rattle.header.specs.Layouts.{layoutOf, datagrams, streams, subgroupObject, fetchObject}
 use Rattle.header.specs.Told.{datagramSaid, streamSaid, subgroupObjectPieces, fetchObjectPieces}
 use Rattle.header.specs.Reading.{datagramOf, streamOf, subgroupObjectOf, fetchObjectOf}
-use Rattle.header.specs.Allowed.{datagramAllowed, payloadAllowed}
 use Rattle.header.specs.Writing.{headerWritten, datagramWritten, streamWritten, subgroupObjectWritten, fetchObjectWritten}
 use Rattle.header.specs.declared.StreamHeader.{StreamHeader}
 use Rattle.header.specs.declared.StreamHeader.the-variants.{Subgroup, Fetch}
@@ -74,7 +75,7 @@ unfolding datagramAgain datagramWritten headerWritten
 datagram =
     record {
       only-room = headers.datagram-kept .only-room;
-      isRight = λ s d. both (datagramAllowed d) (rightAll s (datagramSaid d .pieces));
+      isRight = λ s d. both (allowed (layoutOf (datagrams (datagramSaid d .type))) (datagramSaid d .pieces)) (rightAll s (datagramSaid d .pieces));
       isSized = λ s d. true;
       isShort = λ s d. true;
       puts = λ s d out. refl;
@@ -92,7 +93,7 @@ unfolding streamAgain streamWritten headerWritten
 stream =
     record {
       only-room = headers.stream-kept .only-room;
-      isRight = λ s h. rightAll [] (streamSaid h .pieces);
+      isRight = λ s h. both (allowed (layoutOf (streams (streamSaid h .type))) (streamSaid h .pieces)) (rightAll [] (streamSaid h .pieces));
       isSized = λ s h. true;
       isShort = λ s h. true;
       puts = λ s h out. rw (stream-anywhere s h);
@@ -104,7 +105,7 @@ unfolding subgroupObjectAgain subgroupObjectWritten headerWritten
 subgroup-object =
     record {
       only-room = headers.subgroup-object-kept .only-room;
-      isRight = λ s o. both (payloadAllowed (o .payload)) (rightAll s (subgroupObjectPieces o));
+      isRight = λ s o. both (allowed subgroupObject (subgroupObjectPieces o)) (rightAll s (subgroupObjectPieces o));
       isSized = λ s o. true;
       isShort = λ s o. true;
       puts = λ s o out. refl;
@@ -116,7 +117,7 @@ unfolding fetchObjectAgain fetchObjectWritten headerWritten
 fetch-object =
     record {
       only-room = headers.fetch-object-kept .only-room;
-      isRight = λ s o. both (payloadAllowed (o .payload)) (rightAll s (fetchObjectPieces o));
+      isRight = λ s o. both (allowed fetchObject (fetchObjectPieces o)) (rightAll s (fetchObjectPieces o));
       isSized = λ s o. true;
       isShort = λ s o. true;
       puts = λ s o out. refl;

@@ -1,9 +1,11 @@
--- The row of the table that each kind of message stands in.
+-- The kinds of message, and the row of the table that each stands in.
 use Prim.Native.Nat.{ℕ}
 use Rattle.layout.specs.Layout.{Layout}
 use Rattle.types.specs.Table.{Row, «MAX_SUBSCRIBE_ID», «SUBSCRIBES_BLOCKED», SUBSCRIBE, «SUBSCRIBE_OK», «SUBSCRIBE_ERROR», UNSUBSCRIBE, «SUBSCRIBE_UPDATE», «SUBSCRIBE_DONE»}
 use Rattle.subscription.specs.declared.kinds.SubscriptionKind.{SubscriptionKind}
 use Rattle.subscription.specs.declared.kinds.SubscriptionKind.the-variants.{SubscribeUpdate, Subscribe, SubscribeOk, SubscribeError, Unsubscribe, SubscribeDone, MaxSubscribeId, SubscribesBlocked}
+use Rattle.subscription.specs.declared.SubscriptionMessage.{SubscriptionMessage}
+use Rattle.subscription.specs.declared.SubscriptionMessage.the-variants.{SubscribeUpdate as ASubscribeUpdate, Subscribe as ASubscribe, SubscribeOk as ASubscribeOk, SubscribeError as ASubscribeError, Unsubscribe as AUnsubscribe, SubscribeDone as ASubscribeDone, MaxSubscribeId as AMaxSubscribeId, SubscribesBlocked as ASubscribesBlocked}
 
 unfoldable pub rowOf : SubscriptionKind → Row
 rowOf SubscribeUpdate = «SUBSCRIBE_UPDATE»
@@ -21,3 +23,14 @@ numberOf kind = rowOf kind .number
 
 abbrev pub layoutOf : SubscriptionKind → Layout
 layoutOf kind = rowOf kind .layout
+
+-- the kind that a message is of
+abbrev pub kindOf : SubscriptionMessage → SubscriptionKind
+kindOf (ASubscribeUpdate m) = SubscribeUpdate
+kindOf (ASubscribe m) = Subscribe
+kindOf (ASubscribeOk m) = SubscribeOk
+kindOf (ASubscribeError m) = SubscribeError
+kindOf (AUnsubscribe id) = Unsubscribe
+kindOf (ASubscribeDone m) = SubscribeDone
+kindOf (AMaxSubscribeId id) = MaxSubscribeId
+kindOf (ASubscribesBlocked id) = SubscribesBlocked

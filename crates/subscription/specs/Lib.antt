@@ -1,4 +1,3 @@
 pub mod Kinds
 pub mod Told
 pub mod Names
-pub mod Allowed

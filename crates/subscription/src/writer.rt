@@ -1,8 +1,10 @@
 // A message as its fields, in the order of its layout; and whether its values are permitted.
 ghost use mathlib.Core.Path.{_≡_};
+ghost use Rattle.layout.specs.Allowed.{allowed};
 ghost use Rattle.measure.specs.Fields.{placed};
+ghost use Rattle.types.specs.Subscriptions.{subscribe};
+ghost use Rattle.subscription.specs.Kinds.{layoutOf, kindOf};
 ghost use Rattle.subscription.specs.Told.{subscribePieces, okPieces, updatePieces, saidOf};
-ghost use Rattle.subscription.specs.Allowed.{allowedFilter, allowedOf};
 use crate::Content;
 use crate::Filter;
 use crate::Subscribe;
@@ -151,19 +153,13 @@ fn ok_fields(kind: u64, x: SubscribeOk) -> Fields
     }
 }
 
-// Whether a message holds no forbidden value.
+// Whether a message holds no value that its layout forbids.
 pub fn is_allowed(m: SubscriptionMessage) -> bool
-    ensures { λ r. ⌜ r ≡ allowedOf m ⌝ }
+    ensures { λ r. ⌜ r ≡ allowed (layoutOf (kindOf m)) (saidOf m .pieces) ⌝ }
 {
     match m {
         SubscriptionMessage::SubscribeUpdate(_) => true,
-        SubscriptionMessage::Subscribe(x) => {
-            let filter = x.filter;
-            if !field::is_askable(x.order) {
-                return false;
-            }
-            is_filter_allowed(filter)
-        }
+        SubscriptionMessage::Subscribe(x) => is_subscribe_allowed(x),
         SubscriptionMessage::SubscribeOk(x) => field::is_givable(x.order),
         SubscriptionMessage::SubscribeError(_) => true,
         SubscriptionMessage::Unsubscribe(_) => true,
@@ -173,10 +169,14 @@ pub fn is_allowed(m: SubscriptionMessage) -> bool
     }
 }
 
-// Whether a filter asks for no range that ends before it starts.
-fn is_filter_allowed(filter: Filter) -> bool
-    ensures { λ r. ⌜ r ≡ allowedFilter filter ⌝ }
+// Its order, and then its filter: a range that ends before it starts.
+fn is_subscribe_allowed(x: Subscribe) -> bool
+    ensures { λ r. ⌜ r ≡ allowed subscribe (subscribePieces x) ⌝ }
 {
+    if !field::is_askable(x.order) {
+        return false;
+    }
+    let filter = x.filter;
     match filter {
         Filter::Latest => true,
         Filter::From(_) => true,

@@ -1,21 +1,22 @@
 -- `is_allowed` meets its contract. Assumes nothing.
 use borrow.Author.Needs.{needs}
+use Rattle.layout.specs.Layout.{failure}
+use Rattle.layout.specs.Allowed.{allowed}
 use Rattle.layout.proofs.Said.{told-of}
-use Rattle.fetch.specs.Allowed.{allowedOf}
-use Rattle.fetch.proofs.Allows.{status-no, group-no, object-is}
+use Rattle.types.specs.Fetches.{fetchError, fetchCancel, trackStatusRequest}
+use Rattle.fetch.specs.Kinds.{rowOf}
+use Rattle.fetch.proofs.Allows.{judged, fetch-is, ok-is}
 use Rattle.fetch.proofs.writer.is_allowed.Statement.{statement}
 use Rattle.fetch.proofs.writer.is_allowed.Tie as tie
 
 pub is-allowed-spec : {M : Type 1} → statement M
-unfolding allowedOf
+unfolding allowed failure fetchError fetchCancel trackStatusRequest rowOf
 is-allowed-spec =
     tie.close
     (tie.spec
-    (λ c. search needs) (λ c κs. search needs) (λ c. search needs) (λ c κs. search needs) (λ c. search needs) (λ c. search needs) (λ c. search needs) (λ c. search needs) (λ c κs. search needs) (λ c. search status-no)
-    (λ c κs. search needs) (λ c. search group-no)
-    (λ c κs. search needs) (λ c. search (told-of allowedOf))
-    (λ c. search (told-of allowedOf))
-    (λ c. search (told-of allowedOf))
-    (λ c. search (told-of allowedOf))
-    (λ c. search (told-of allowedOf))
-    (λ c. search object-is))
+    (λ c. search needs) (λ c κs. search needs) (λ c. search needs) (λ c κs. search needs) (λ c. search needs) (λ c. search needs) (λ c. search needs) (λ c. search needs) (λ c κs. search needs) (λ c. search fetch-is)
+    (λ c. search ok-is)
+    (λ c. search (told-of judged))
+    (λ c. search (told-of judged))
+    (λ c. search (told-of judged))
+    (λ c. search (told-of judged)))

@@ -1,22 +1,24 @@
 -- `is_allowed` meets its contract. Assumes nothing.
 use borrow.Author.Needs.{needs}
+use Rattle.layout.specs.Layout.{place, failure, parameters}
+use Rattle.layout.specs.Allowed.{allowed}
 use Rattle.layout.proofs.Said.{told-of}
-use Rattle.subscription.specs.Allowed.{allowedOf}
-use Rattle.subscription.proofs.Allows.{order-no, filter-is}
+use Rattle.types.specs.Subscriptions.{subscribeUpdate, subscribeError, subscribeDone, only}
+use Rattle.subscription.specs.Kinds.{rowOf}
+use Rattle.subscription.proofs.Allows.{judged, ok-is}
 use Rattle.subscription.proofs.writer.is_allowed.Statement.{statement}
 use Rattle.subscription.proofs.writer.is_allowed.Tie as tie
 
 pub is-allowed-spec : {M : Type 1} → statement M
-unfolding allowedOf
+unfolding allowed place failure parameters subscribeUpdate subscribeError subscribeDone only rowOf
 is-allowed-spec =
     tie.close
     (tie.spec
-    (λ c. search needs) (λ c. search needs) (λ c κs. search needs) (λ c. search order-no)
-    (λ c κs. search needs) (λ c. search needs) (λ c κs. search needs) (λ c. search needs) (λ c. search needs) (λ c. search needs) (λ c. search needs) (λ c. search needs) (λ c. search (told-of allowedOf))
-    (λ c. search filter-is)
-    (λ c. search (told-of allowedOf))
-    (λ c. search (told-of allowedOf))
-    (λ c. search (told-of allowedOf))
-    (λ c. search (told-of allowedOf))
-    (λ c. search (told-of allowedOf))
-    (λ c. search (told-of allowedOf)))
+    (λ c. search needs) (λ c. search needs) (λ c κs. search needs) (λ c. search needs) (λ c κs. search needs) (λ c. search needs) (λ c. search needs) (λ c. search needs) (λ c. search needs) (λ c. search needs) (λ c. search (told-of judged))
+    (λ c. search (told-of judged))
+    (λ c. search ok-is)
+    (λ c. search (told-of judged))
+    (λ c. search (told-of judged))
+    (λ c. search (told-of judged))
+    (λ c. search (told-of judged))
+    (λ c. search (told-of judged)))

@@ -1,0 +1,15 @@
+-- "Forbidden field values (5)": what a layout forbids, whoever asks: its reader, the writer, or the ledger.
+use mathlib.Core.List.{List, [], _∷_}
+use mathlib.Core.Bool.{Bool, true, false}
+use Rattle.integer.specs.Answer.{pick}
+use Rattle.field.specs.declared.Piece.{Piece}
+use Rattle.layout.specs.Layout.{Layout, done, forbidden, field, when, control}
+
+-- whether fields hold no value that a layout forbids. One that asks for another field is forbidden where none follows: a payload's
+-- length of 0 without a status
+unfoldable pub allowed : Layout → List Piece → Bool
+allowed done ps = true
+allowed forbidden ps = false
+allowed (field form next) [] = false
+allowed (field form next) (p ∷ ps) = allowed (next (control p)) ps
+allowed (when test l m) ps = pick test (allowed l ps) (allowed m ps)
