@@ -1,6 +1,6 @@
 -- Fields have the shape that a layout asks for: they are of its forms, and pass its tests. Good fields that do are what it permits.
 -- Assumes nothing.
-use mathlib.Core.Path.{_≡_, refl, _∙_}
+use mathlib.Core.Path.{_≡_, refl}
 use mathlib.Core.Bool.{Bool, true, false}
 use mathlib.Core.List.{List, [], _∷_}
 use lib.Dec.{eqb}
@@ -8,9 +8,8 @@ use Rattle.integer.specs.Answer.{pick}
 use Rattle.field.specs.Outcome.{both}
 use Rattle.field.specs.Value.{Value}
 use Rattle.layout.specs.Layout.{Layout, done, forbidden, field, when}
-use Rattle.layout.specs.Permitted.{good, formOf, handed, code, permitted}
+use Rattle.layout.specs.Permitted.{formOf, handed, code, permitted}
 use Rattle.layout.proofs.Back.{both-true as both-parts}
-use Rattle.measure.proofs.Tests.{both-true}
 use Rattle.shortest.proofs.Good.{AllGood, more}
 
 -- values are of the forms that a layout asks for, and pass its tests
@@ -22,7 +21,7 @@ fitting (field form next) [] = false
 fitting (field form next) (v ∷ vs) = both (eqb (code form) (code (formOf v))) (fitting (next (handed v)) vs)
 fitting (when test l m) vs = pick test (fitting l vs) (fitting m vs)
 
--- good values that do are permitted,
+-- good values that do are permitted
 pub fitting-permitted : (l : Layout) (vs : List Value) → fitting l vs ≡ true → AllGood vs → permitted l vs ≡ true
 unfolding fitting permitted
 fitting-permitted done [] h g = refl
@@ -34,25 +33,3 @@ fitting-permitted (field form next) (v ∷ vs) h (more g gs) =
     rw (p .0, g) (fitting-permitted (next (handed v)) vs (p .1) gs)
 fitting-permitted (when true l m) vs h g = fitting-permitted l vs h g
 fitting-permitted (when false l m) vs h g = fitting-permitted m vs h g
-
--- and only such are
-pub permitted-fitting : (l : Layout) (vs : List Value) → permitted l vs ≡ true → fitting l vs ≡ true
-unfolding fitting permitted
-permitted-fitting done [] h = refl
-permitted-fitting done (v ∷ vs) h = h
-permitted-fitting forbidden vs h = h
-permitted-fitting (field form next) [] h = h
-permitted-fitting (field form next) (v ∷ vs) h =
-    let p = both-parts (eqb (code form) (code (formOf v))) _ h in
-    let q = both-parts (good v) (permitted (next (handed v)) vs) (p .1) in
-    rw (p .0) (permitted-fitting (next (handed v)) vs (q .1))
-permitted-fitting (when true l m) vs h = permitted-fitting l vs h
-permitted-fitting (when false l m) vs h = permitted-fitting m vs h
-
--- a test before another, or alone
-pub tested : (a b : Bool) → pick a b false ≡ both a b
-tested true b = refl
-tested false b = refl
-
-pub test-alone : (a : Bool) → pick a true false ≡ a
-test-alone a = tested a true ∙ both-true a
