@@ -2,15 +2,8 @@ pub mod Behind
 pub mod Headed
 pub mod Closing
 pub mod Ending
-pub mod Allows
-pub mod Writes
 pub mod Once
-pub mod Shape
-pub mod Fields
 pub mod Front
-pub mod Keeps
-pub mod Follows
-pub mod Shortest
 pub mod More
-pub mod Headers
+pub mod Steady
 pub mod Theorems

@@ -1,27 +1,19 @@
 // Data headers: section 9 of source document 004. An object comes in a datagram, or on a stream behind the stream's header and its
-// own.
+// own. They are read here, and written by `header_writer`.
 pub mod arrivals;
 mod datagrams;
 mod leading;
 mod objects;
 mod rules;
 mod streams;
-mod writer;
 
+pub use datagrams::read_datagram;
 use field::Place;
 use field::Span;
-
-// What was sent is read,
-pub use datagrams::read_datagram;
 pub use objects::read_fetch_object;
 pub use objects::read_subgroup_object;
+pub use rules::is_status;
 pub use streams::read_stream;
-
-// and what is to be sent is written.
-pub use writer::write_datagram;
-pub use writer::write_fetch_object;
-pub use writer::write_stream;
-pub use writer::write_subgroup_object;
 
 // What stands before the payload of an object datagram, or before its status.
 pub struct ObjectDatagram {

@@ -19,10 +19,10 @@ use Rattle.message.proofs.Theorems as messages
 use Rattle.header.specs.Layouts.{layoutOf, datagrams, streams, subgroupObject, fetchObject}
 use Rattle.header.specs.Told.{datagramSaid, streamSaid, subgroupObjectPieces, fetchObjectPieces}
 use Rattle.header.specs.Reading.{datagramOf, streamOf, subgroupObjectOf, fetchObjectOf}
-use Rattle.header.specs.Writing.{headerWritten, datagramWritten, streamWritten, subgroupObjectWritten, fetchObjectWritten}
+use Rattle.header_writer.specs.Writing.{headerWritten, datagramWritten, streamWritten, subgroupObjectWritten, fetchObjectWritten}
 use Rattle.header.specs.declared.StreamHeader.{StreamHeader}
 use Rattle.header.specs.declared.StreamHeader.the-variants.{Subgroup, Fetch}
-use Rattle.header.proofs.Theorems as headers
+use Rattle.header_writer.proofs.Theorems as headers
 use Rattle.rewrite.specs.Rewriting.{Doing, Does, rewriting, typeOf, noType, framedForm, typedForm, controlAgain, datagramAgain, streamAgain, subgroupObjectAgain, fetchObjectAgain}
 use Rattle.rewrite.proofs.Ending.{by-room, Ends}
 use Rattle.rewrite.proofs.Ending as ending

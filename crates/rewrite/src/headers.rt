@@ -23,7 +23,7 @@ pub fn datagram(s: &[u8], out: &mut [u8], info: &mut [u64]) -> u8
             if info.len() < 3 {
                 return 7;
             }
-            let writing = header::write_datagram(out, s, d);
+            let writing = header_writer::write_datagram(out, s, d);
             tell(info, writing, used, datagram_type(d))
         }
     }
@@ -50,7 +50,7 @@ pub fn stream(s: &[u8], out: &mut [u8], info: &mut [u64]) -> u8
             if info.len() < 3 {
                 return 7;
             }
-            let writing = header::write_stream(out, h);
+            let writing = header_writer::write_stream(out, h);
             tell(info, writing, used, stream_type(h))
         }
     }
@@ -77,7 +77,7 @@ pub fn subgroup_object(s: &[u8], out: &mut [u8], info: &mut [u64]) -> u8
             if info.len() < 3 {
                 return 7;
             }
-            let writing = header::write_subgroup_object(out, s, o);
+            let writing = header_writer::write_subgroup_object(out, s, o);
             tell(info, writing, used, 0)
         }
     }
@@ -93,7 +93,7 @@ pub fn fetch_object(s: &[u8], out: &mut [u8], info: &mut [u64]) -> u8
             if info.len() < 3 {
                 return 7;
             }
-            let writing = header::write_fetch_object(out, s, o);
+            let writing = header_writer::write_fetch_object(out, s, o);
             tell(info, writing, used, 0)
         }
     }

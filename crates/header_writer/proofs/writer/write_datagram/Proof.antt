@@ -1,10 +1,10 @@
 -- `write_datagram` meets its contract: the numbers and what stands between them are its fields. Assumes nothing.
 use borrow.Author.Needs.{needs}
 use Rattle.measure.specs.Fields.{headed}
-use Rattle.header.specs.Writing.{datagramWritten}
-use Rattle.header.proofs.Writes.{not-allowed, datagram-written}
-use Rattle.header.proofs.writer.write_datagram.Statement.{statement}
-use Rattle.header.proofs.writer.write_datagram.Tie as tie
+use Rattle.header_writer.specs.Writing.{datagramWritten}
+use Rattle.header_writer.proofs.Writes.{not-allowed, datagram-written}
+use Rattle.header_writer.proofs.writer.write_datagram.Statement.{statement}
+use Rattle.header_writer.proofs.writer.write_datagram.Tie as tie
 
 forbidden : tie.Need-returns
 unfolding datagramWritten

@@ -1,6 +1,4 @@
--- The four headers keep what reader and writer owe each other, and are written as their only shortest form; and on a stream, bytes
--- that follow change no answer but 1, which they can.
--- Assumes nothing.
+-- The four headers keep what reader and writer owe each other, and are written as their only shortest form. Assumes nothing.
 use Prim.Native.Nat.{ℕ, _≤_}
 use mathlib.Core.Path.{_≡_, refl, sym, ap, _∙_}
 use mathlib.Core.Bool.{Bool, true, false}
@@ -15,48 +13,20 @@ use Rattle.field.specs.declared.Piece.{Piece}
 use Rattle.layout.specs.Layout.{Layout, scan}
 use Rattle.layout.specs.Typed.{Typed}
 use Rattle.measure.specs.Measuring.{sizedAll}
 use Rattle.header.specs.Layouts as layouts
 use Rattle.header.specs.Layouts.{Named, layoutOf, datagrams, streams}
 use Rattle.header.specs.Told.{datagramSaid, streamSaid, subgroupObjectPieces, fetchObjectPieces}
 use Rattle.header.specs.Reading.{headedOf, datagramOf, streamOf, subgroupObjectOf, fetchObjectOf}
-use Rattle.header.specs.Writing.{headerWritten, datagramWritten, subgroupObjectWritten, fetchObjectWritten}
-use Rattle.header.specs.Laws.{Kept, Shortest, Steady}
-use Rattle.header.specs.Codecs.{takesPayload, datagram, stream, untyped, subgroupObject, fetchObject}
-use Rattle.header.proofs.Shape.{Fits, Shaped, datagram-shape, stream-shape, subgroup-object-shape, fetch-object-shape}
-use Rattle.header.proofs.Writes.{Writable, datagram-writable, stream-writable, stream-any, subgroup-object-sized, fetch-object-sized}
-use Rattle.header.proofs.Front.{apart, was-whole, scan-steady, headed-steady}
-use Rattle.header.proofs.More.{bare-more, headed-more}
-use Rattle.header.proofs.Fields as fields
-use Rattle.header.proofs.Keeps.{bare-back, typed-back, typed-count, typed-no-longer, typed-only-room, typed-written-again}
-use Rattle.header.proofs.Follows.{is-headed, may-follow}
-use Rattle.header.proofs.Shortest.{Form, shortest, bare-form, typed-form}
-
--- ---- bytes that follow
-
--- what is answered the same when bytes follow, unless it is 1, and can then be answered otherwise, is steady
-steady : {B : Type 0} (readOf : List ℕ → Answer B) → ((s rest : List ℕ) → (readOf s ≡ refused 1 → ⊥) → readOf (s ++ rest) ≡ readOf s) → ((s : List ℕ) → (rest : List ℕ) × (readOf (s ++ rest) ≡ refused 1 → ⊥)) → Steady readOf
-steady readOf same more =
-    record {
-      whole-stays = λ s rest h. same s rest (λ e. apart (sym e ∙ h)) ∙ h;
-      refusal-stays = λ s rest other h. same s rest (λ e. other (cc)) ∙ h;
-      more = λ s _. more s;
-    }
-
-pub stream-steady : Steady streamOf
-unfolding streamOf
-stream-steady = steady streamOf (headed-steady 1 streams) (headed-more streams)
-
--- a header without a type
-bare-steady : (l : Layout) (s rest : List ℕ) → (answer 1 (scan l s 0) ≡ refused 1 → ⊥) → answer 1 (scan l (s ++ rest) 0) ≡ answer 1 (scan l s 0)
-bare-steady l s rest other = ap (answer 1) (scan-steady l s rest 0 (λ e. other (ap (answer 1) e)))
-
-pub subgroup-object-steady : Steady subgroupObjectOf
-unfolding subgroupObjectOf
-subgroup-object-steady = steady subgroupObjectOf (bare-steady layouts.subgroupObject) (bare-more layouts.subgroupObject)
-
-pub fetch-object-steady : Steady fetchObjectOf
-unfolding fetchObjectOf
-fetch-object-steady = steady fetchObjectOf (bare-steady layouts.fetchObject) (bare-more layouts.fetchObject)
+use Rattle.header_writer.specs.Writing.{headerWritten, datagramWritten, subgroupObjectWritten, fetchObjectWritten}
+use Rattle.header_writer.specs.Laws.{Kept, Shortest}
+use Rattle.header_writer.specs.Codecs.{takesPayload, datagram, stream, untyped, subgroupObject, fetchObject}
+use Rattle.header_writer.proofs.Shape.{Fits, Shaped, datagram-shape, stream-shape, subgroup-object-shape, fetch-object-shape}
+use Rattle.header_writer.proofs.Writes.{Writable, datagram-writable, stream-writable, stream-any, subgroup-object-sized, fetch-object-sized}
+use Rattle.header.proofs.Front.{was-whole}
+use Rattle.header_writer.proofs.Fields as fields
+use Rattle.header_writer.proofs.Keeps.{bare-back, typed-back, typed-count, typed-no-longer, typed-only-room, typed-written-again}
+use Rattle.header_writer.proofs.Follows.{is-headed, may-follow}
+use Rattle.header_writer.proofs.Shortest.{Form, shortest, bare-form, typed-form}
 
 -- ---- headers without a type
 

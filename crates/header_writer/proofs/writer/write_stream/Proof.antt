@@ -1,9 +1,9 @@
 -- `write_stream` meets its contract: the numbers and what stands between them are its fields. Assumes nothing.
 use borrow.Author.Needs.{needs}
 use Rattle.measure.specs.Fields.{headed}
-use Rattle.header.proofs.Writes.{stream-written}
-use Rattle.header.proofs.writer.write_stream.Statement.{statement}
-use Rattle.header.proofs.writer.write_stream.Tie as tie
+use Rattle.header_writer.proofs.Writes.{stream-written}
+use Rattle.header_writer.proofs.writer.write_stream.Statement.{statement}
+use Rattle.header_writer.proofs.writer.write_stream.Tie as tie
 
 subgroup : tie.Need-returns
 unfolding headed

@@ -12,13 +12,13 @@ use Rattle.integer.proofs.Cases.{pick-by}
 use Rattle.field.specs.Outcome.{both}
 use Rattle.layout.specs.Typed.{Typed}
 use Rattle.measure.proofs.Tests.{both-false}
 use Rattle.header.specs.Layouts.{datagrams}
 use Rattle.header.specs.Reading.{headedOf, closed, datagramOf}
 use Rattle.header.specs.Told.{datagramSaid}
-use Rattle.header.specs.Codecs.{takesPayload}
+use Rattle.header_writer.specs.Codecs.{takesPayload}
 use Rattle.header.specs.declared.Datagram.{Datagram}
 use Rattle.header.specs.declared.Datagram.the-variants.{Object, Status}
 use Rattle.header.proofs.Front.{apart}
 
 module _ (s : List ℕ) {t : Typed} {used : ℕ} where
   -- a header without a status is whole, whatever follows it,

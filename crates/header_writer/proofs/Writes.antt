@@ -16,18 +16,18 @@ use Rattle.layout.specs.Typed.{Typed}
 use Rattle.measure.specs.Judging.{right, sized}
 use Rattle.measure.specs.Measuring.{rightAll, sizedAll, encodeAll}
 use Rattle.shortest.specs.Writing.{writtenOf, bareOf}
 use Rattle.header.specs.Layouts.{layoutOf, datagrams, streams, payload, subgroupObject, fetchObject}
 use Rattle.header.specs.Told.{datagramSaid, streamSaid, payloadPieces, subgroupObjectPieces, fetchObjectPieces}
-use Rattle.header.specs.Writing.{headerWritten, datagramWritten, streamWritten, subgroupObjectWritten, fetchObjectWritten}
+use Rattle.header_writer.specs.Writing.{headerWritten, datagramWritten, streamWritten, subgroupObjectWritten, fetchObjectWritten}
 use Rattle.header.specs.declared.Datagram.{Datagram}
 use Rattle.header.specs.declared.Datagram.the-variants.{Object, Status as WithStatus}
 use Rattle.header.specs.declared.StreamHeader.{StreamHeader}
 use Rattle.header.specs.declared.StreamHeader.the-variants.{Subgroup, Fetch}
 use Rattle.header.specs.declared.Payload.{Payload}
 use Rattle.header.specs.declared.Payload.the-variants.{Length, Status}
 use Rattle.header.specs.declared.SubgroupObject.{SubgroupObject}
 use Rattle.header.specs.declared.FetchObject.{FetchObject}
-use Rattle.header.proofs.Allows.{stream-allowed}
+use Rattle.header_writer.proofs.Allows.{stream-allowed}
 
 -- ---- no header has a field with a size, and the number of each type can be written
 

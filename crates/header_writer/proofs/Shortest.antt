@@ -19,12 +19,12 @@ use Rattle.layout.proofs.Shortest.{scanned-shortest}
 use Rattle.measure.specs.Measuring.{encodeAll}
 use Rattle.shortest.proofs.Passed.{was-written}
 use Rattle.shortest.proofs.Alike.{wrote-bytes, encoded-alike}
 use Rattle.header.specs.Layouts.{Named, layoutOf}
 use Rattle.header.specs.Reading.{headedOf}
-use Rattle.header.specs.Writing.{headerWritten}
-use Rattle.header.specs.Laws.{Codec, Shortest}
-use Rattle.header.specs.Codecs.{untyped}
+use Rattle.header_writer.specs.Writing.{headerWritten}
+use Rattle.header_writer.specs.Laws.{Codec, Shortest}
+use Rattle.header_writer.specs.Codecs.{untyped}
 use Rattle.header.proofs.Front.{was-whole, parts}
 
 -- ---- one form
 

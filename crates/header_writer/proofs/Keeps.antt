@@ -18,13 +18,13 @@ use Rattle.layout.specs.Layout.{Layout, scan}
 use Rattle.layout.specs.Typed.{Typed}
 use Rattle.layout.specs.Same.{Same}
 use Rattle.measure.specs.Measuring.{sizedAll, encodeAll}
 use Rattle.header.specs.Layouts.{Named, known, layoutOf}
 use Rattle.header.specs.Reading.{headedOf}
-use Rattle.header.specs.Writing.{headerWritten}
-use Rattle.header.proofs.Shape.{Fits, Shaped}
-use Rattle.header.proofs.Writes.{Writable}
+use Rattle.header_writer.specs.Writing.{headerWritten}
+use Rattle.header_writer.proofs.Shape.{Fits, Shaped}
+use Rattle.header_writer.proofs.Writes.{Writable}
 use Rattle.header.proofs.Front.{HeadedAt, parts, joined}
-use Rattle.header.proofs.Fields as fields
+use Rattle.header_writer.proofs.Fields as fields
 
 -- ---- without a type
 

@@ -1,8 +1,8 @@
 -- `is_datagram_allowed` meets its contract. Assumes nothing.
 use borrow.Author.Needs.{needs}
-use Rattle.header.proofs.Allows.{object-any, by-status}
-use Rattle.header.proofs.writer.is_datagram_allowed.Statement.{statement}
-use Rattle.header.proofs.writer.is_datagram_allowed.Tie as tie
+use Rattle.header_writer.proofs.Allows.{object-any, by-status}
+use Rattle.header_writer.proofs.writer.is_datagram_allowed.Statement.{statement}
+use Rattle.header_writer.proofs.writer.is_datagram_allowed.Tie as tie
 
 pub is-datagram-allowed-spec : {M : Type 1} → statement M
 is-datagram-allowed-spec =

@@ -24,8 +24,8 @@ use Rattle.shortest.proofs.Again.{scanned-right}
 use Rattle.shortest.proofs.Fitting.{fitting-permitted}
 use Rattle.shortest.proofs.Passed.{Wrote, was-written, Passes}
 use Rattle.shortest.proofs.Passed as passed
-use Rattle.header.specs.Writing.{headerWritten}
-use Rattle.header.proofs.Shape.{Fits}
+use Rattle.header_writer.specs.Writing.{headerWritten}
+use Rattle.header_writer.proofs.Shape.{Fits}
 
 module _ (l : Layout) (front s : List ℕ) (ps : List Piece) (shape : Fits l s ps) (before : List ℕ) where
   -- ---- what is written

@@ -43,12 +43,3 @@ pub record Shortest {A B : Type 0} (c : Codec A B) : Type 0 where
   pub only-one : (s : List ℕ) (a : A) (before b : List ℕ) {n used : ℕ}
       → c .writeOf s a before .says ≡ wrote n → ReadsAs c b used s a → Octets b → used ≡ n
       → take used b ≡ take n (c .writeOf s a before .holds)
-
--- On a stream bytes come one after the other:
-pub record Steady {B : Type 0} (readOf : List ℕ → Answer B) : Type 0 where
-  -- those that follow change nothing of a whole header,
-  pub whole-stays : (s rest : List ℕ) {b : B} {used : ℕ} → readOf s ≡ answered b used → readOf (s ++ rest) ≡ answered b used
-  -- nor of a refusal other than 1;
-  pub refusal-stays : (s rest : List ℕ) {n : ℕ} → (n ≡ 1 → ⊥) → readOf s ≡ refused n → readOf (s ++ rest) ≡ refused n
-  -- and where 1 is answered, more bytes can still decide: so it is answered exactly there.
-  pub more : (s : List ℕ) → readOf s ≡ refused 1 → (rest : List ℕ) × (readOf (s ++ rest) ≡ refused 1 → ⊥)

@@ -3,15 +3,15 @@ use mathlib.Core.List.{List}
 use mathlib.Core.Bool.{Bool, true, false}
 use Rattle.field.specs.declared.Piece.{Piece}
 use Rattle.layout.specs.Typed.{Typed}
 use Rattle.header.specs.Told.{datagramSaid, streamSaid, subgroupObjectPieces, fetchObjectPieces}
 use Rattle.header.specs.Reading.{datagramOf, streamOf, subgroupObjectOf, fetchObjectOf}
-use Rattle.header.specs.Writing.{datagramWritten, streamWritten, subgroupObjectWritten, fetchObjectWritten}
-use Rattle.header.specs.Laws.{Codec}
+use Rattle.header_writer.specs.Writing.{datagramWritten, streamWritten, subgroupObjectWritten, fetchObjectWritten}
+use Rattle.header_writer.specs.Laws.{Codec}
 use Rattle.header.specs.declared.Datagram.{Datagram}
 use Rattle.header.specs.declared.Datagram.the-variants.{Object, Status}
 use Rattle.header.specs.declared.StreamHeader.{StreamHeader}
 use Rattle.header.specs.declared.SubgroupObject.{SubgroupObject}
 use Rattle.header.specs.declared.FetchObject.{FetchObject}
 
 -- a payload follows the header of an object datagram, and nothing a status
 abbrev pub takesPayload : Datagram → Bool

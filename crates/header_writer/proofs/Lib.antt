@@ -1,0 +1,9 @@
+pub mod Allows
+pub mod Writes
+pub mod Shape
+pub mod Fields
+pub mod Keeps
+pub mod Follows
+pub mod Shortest
+pub mod Headers
+pub mod Theorems
