@@ -13,11 +13,10 @@ use Rattle.text.specs.declared.Item.{Item}
 use Rattle.text.specs.declared.Item.the-variants.{Number, Word, Rule, Name}
 use Rattle.text.specs.declared.Word.the-variants.{Start as AStart, Malformed as AMalformed, Arrival as AnArrival}
 use Rattle.run.specs.Events.{eventOf}
-use Rattle.run.specs.Progressing.{Stepping, stepOf, begun, endOf}
+use Rattle.run.specs.Progressing.{onFault, Stepping, stepOf, begun, endOf}
 use Rattle.run.specs.declared.Event.{Event}
 use Rattle.run.specs.declared.Event.the-variants.{Start, Control, Malformed, Arrived, Fault}
 use Rattle.run.specs.declared.Stage.{Stage}
-use Rattle.run.specs.declared.Stage.the-variants.{Empty, Running, Faulty}
 use Rattle.run.specs.declared.Progress.{Progress}
 use Rattle.report.specs.Rows.{faultLine}
 use Rattle.answers.specs.declared.Told.{Told}
@@ -68,9 +67,7 @@ telling p text = record { progress = p; text = text }
 
 -- at a fault the lines before it stand, then `trace fault at N`
 abbrev pub faultItems : Stage → List Item
-faultItems Empty = faultLine 0
-faultItems Running = []
-faultItems (Faulty at) = faultLine at
+faultItems stage = onFault stage faultLine []
 
 unfoldable pub endItems : Progress → ℕ → List Item
 endItems p left = faultItems (endOf p left .stage)

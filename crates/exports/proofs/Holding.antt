@@ -6,7 +6,7 @@ use mathlib.Core.List.{List, [], _∷_}
 use native.Mathlib.Omega.{arith}
 use borrow.Author.Tests.{leb-true, le-leb, lt-leb, eq-eqb, ne-eqb}
 use denote.Enum.Declared.{tagOf}
-use types.Run.{OneOf, miss}
+use types.Run.{OneOf}
 use lib.ListN.{length, set}
 use lib.Dec.{leb}
 use Rattle.integer.specs.Answer.{pick, number}
@@ -16,7 +16,6 @@ use Rattle.row.specs.Places.{small}
 use Rattle.message.specs.Reading.{readOf, told as toldReading}
 use Rattle.message.specs.declared.Message.{Message}
 use Rattle.message.specs.declared.Reading.{Reading}
-use Rattle.message.specs.declared.Reading.the-variants.{Whole, More, Unknown, TooLong, Unfilled, Forbidden, Oversize}
 use Rattle.message.proofs.Reading.{the-type}
 use Rattle.message.proofs.OneReading.{readingOf, reading-only}
 use Rattle.ledger.specs.Ledgers.{emptyLedger}
@@ -32,7 +31,8 @@ use Rattle.ledger.specs.declared.Ran.{Ran}
 use Rattle.packed.specs.Numbers.{numbersOf}
 use Rattle.packed.specs.Naming.{partOf, unpackOf, keptIn}
 use Rattle.packed.proofs.Storing.{numbers-length}
-use Rattle.rewrite.specs.Rewriting.{Does}
+use Rattle.run.proofs.Meaning.{not-whole}
+use Rattle.rewrite.specs.Rewriting.{Does, refusing}
 use Rattle.exports.specs.Ledgers.{started, answered, telling, takenBy, messageIn, arrivalsIn}
 use Rattle.exports.proofs.Numbers.{two}
 
@@ -138,19 +138,12 @@ read-as s before info {r} {v} f h d =
     let e : readingOf s ≡ v = sym (reading-only s r f) ∙ h in
     rw e d
 
--- "every other reading ends there", by the place of its variant
-not-whole : (r : Reading) (before info : List ℕ) → OneOf (1 ∷ 2 ∷ 3 ∷ 4 ∷ 5 ∷ 6 ∷ []) (tagOf the-type r) → Does (takenBy r before info) (number (toldReading r)) before info
-unfolding number
-not-whole (Whole m used) before info h = absurd (miss (1 ∷ 2 ∷ 3 ∷ 4 ∷ 5 ∷ 6 ∷ []) 0 tt h)
-not-whole More before info h = record { says = refl; leaves = refl; tells = refl }
-not-whole Unknown before info h = record { says = refl; leaves = refl; tells = refl }
-not-whole TooLong before info h = record { says = refl; leaves = refl; tells = refl }
-not-whole Unfilled before info h = record { says = refl; leaves = refl; tells = refl }
-not-whole Forbidden before info h = record { says = refl; leaves = refl; tells = refl }
-not-whole Oversize before info h = record { says = refl; leaves = refl; tells = refl }
-
+-- "every other reading ends there"
 pub read-else : (s before info : List ℕ) (r : Reading) {n : ℕ} → toldReading r ≡ readOf s → OneOf (1 ∷ 2 ∷ 3 ∷ 4 ∷ 5 ∷ 6 ∷ []) (tagOf the-type r) → n ≡ number (toldReading r) → Does (messageIn s before info) n before info
-read-else s before info r f h says = read-as s before info {r = r} f refl (rw says (not-whole r before info h))
+read-else s before info r f h says =
+    let m = number (toldReading r) in
+    let ends = not-whole r (λ m used. telling (takeOf (unpackOf before) m) used before info) (refusing m before info) h in
+    read-as s before info {r = r} f refl (rw (says, ← ends) (record { says = refl; leaves = refl; tells = refl }))
 
 -- ---- a run of arrivals
 

@@ -7,16 +7,16 @@ use lib.Dec.{leb, eqb}
 use Rattle.integer.specs.Answer.{guard, pick, number}
 use Rattle.integer.specs.Integer.{over}
 use Rattle.field.specs.declared.Arrival.{Arrival}
-use Rattle.message.specs.declared.Message.{Message}
+use Rattle.message.specs.Reading.{told}
 use Rattle.message.proofs.OneReading.{readingOf}
 use Rattle.message.specs.declared.Reading.{Reading}
-use Rattle.message.specs.declared.Reading.the-variants.{Whole, More, Unknown, TooLong, Unfilled, Forbidden, Oversize}
 use Rattle.ledger.specs.Answers.{Came}
 use Rattle.ledger.specs.Steps.{startOf, takeOf, malformedOf, arrivalOf}
 use Rattle.ledger.specs.Runs.{Run, runOf}
 use Rattle.ledger.specs.declared.Ledger.{Ledger}
 use Rattle.packed.specs.Numbers.{numbersOf}
 use Rattle.packed.specs.Naming.{partOf, unpackOf, keptIn}
+use Rattle.run.specs.Events.{onWhole}
 use Rattle.rewrite.specs.Rewriting.{Doing, refusing}
 
 -- a new ledger: 5 for a part that is none, 15, and 7 where it has no room
@@ -50,13 +50,8 @@ telling c used before info =
 
 -- "Only a whole message reaches the ledger; every other reading ends there"
 abbrev pub takenBy : Reading → List ℕ → List ℕ → Doing
-takenBy (Whole m used) before info = telling (takeOf (unpackOf before) m) used before info
-takenBy More before info = refusing 1 before info
-takenBy Unknown before info = refusing 2 before info
-takenBy TooLong before info = refusing 3 before info
-takenBy Unfilled before info = refusing 4 before info
-takenBy Forbidden before info = refusing 5 before info
-takenBy Oversize before info = refusing 6 before info
+takenBy r before info =
+    onWhole r (λ m used. telling (takeOf (unpackOf before) m) used before info) (refusing (number (told r)) before info)
 
 -- the one reading that `told r ≡ readOf s` names
 unfoldable pub messageIn : List ℕ → List ℕ → List ℕ → Doing

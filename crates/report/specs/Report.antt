@@ -5,9 +5,7 @@ use Rattle.row.specs.declared.Row.{Row}
 use Rattle.ledger.specs.Ledgers.{held}
 use Rattle.ledger.specs.declared.Ledger.{Ledger}
 use Rattle.text.specs.Lines.{lineOf}
-use Rattle.run.specs.Progressing.{endOf, runOf}
-use Rattle.run.specs.declared.Stage.{Stage}
-use Rattle.run.specs.declared.Stage.the-variants.{Empty, Running, Faulty}
+use Rattle.run.specs.Progressing.{onFault, runOf}
 use Rattle.run.specs.declared.Progress.{Progress}
 use Rattle.report.specs.Rows.{sessionLine, columnsLine, rowLine, faultLine}
 
@@ -20,13 +18,8 @@ unfoldable pub ledgerText : Ledger → List ℕ
 ledgerText l = lineOf (sessionLine (l .session) (l .used)) ++ (lineOf columnsLine ++ rowsText (held l))
 
 -- a run that ended shows its ledger; a fault "prints only `trace fault at N`"
-abbrev pub textBy : Stage → Ledger → List ℕ
-textBy Empty l = lineOf (faultLine 0)
-textBy Running l = ledgerText l
-textBy (Faulty at) l = lineOf (faultLine at)
-
 unfoldable pub textOf : Progress → List ℕ
-textOf p = textBy (p .stage) (p .ledger)
+textOf p = onFault (p .stage) (λ at. lineOf (faultLine at)) (ledgerText (p .ledger))
 
 unfoldable pub reportOf : List ℕ → List ℕ
 reportOf s = textOf (runOf s)

@@ -7,7 +7,7 @@ ghost use Rattle.shortest.specs.Putting.{Put};
 ghost use Rattle.ledger.specs.Ledgers.{held};
 ghost use Rattle.text.specs.Lines.{itemsOf, lineOf, putOf, saying};
 ghost use Rattle.run.specs.Progressing.{endOf};
-ghost use Rattle.report.specs.Report.{rowsText, ledgerText, textBy, textOf, reportOf};
+ghost use Rattle.report.specs.Report.{rowsText, ledgerText, textOf, reportOf};
 use crate::lines::columns_line;
 use crate::lines::fault_line;
 use crate::lines::row_line;

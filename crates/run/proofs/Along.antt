@@ -21,7 +21,7 @@ use Rattle.trace.specs.declared.FieldRead.{FieldRead}
 use Rattle.trace.specs.declared.FieldRead.the-variants.{Whole, Cut}
 use Rattle.trace.proofs.Fed.{size-take, size-head, whole-fits, fed-field, fed-none}
 use Rattle.run.specs.Events.{eventOf}
-use Rattle.run.specs.Progressing.{dueOf, heardOf, stageOf, offsetOf, Stepping, stepOf, step, fed, fedOf, arrivedAll, toldHeard, toldStep, holding}
+use Rattle.run.specs.Progressing.{dueOf, heardOf, offsetOf, Stepping, stepOf, step, fed, fedOf, arrivedAll, toldHeard, toldStep, holding}
 use Rattle.run.specs.Gathering.{isRunning, arrivalIn, Gathers, Turns}
 use Rattle.run.specs.declared.Event.{Event}
 use Rattle.run.specs.declared.Event.the-variants.{Arrived, Fault}
@@ -37,12 +37,11 @@ use Rattle.run.proofs.Rests.{drop-take}
 -- ---- one event
 
 -- an event's step, by its parts
-pub stepped : (p : Progress) (e : Event) (size : ℕ) {due : Event} {h : Heard} {stage : Stage} {offset : ℕ} → due ≡ dueOf (p .stage) e → toldHeard h ≡ heardOf (p .ledger) due → stage ≡ stageOf (p .stage) (p .offset) due → offset ≡ (p .offset + size) % 2 ^ 64 → toldStep (record { event = due; number = h .number; rule = h .rule; progress = record { ledger = h .ledger; stage = stage; offset = offset } }) ≡ stepOf p e size
+pub stepped : (p : Progress) (e : Event) (size : ℕ) {due : Event} {h : Heard} {offset : ℕ} → due ≡ dueOf (p .stage) e → toldHeard h ≡ heardOf p due → offset ≡ (p .offset + size) % 2 ^ 64 → toldStep (record { event = due; number = h .number; rule = h .rule; progress = record { ledger = h .ledger; stage = h .stage; offset = offset } }) ≡ stepOf p e size
 unfolding stepOf offsetOf
-stepped p e size d h s o =
-    let came = h ∙ ap (heardOf (p .ledger)) d in
-    let stage = s ∙ ap (stageOf (p .stage) (p .offset)) d in
-    λ i. record { event = d i; says = came i .says; next = record { ledger = came i .next; stage = stage i; offset = o i } }
+stepped p e size d h o =
+    let heard = h ∙ ap (heardOf p) d in
+    λ i. record { event = d i; says = heard i .says; next = record { ledger = heard i .ledger; stage = heard i .stage; offset = o i } }
 
 -- arrivals that fit are all taken
 pub taken-all : (p : Progress) (run before : List ℕ) (size : ℕ) {l : Ledger} {offset : ℕ} → length run ≤ 3 * length before → l ≡ runOf (p .ledger) run before .next → offset ≡ (p .offset + size) % 2 ^ 64 → record { ledger = l; stage = p .stage; offset = offset } ≡ arrivedAll p run size

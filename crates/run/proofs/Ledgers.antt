@@ -4,8 +4,9 @@ use mathlib.Core.Path.{_≡_, refl}
 use mathlib.Core.Bool.{true}
 use mathlib.Core.List.{List}
 use borrow.Author.Tests.{le-leb}
-use lib.Dec.{eqb}
+use lib.Dec.{leb, eqb}
 use lib.ListN.{length, getD}
+use Rattle.integer.specs.Answer.{number}
 use Rattle.integer.specs.Integer.{greatest}
 use Rattle.integer.proofs.Cases.{pick-by}
 use Rattle.field.specs.Outcome.{Outcome, whole, no}
@@ -14,7 +15,9 @@ use Rattle.field.specs.Fields.{placeAt}
 use Rattle.field.specs.Value.{onFound}
 use Rattle.field.specs.declared.Place.{Place}
 use Rattle.field.proofs.Found.{number-at}
+use Rattle.message.specs.Reading.{told}
 use Rattle.message.proofs.OneReading.{readingOf}
+use Rattle.message.specs.declared.Message.{Message}
 use Rattle.message.specs.declared.Reading.{Reading}
 use Rattle.message.specs.declared.Reading.the-variants.{Whole, More, Unknown, TooLong, Unfilled, Forbidden, Oversize}
 use Rattle.row.specs.Places.{small}
@@ -25,8 +28,8 @@ use Rattle.ledger.specs.declared.Part.{Part}
 use Rattle.ledger.specs.declared.Part.the-variants.{Subscriber}
 use Rattle.ledger.proofs.Keeps.{keeps-take, keeps-malformed, keeps-arrival, starts}
 use Rattle.trace.specs.Fields.{tagOf, valueOf}
-use Rattle.run.specs.Events.{filling, partBy, startedBy, readingBy, controlBy, arrivedBy, eventOf}
-use Rattle.run.specs.Progressing.{dueOf, heardOf, stepOf, step, begun}
+use Rattle.run.specs.Events.{filling, partBy, startedBy, onWhole, malformedBy, readingBy, controlBy, arrivedBy, eventOf}
+use Rattle.run.specs.Progressing.{isStart, dueOf, heardOf, stepOf, step, begun}
 use Rattle.run.specs.declared.Event.{Event}
 use Rattle.run.specs.declared.Event.the-variants.{Start, Control, Malformed, Arrived, Fault}
 use Rattle.run.specs.declared.Stage.{Stage}
@@ -54,14 +57,20 @@ started-fits value = go (numberAt value 1) refl
         (λ _. pick-by Startable (eqb (getD value 0 0) 0) (λ _. fits) (λ _. pick-by Startable (eqb (getD value 0 0) 1) (λ _. fits) (λ _. tt)))
         (λ _. tt)
 
+whole-fits : (r : Reading) (taken : Message → ℕ → Event) (rest : Event) → ((m : Message) (used : ℕ) → Startable (taken m used)) → Startable rest → Startable (onWhole r taken rest)
+whole-fits (Whole m used) taken rest f g = f m used
+whole-fits More taken rest f g = g
+whole-fits Unknown taken rest f g = g
+whole-fits TooLong taken rest f g = g
+whole-fits Unfilled taken rest f g = g
+whole-fits Forbidden taken rest f g = g
+whole-fits Oversize taken rest f g = g
+
 reading-fits : (value : List ℕ) (r : Reading) → Startable (readingBy value r)
-reading-fits value (Whole m used) = pick-by Startable (eqb used (length value)) (λ _. tt) (λ _. tt)
-reading-fits value More = tt
-reading-fits value Unknown = tt
-reading-fits value TooLong = tt
-reading-fits value Unfilled = tt
-reading-fits value Forbidden = tt
-reading-fits value Oversize = tt
+reading-fits value r =
+    whole-fits r (λ m used. filling value used (Control m)) (malformedBy (number (told r)))
+    (λ m used. pick-by Startable (eqb used (length value)) (λ _. tt) (λ _. tt))
+    (pick-by Startable (leb 2 (number (told r))) (λ _. tt) (λ _. tt))
 
 control-fits : (value : List ℕ) → Startable (controlBy value)
 unfolding controlBy
@@ -89,35 +98,27 @@ event-fits tag value =
 -- ---- a step
 
 due-fits : (stage : Stage) (e : Event) → Startable e → Startable (dueOf stage e)
-due-fits Empty (Start part maximum) f = f
-due-fits Empty (Control m) f = tt
-due-fits Empty (Malformed number) f = tt
-due-fits Empty (Arrived a) f = tt
-due-fits Empty Fault f = tt
-due-fits Running (Start part maximum) f = tt
-due-fits Running (Control m) f = tt
-due-fits Running (Malformed number) f = tt
-due-fits Running (Arrived a) f = tt
-due-fits Running Fault f = tt
+due-fits Empty e f = pick-by Startable (isStart e) (λ _. f) (λ _. tt)
+due-fits Running e f = pick-by Startable (isStart e) (λ _. tt) (λ _. f)
 due-fits (Faulty at) e f = tt
 
 started-is : (part : Part) (maximum : ℕ) → small maximum ≡ true → isLedger (startOf part 64 maximum .next) ≡ true
 unfolding startOf
 started-is part maximum h = starts part 64 maximum (rw h)
 
-heard-keeps : (l : Ledger) (e : Event) → Startable e → isLedger l ≡ true → isLedger (heardOf l e .next) ≡ true
-heard-keeps l (Start part maximum) f w = started-is part maximum f
-heard-keeps l (Control m) f w = keeps-take l w m
-heard-keeps l (Malformed number) f w = keeps-malformed l w
-heard-keeps l (Arrived a) f w = keeps-arrival l w a
-heard-keeps l Fault f w = w
+heard-keeps : (p : Progress) (e : Event) → Startable e → isLedger (p .ledger) ≡ true → isLedger (heardOf p e .ledger) ≡ true
+heard-keeps p (Start part maximum) f w = started-is part maximum f
+heard-keeps p (Control m) f w = keeps-take (p .ledger) w m
+heard-keeps p (Malformed number) f w = keeps-malformed (p .ledger) w
+heard-keeps p (Arrived a) f w = keeps-arrival (p .ledger) w a
+heard-keeps p Fault f w = w
 
 -- a field leaves a ledger
 pub step-keeps : (p : Progress) (field : List ℕ) → isLedger (p .ledger) ≡ true → isLedger (step p field .ledger) ≡ true
 unfolding step stepOf
 step-keeps p field w =
     let event = eventOf (tagOf field) (valueOf field) in
-    heard-keeps (p .ledger) (dueOf (p .stage) event) (due-fits (p .stage) event (event-fits (tagOf field) (valueOf field))) w
+    heard-keeps p (dueOf (p .stage) event) (due-fits (p .stage) event (event-fits (tagOf field) (valueOf field))) w
 
 -- and there is one before the first
 pub begun-is : isLedger (begun .ledger) ≡ true

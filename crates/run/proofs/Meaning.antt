@@ -2,13 +2,12 @@
 use Prim.Native.Nat.{ℕ, _<_}
 use mathlib.Core.Path.{_≡_, refl, sym, ap, _∙_}
 use mathlib.Core.List.{List, [], _∷_}
-use mathlib.Core.Logic.{⊎-elim}
-use native.Mathlib.Nat.{not-suc-le-zero}
 use native.Mathlib.Omega.{arith}
 use borrow.Author.Tests.{eq-eqb, ne-eqb}
 use denote.Enum.Declared.{tagOf}
-use types.Run.{OneOf}
+use types.Run.{OneOf, miss}
 use lib.ListN.{length, getD}
+use Rattle.integer.specs.Answer.{number}
 use Rattle.field.specs.Fields.{fieldAt, integer, placeAt}
 use Rattle.field.specs.Told.{toldNumber, toldPlace}
 use Rattle.field.specs.declared.Place.{Place}
@@ -24,7 +23,7 @@ use Rattle.message.specs.declared.Reading.{Reading}
 use Rattle.message.specs.declared.Reading.the-variants.{Whole, More, Unknown, TooLong, Unfilled, Forbidden, Oversize}
 use Rattle.message.proofs.Reading.{the-type}
 use Rattle.message.proofs.OneReading.{reading-only}
-use Rattle.run.specs.Events.{partBy, startedBy, malformedBy, readingBy, controlBy, arrivedBy}
+use Rattle.run.specs.Events.{filling, partBy, startedBy, onWhole, malformedBy, readingBy, controlBy, arrivedBy}
 use Rattle.run.specs.declared.Event.{Event}
 use Rattle.run.specs.declared.Event.the-variants.{Control, Arrived, Fault}
 
@@ -57,21 +56,18 @@ pub control-by : (value : List ℕ) {r v : Reading} {e : Event} → told r ≡ r
 unfolding controlBy
 control-by value {r} said h is = is ∙ ap (readingBy value) (sym h ∙ reading-only value r said)
 
--- one that is not whole, by the place of its variant
-behind-first : (n : ℕ) → OneOf (1 ∷ 2 ∷ 3 ∷ 4 ∷ 5 ∷ 6 ∷ []) n → 0 < n
-behind-first n = ⊎-elim (λ e. omega arith) (⊎-elim (λ e. omega arith) (⊎-elim (λ e. omega arith) (⊎-elim (λ e. omega arith) (⊎-elim (λ e. omega arith) (λ e. omega arith)))))
+-- "every other reading ends there", by the place of its variant
+pub not-whole : {A : Type 0} (r : Reading) (taken : Message → ℕ → A) (rest : A) → OneOf (1 ∷ 2 ∷ 3 ∷ 4 ∷ 5 ∷ 6 ∷ []) (tagOf the-type r) → rest ≡ onWhole r taken rest
+not-whole (Whole m used) taken rest h = absurd (miss (1 ∷ 2 ∷ 3 ∷ 4 ∷ 5 ∷ 6 ∷ []) 0 tt h)
+not-whole More taken rest h = refl
+not-whole Unknown taken rest h = refl
+not-whole TooLong taken rest h = refl
+not-whole Unfilled taken rest h = refl
+not-whole Forbidden taken rest h = refl
+not-whole Oversize taken rest h = refl
 
-not-whole : (value : List ℕ) (r : Reading) → OneOf (1 ∷ 2 ∷ 3 ∷ 4 ∷ 5 ∷ 6 ∷ []) (tagOf the-type r) → malformedBy r ≡ readingBy value r
-not-whole value (Whole m used) h = absurd (not-suc-le-zero (behind-first 0 h))
-not-whole value More h = refl
-not-whole value Unknown h = refl
-not-whole value TooLong h = refl
-not-whole value Unfilled h = refl
-not-whole value Forbidden h = refl
-not-whole value Oversize h = refl
-
-pub control-else : (value : List ℕ) (r : Reading) {e : Event} → told r ≡ readOf value → OneOf (1 ∷ 2 ∷ 3 ∷ 4 ∷ 5 ∷ 6 ∷ []) (tagOf the-type r) → e ≡ malformedBy r → e ≡ controlBy value
-control-else value r said h is = control-by value {r = r} said refl (is ∙ not-whole value r h)
+pub control-else : (value : List ℕ) (r : Reading) {e : Event} → told r ≡ readOf value → OneOf (1 ∷ 2 ∷ 3 ∷ 4 ∷ 5 ∷ 6 ∷ []) (tagOf the-type r) → e ≡ malformedBy (number (told r)) → e ≡ controlBy value
+control-else value r said h is = control-by value {r = r} said refl (is ∙ not-whole r (λ m used. filling value used (Control m)) (malformedBy (number (told r))) h)
 
 module _ (value : List ℕ) {r : Reading} {m : Message} {used : ℕ} (said : told r ≡ readOf value) (h : r ≡ Whole m used) where
   pub control-over : (used ≡ length value → ⊥) → Fault ≡ controlBy value

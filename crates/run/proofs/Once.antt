@@ -10,7 +10,7 @@ use Rattle.run.specs.declared.Stepped.{Stepped}
 use Rattle.run.specs.declared.Advanced.{Advanced}
 
 pub heard-once : (a b : Heard) → toldHeard a ≡ toldHeard b → a ≡ b
-heard-once a b e = λ i. record { number = e i .says .number; rule = e i .says .rule; ledger = e i .next }
+heard-once a b e = λ i. record { number = e i .says .number; rule = e i .says .rule; ledger = e i .ledger; stage = e i .stage }
 
 pub step-once : (a b : Stepped) → toldStep a ≡ toldStep b → a ≡ b
 step-once a b e = λ i. record { event = e i .event; number = e i .says .number; rule = e i .says .rule; progress = e i .next }

@@ -4,12 +4,14 @@
 use Prim.Native.Nat.{ℕ}
 use mathlib.Core.List.{List}
 use lib.ListN.{length, getD}
-use lib.Dec.{eqb}
-use Rattle.integer.specs.Answer.{guard, pick}
+use lib.Dec.{leb, eqb}
+use Rattle.integer.specs.Answer.{guard, pick, number}
 use Rattle.field.specs.Entries.{numberAt}
 use Rattle.field.specs.Fields.{placeAt}
 use Rattle.field.specs.Value.{onFound}
+use Rattle.message.specs.Reading.{told}
 use Rattle.message.proofs.OneReading.{readingOf}
+use Rattle.message.specs.declared.Message.{Message}
 use Rattle.message.specs.declared.Reading.{Reading}
 use Rattle.message.specs.declared.Reading.the-variants.{Whole, More, Unknown, TooLong, Unfilled, Forbidden, Oversize}
 use Rattle.ledger.specs.declared.Part.the-variants.{Subscriber, Publisher}
@@ -28,24 +30,22 @@ unfoldable pub startedBy : List ℕ → Event
 startedBy value =
     onFound (numberAt value 1) (λ maximum end. filling value end (partBy (getD value 0 0) maximum)) Fault
 
--- tag 2: what is no whole message answers 1, a fault, or is malformed
-abbrev pub malformedBy : Reading → Event
-malformedBy (Whole m used) = Fault
-malformedBy More = Fault
-malformedBy Unknown = Malformed 2
-malformedBy TooLong = Malformed 3
-malformedBy Unfilled = Malformed 4
-malformedBy Forbidden = Malformed 5
-malformedBy Oversize = Malformed 6
+-- tag 2: "Only a whole message reaches the ledger; every other reading ends there"
+abbrev pub onWhole : {A : Type 0} → Reading → (Message → ℕ → A) → A → A
+onWhole (Whole m used) taken rest = taken m used
+onWhole More taken rest = rest
+onWhole Unknown taken rest = rest
+onWhole TooLong taken rest = rest
+onWhole Unfilled taken rest = rest
+onWhole Forbidden taken rest = rest
+onWhole Oversize taken rest = rest
+
+-- "answers 2 to 6 count as malformed"; "a message answering 1" is a fault
+abbrev pub malformedBy : ℕ → Event
+malformedBy answer = guard (leb 2 answer) Fault (Malformed answer)
 
 abbrev pub readingBy : List ℕ → Reading → Event
-readingBy value (Whole m used) = filling value used (Control m)
-readingBy value More = malformedBy More
-readingBy value Unknown = malformedBy Unknown
-readingBy value TooLong = malformedBy TooLong
-readingBy value Unfilled = malformedBy Unfilled
-readingBy value Forbidden = malformedBy Forbidden
-readingBy value Oversize = malformedBy Oversize
+readingBy value r = onWhole r (λ m used. filling value used (Control m)) (malformedBy (number (told r)))
 
 -- the one reading that `told r ≡ readOf value` names
 unfoldable pub controlBy : List ℕ → Event

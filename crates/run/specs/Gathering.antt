@@ -10,19 +10,17 @@ use Rattle.integer.specs.Answer.{guard}
 use Rattle.trace.specs.Fields.{isWhole}
 use Rattle.trace.specs.declared.Field.{Field}
 use Rattle.run.specs.Events.{arrivedBy}
-use Rattle.run.specs.Progressing.{fed, arrivedAll}
+use Rattle.run.specs.Progressing.{onFault, fed, arrivedAll}
 use Rattle.run.specs.declared.Event.{Event}
 use Rattle.run.specs.declared.Event.the-variants.{Fault}
 use Rattle.run.specs.declared.Stage.{Stage}
-use Rattle.run.specs.declared.Stage.the-variants.{Empty, Running, Faulty}
+use Rattle.run.specs.declared.Stage.the-variants.{Running}
 use Rattle.run.specs.declared.Progress.{Progress}
 use Rattle.run.specs.declared.Fed.{Fed}
 use Rattle.run.specs.declared.Gathered.{Gathered}
 
 abbrev pub isRunning : Stage → Bool
-isRunning Empty = false
-isRunning Running = true
-isRunning (Faulty at) = false
+isRunning stage = onFault stage (λ at. false) true
 
 -- a field that is an arrival
 unfoldable pub arrivalIn : List ℕ → Field → Event

@@ -1,11 +1,12 @@
 -- A trace is taken field by field by a ledger of 64 rows.
 use Prim.Native.Nat.{ℕ, _+_, _-_, _%_, _^_}
+use mathlib.Core.Bool.{Bool, true, false}
 use mathlib.Core.List.{List, []}
 use lib.ListN.{length}
 use lib.Dec.{eqb}
-use Rattle.integer.specs.Answer.{guard}
+use Rattle.integer.specs.Answer.{guard, pick}
 use Rattle.ledger.specs.Ledgers.{emptyLedger}
-use Rattle.ledger.specs.Answers.{Said, Came, same}
+use Rattle.ledger.specs.Answers.{Said, Came, only}
 use Rattle.ledger.specs.Steps.{startOf, takeOf, malformedOf, arrivalOf}
 use Rattle.ledger.specs.Runs.{arrivalsIn, behind}
 use Rattle.ledger.specs.declared.Ledger.{Ledger}
@@ -24,46 +25,41 @@ use Rattle.run.specs.declared.Fed.{Fed}
 
 -- ---- one event
 
--- "Tag 1, first and once": what comes before a start is a fault, and so is a second start
-abbrev pub dueFirst : Event → Event
-dueFirst (Start part maximum) = Start part maximum
-dueFirst (Control m) = Fault
-dueFirst (Malformed number) = Fault
-dueFirst (Arrived a) = Fault
-dueFirst Fault = Fault
+abbrev pub isStart : Event → Bool
+isStart (Start part maximum) = true
+isStart (Control m) = false
+isStart (Malformed number) = false
+isStart (Arrived a) = false
+isStart Fault = false
 
-abbrev pub dueThen : Event → Event
-dueThen (Start part maximum) = Fault
-dueThen (Control m) = Control m
-dueThen (Malformed number) = Malformed number
-dueThen (Arrived a) = Arrived a
-dueThen Fault = Fault
-
+-- "Tag 1, first and once": a start is due where nothing came before, and nowhere else; what isn't due is a fault
 abbrev pub dueOf : Stage → Event → Event
-dueOf Empty event = dueFirst event
-dueOf Running event = dueThen event
+dueOf Empty event = guard (isStart event) Fault event
+dueOf Running event = pick (isStart event) Fault event
 dueOf (Faulty at) event = Fault
 
--- "`moqreport` ... has 64 rows"; nothing is said to a fault
-abbrev pub heardOf : Ledger → Event → Came
-heardOf l (Start part maximum) = startOf part 64 maximum
-heardOf l (Control m) = takeOf l m
-heardOf l (Malformed number) = malformedOf l
-heardOf l (Arrived a) = arrivalOf l a
-heardOf l Fault = same l 0
-
 -- the first fault decides, "N being the offset of that field's tag"
-abbrev pub stageBy : ℕ → Event → Stage
-stageBy offset (Start part maximum) = Running
-stageBy offset (Control m) = Running
-stageBy offset (Malformed number) = Running
-stageBy offset (Arrived a) = Running
-stageBy offset Fault = Faulty offset
+abbrev pub firstFault : Stage → ℕ → Stage
+firstFault Empty offset = Faulty offset
+firstFault Running offset = Faulty offset
+firstFault (Faulty at) offset = Faulty at
 
-abbrev pub stageOf : Stage → ℕ → Event → Stage
-stageOf Empty offset event = stageBy offset event
-stageOf Running offset event = stageBy offset event
-stageOf (Faulty at) offset event = Faulty at
+-- what is said to an event, and the ledger and the stage behind it
+pub record Hearing : Type 0 where
+  pub says : Said
+  pub ledger : Ledger
+  pub stage : Stage
+
+abbrev pub goesOn : Came → Hearing
+goesOn came = record { says = came .says; ledger = came .next; stage = Running }
+
+-- "`moqreport` ... has 64 rows"; nothing is said to a fault
+abbrev pub heardOf : Progress → Event → Hearing
+heardOf p (Start part maximum) = goesOn (startOf part 64 maximum)
+heardOf p (Control m) = goesOn (takeOf (p .ledger) m)
+heardOf p (Malformed number) = goesOn (malformedOf (p .ledger))
+heardOf p (Arrived a) = goesOn (arrivalOf (p .ledger) a)
+heardOf p Fault = record { says = only 0; ledger = p .ledger; stage = firstFault (p .stage) (p .offset) }
 
 -- an offset is kept in 64 bits, which no trace uses up
 unfoldable pub offsetOf : ℕ → ℕ → ℕ
@@ -77,11 +73,11 @@ pub record Stepping : Type 0 where
 unfoldable pub stepOf : Progress → Event → ℕ → Stepping
 stepOf p event size =
     let due = dueOf (p .stage) event in
-    let came = heardOf (p .ledger) due in
+    let heard = heardOf p due in
     record {
       event = due;
-      says = came .says;
-      next = record { ledger = came .next; stage = stageOf (p .stage) (p .offset) due; offset = offsetOf (p .offset) size };
+      says = heard .says;
+      next = record { ledger = heard .ledger; stage = heard .stage; offset = offsetOf (p .offset) size };
     }
 
 -- ---- a trace
@@ -101,11 +97,15 @@ holding p rest = record { soFar = p; rest = rest }
 unfoldable pub fed : Progress → List ℕ → Held Progress
 fed p s = feed step (holding p []) s
 
--- its end: "an empty input" is a fault at 0, and so is a field that is cut, at its tag
+-- "an empty input" is a fault at 0; another is one where a field was
+abbrev pub onFault : {A : Type 0} → Stage → (ℕ → A) → A → A
+onFault Empty fault rest = fault 0
+onFault Running fault rest = rest
+onFault (Faulty at) fault rest = fault at
+
+-- its end: a field that is cut is a fault too
 abbrev pub endStage : Stage → ℕ → ℕ → Stage
-endStage Empty offset left = Faulty 0
-endStage Running offset left = guard (eqb left 0) (Faulty offset) Running
-endStage (Faulty at) offset left = Faulty at
+endStage stage offset left = onFault stage Faulty (guard (eqb left 0) (Faulty offset) Running)
 
 unfoldable pub endOf : Progress → ℕ → Progress
 endOf p left = record { ledger = p .ledger; stage = endStage (p .stage) (p .offset) left; offset = p .offset }
@@ -116,8 +116,8 @@ runOf s = let h = fed begun s in endOf (h .soFar) (length (h .rest))
 
 -- ---- what the functions answer
 
-abbrev pub toldHeard : Heard → Came
-toldHeard h = record { says = record { number = h .number; rule = h .rule }; next = h .ledger }
+abbrev pub toldHeard : Heard → Hearing
+toldHeard h = record { says = record { number = h .number; rule = h .rule }; ledger = h .ledger; stage = h .stage }
 
 abbrev pub toldStep : Stepped → Stepping
 toldStep s = record { event = s .event; says = record { number = s .number; rule = s .rule }; next = s .progress }

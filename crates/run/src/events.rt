@@ -1,5 +1,7 @@
 // What a field of a trace is, by its tag and its value.
 ghost use mathlib.Core.Path.{_≡_};
+ghost use Rattle.integer.specs.Answer.{number};
+ghost use Rattle.message.specs.Reading.{told};
 ghost use Rattle.run.specs.Events.{startedBy, controlBy, malformedBy, arrivedBy, eventOf};
 use crate::Event;
 use field::Arrival;
@@ -53,7 +55,7 @@ fn control(value: &[u8]) -> Event
 
 // A reading that is not whole: 1 is a fault, any other number is malformed.
 fn malformed(reading: Reading) -> Event
-    ensures { λ r. ⌜ r ≡ malformedBy reading ⌝ }
+    ensures { λ r. ⌜ r ≡ malformedBy (number (told reading)) ⌝ }
 {
     match reading {
         Reading::Whole(_, _) => Event::Fault,

@@ -37,11 +37,12 @@ pub struct Progress {
     pub offset: u64,
 }
 
-// What a ledger said to an event, in document 01's number and rule, and the next ledger.
+// What a ledger said to an event, in document 01's number and rule, and the ledger and the stage behind it.
 struct Heard {
     number: u8,
     rule: u8,
     ledger: Ledger,
+    stage: Stage,
 }
 
 // What an event came to: what it was taken for, what was said to it, and the progress behind it.

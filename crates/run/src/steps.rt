@@ -1,6 +1,6 @@
 // How far a trace was taken, and one event more.
 ghost use mathlib.Core.Path.{_≡_};
-ghost use Rattle.run.specs.Progressing.{dueOf, heardOf, stageBy, stageOf, stepOf, begun, endStage, endOf, toldHeard, toldStep};
+ghost use Rattle.run.specs.Progressing.{isStart, dueOf, firstFault, goesOn, heardOf, stepOf, begun, endStage, endOf, toldHeard, toldStep};
 ghost use Rattle.ledger.specs.Answers.{told};
 use crate::Event;
 use crate::Heard;
@@ -31,15 +31,16 @@ impl Progress {
     {
         let stage = self.stage;
         let event = due(stage, e);
-        let heard = hear(self.ledger, event);
+        let heard = hear(self, event);
         let ledger = heard.ledger;
+        let next = heard.stage;
         Stepped {
             event,
             number: heard.number,
             rule: heard.rule,
             progress: Progress {
                 ledger,
-                stage: stage_behind(stage, self.offset, event),
+                stage: next,
                 offset: std::num::wrapping_add_u64(self.offset, size as u64),
             },
         }
@@ -63,29 +64,42 @@ impl Progress {
 fn due(stage: Stage, e: Event) -> Event
     ensures { λ r. ⌜ r ≡ dueOf stage e ⌝ }
 {
+    let start = is_start(e);
     match stage {
-        Stage::Empty => match e {
-            Event::Start(_, _) => return e,
-            Event::Control(_) => return Event::Fault,
-            Event::Malformed(_) => return Event::Fault,
-            Event::Arrived(_) => return Event::Fault,
-            Event::Fault => return Event::Fault,
-        },
-        Stage::Running => match e {
-            Event::Start(_, _) => return Event::Fault,
-            Event::Control(_) => return e,
-            Event::Malformed(_) => return e,
-            Event::Arrived(_) => return e,
-            Event::Fault => return Event::Fault,
-        },
-        Stage::Faulty(_) => return Event::Fault,
+        Stage::Empty => {
+            if start {
+                return e;
+            }
+            Event::Fault
+        }
+        Stage::Running => {
+            if start {
+                return Event::Fault;
+            }
+            e
+        }
+        Stage::Faulty(_) => Event::Fault,
     }
 }
 
-// The ledger's step.
-fn hear(l: Ledger, e: Event) -> Heard
-    ensures { λ r. ⌜ toldHeard r ≡ heardOf l e ⌝ }
+fn is_start(e: Event) -> bool
+    ensures { λ r. ⌜ r ≡ isStart e ⌝ }
 {
+    match e {
+        Event::Start(_, _) => true,
+        Event::Control(_) => false,
+        Event::Malformed(_) => false,
+        Event::Arrived(_) => false,
+        Event::Fault => false,
+    }
+}
+
+// The ledger takes what is due.
+fn hear(p: Progress, e: Event) -> Heard
+    ensures { λ r. ⌜ toldHeard r ≡ heardOf p e ⌝ }
+{
+    let l = p.ledger;
+    let stage = p.stage;
     match e {
         Event::Start(part, maximum) => heard(ledger::start(part, 64, maximum)),
         Event::Control(m) => heard(l.take(m)),
@@ -95,12 +109,13 @@ fn hear(l: Ledger, e: Event) -> Heard
             number: 0,
             rule: 0,
             ledger: l,
+            stage: first_fault(stage, p.offset),
         },
     }
 }
 
 fn heard(t: Taken) -> Heard
-    ensures { λ r. ⌜ toldHeard r ≡ told t ⌝ }
+    ensures { λ r. ⌜ toldHeard r ≡ goesOn (told t) ⌝ }
 {
     let answer = t.answer;
     let ledger = t.ledger;
@@ -108,29 +123,18 @@ fn heard(t: Taken) -> Heard
         number: ledger::number(answer),
         rule: ledger::broken(answer),
         ledger,
+        stage: Stage::Running,
     }
 }
 
 // The first fault decides.
-fn stage_behind(stage: Stage, offset: u64, e: Event) -> Stage
-    ensures { λ r. ⌜ r ≡ stageOf stage offset e ⌝ }
+fn first_fault(stage: Stage, offset: u64) -> Stage
+    ensures { λ r. ⌜ r ≡ firstFault stage offset ⌝ }
 {
     match stage {
-        Stage::Empty => stage_by(offset, e),
-        Stage::Running => stage_by(offset, e),
+        Stage::Empty => Stage::Faulty(offset),
+        Stage::Running => Stage::Faulty(offset),
         Stage::Faulty(at) => Stage::Faulty(at),
-    }
-}
-
-fn stage_by(offset: u64, e: Event) -> Stage
-    ensures { λ r. ⌜ r ≡ stageBy offset e ⌝ }
-{
-    match e {
-        Event::Start(_, _) => Stage::Running,
-        Event::Control(_) => Stage::Running,
-        Event::Malformed(_) => Stage::Running,
-        Event::Arrived(_) => Stage::Running,
-        Event::Fault => Stage::Faulty(offset),
     }
 }
 

@@ -85,14 +85,14 @@ follows (field ∷ fields) l offset text h = go (eventIn field) h (λ m o t. fol
 -- what it is answered
 abbrev startSaid : List (List ℕ) → Said
 startSaid [] = only 0
-startSaid (field ∷ fields) = heardOf (begun .ledger) (eventIn field) .says
+startSaid (field ∷ fields) = heardOf begun (eventIn field) .says
 
 from-first : (fields : List (List ℕ)) → Unbroken fields (telling begun []) → Follows (steps tell (telling begun []) fields) (run (startBy fields) (happeningIn fields)) (linesOf 0 fields (startSaid fields ∷ map answered (told (startBy fields) (happeningIn fields))))
 unfolding steps tell stepOf lineIn happeningIn eventIn linesOf headD
 from-first [] h = absurd (let z : _≡_ {A = ℕ} 0 1 = cc in omega arith)
 from-first (field ∷ fields) h = go (eventIn field) h
   where
-    go : (e : FieldEvent) → Unbroken fields (tellBy (telling begun []) e (sizeOf field)) → Follows (steps tell (tellBy (telling begun []) e (sizeOf field)) fields) (run (heardOf (begun .ledger) e .next) (happens e ++ happeningIn fields)) (linesBy 0 e (sizeOf field) fields (heardOf (begun .ledger) e .says ∷ map answered (told (heardOf (begun .ledger) e .next) (happens e ++ happeningIn fields))))
+    go : (e : FieldEvent) → Unbroken fields (tellBy (telling begun []) e (sizeOf field)) → Follows (steps tell (tellBy (telling begun []) e (sizeOf field)) fields) (run (heardOf begun e .ledger) (happens e ++ happeningIn fields)) (linesBy 0 e (sizeOf field) fields (heardOf begun e .says ∷ map answered (told (heardOf begun e .ledger) (happens e ++ happeningIn fields))))
     go (Start part maximum) k = follows fields _ _ _ k
     go (Control m) k = no-fault fields _ _ _ _ k
     go (Malformed number) k = no-fault fields _ _ _ _ k
@@ -109,7 +109,7 @@ unfolding steps tell stepOf lineIn eventIn
 starts [] h = absurd (let z : _≡_ {A = ℕ} 0 1 = cc in omega arith)
 starts (field ∷ fields) h = go (eventIn field) (event-fits (tagOf field) (valueOf field)) h
   where
-    go : (e : FieldEvent) → Startable e → Unbroken fields (tellBy (telling begun []) e (sizeOf field)) → Started (heardOf (begun .ledger) e .next) × (heardOf (begun .ledger) e .says ≡ only 8)
+    go : (e : FieldEvent) → Startable e → Unbroken fields (tellBy (telling begun []) e (sizeOf field)) → Started (heardOf begun e .ledger) × (heardOf begun e .says ≡ only 8)
     go (Start part maximum) fits k =
         let accepted = small-starts part maximum fits in
         (record { part = part; maximum = maximum; accepted = accepted; ledger = refl }, accepted)
@@ -144,13 +144,16 @@ module _ (s : List ℕ) where
     unfolding endOf
     ended = rw run-is at h
 
+    runs : all-told .progress .stage ≡ Running
+    runs = went (all-told .progress .stage) (all-told .progress .offset) (length (restOf s)) ended
+
     all-follows : Follows all-told (run (startIn s) (historyOf s)) (linesOf 0 (fieldsOf s) (startSaid (fieldsOf s) ∷ map answered (told (startIn s) (historyOf s))))
     unfolding startIn historyOf all-told
-    all-follows = from-first (fieldsOf s) (went _ _ _ ended)
+    all-follows = from-first (fieldsOf s) runs
 
     first : Started (startBy (fieldsOf s)) × (startSaid (fieldsOf s) ≡ only 8)
     unfolding all-told
-    first = starts (fieldsOf s) (went _ _ _ ended)
+    first = starts (fieldsOf s) runs
 
     pub trace-starts : Started (startIn s)
     unfolding startIn

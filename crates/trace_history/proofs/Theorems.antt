@@ -10,7 +10,7 @@ use Rattle.history.specs.Orders.{Exchanged}
 use Rattle.history.specs.Rows.{rowsOf}
 use Rattle.history.proofs.Theorems.{exchanged-histories-agree, rows-told-by-their-history}
 use Rattle.run.specs.Progressing.{runOf}
-use Rattle.report.specs.Report.{ledgerText, textBy, textOf, reportOf}
+use Rattle.report.specs.Report.{ledgerText, textOf, reportOf}
 use Rattle.answers.specs.Telling.{answersOf}
 use Rattle.trace_history.specs.Histories.{fieldsOf, Faultless, Started, startIn, historyOf, answered, linesOf}
 use Rattle.trace_history.proofs.Following.{trace-starts, run-follows, answers-follow}

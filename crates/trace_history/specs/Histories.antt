@@ -40,7 +40,7 @@ Faultless s = runOf s .stage ≡ Running
 -- "Tag 1, first and once": the ledger behind the first field
 abbrev pub startBy : List (List ℕ) → Ledger
 startBy [] = begun .ledger
-startBy (field ∷ fields) = heardOf (begun .ledger) (eventIn field) .next
+startBy (field ∷ fields) = heardOf begun (eventIn field) .ledger
 
 unfoldable pub startIn : List ℕ → Ledger
 startIn s = startBy (fieldsOf s)

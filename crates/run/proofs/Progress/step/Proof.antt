@@ -11,5 +11,4 @@ step-spec =
     (λ c κs. search needs)
     (λ c κs. search needs)
     (λ c κs. search needs)
-    (λ c κs. search needs)
-    (λ c. stepped _ _ _ (c .before .before .before .before .due .ensures) (c .before .before .before .hear .ensures) (c .before .stage-behind .ensures) (c .wrapping-add-u64 .ensures)))
+    (λ c. stepped _ _ _ (c .before .before .before .due .ensures) (c .before .before .hear .ensures) (c .wrapping-add-u64 .ensures)))

@@ -1,5 +1,6 @@
 -- `heard` meets its contract. Assumes nothing.
 use borrow.Author.Needs.{needs}
+use Rattle.run.specs.declared.Stage.the-variants.{Running}
 use Rattle.run.proofs.steps.heard.Statement.{statement}
 use Rattle.run.proofs.steps.heard.Tie as tie
 
@@ -9,4 +10,4 @@ heard-spec =
     (tie.spec
     (λ c κs. search needs)
     (λ c κs. search needs)
-    (λ c. λ i. record { says = record { number = c .before .number .ensures i; rule = c .broken .ensures i }; next = c .before .before .before .args .t .ledger }))
+    (λ c. λ i. record { says = record { number = c .before .number .ensures i; rule = c .broken .ensures i }; ledger = c .before .before .before .args .t .ledger; stage = Running }))
