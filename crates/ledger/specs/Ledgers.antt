@@ -15,6 +15,10 @@ use Rattle.ledger.specs.declared.Session.{Session}
 use Rattle.ledger.specs.declared.Session.the-variants.{Open, Closed}
 use Rattle.ledger.specs.declared.Ledger.{Ledger}
 
+-- how many rows a ledger has places for: "the capacity is 1 to 64"
+abbrev pub mostRows : ℕ
+mostRows = 64
+
 -- ---- rows
 
 -- the rows in use
@@ -47,12 +51,12 @@ allUnused (r ∷ rs) = both (isUnused r) (allUnused rs)
 unfoldable pub bounded : Ledger → Bool
 bounded l =
     both (leb 1 (l .capacity))
-    (both (leb (l .capacity) 64)
+    (both (leb (l .capacity) mostRows)
     (both (leb (l .used) (l .capacity)) (both (small (l .maximum)) (leb (l .next) (greatest + 1)))))
 
 unfoldable pub isLedger : Ledger → Bool
 isLedger l =
-    both (eqb (length (l .rows)) 64)
+    both (eqb (length (l .rows)) mostRows)
     (both (bounded l)
     (both (rising 0 (l .next) (held l)) (both (distinct (held l)) (allUnused (drop (l .used) (l .rows))))))
 
@@ -63,7 +67,7 @@ isOpen (Closed rule) = false
 -- a ledger with no row in use
 abbrev pub emptyLedger : Part → ℕ → ℕ → Ledger
 emptyLedger part capacity maximum = record {
-  rows = replicate 64 unusedRow;
+  rows = replicate mostRows unusedRow;
   part = part;
   session = Open;
   capacity = capacity;

@@ -24,7 +24,7 @@ use Rattle.row.specs.Rows.{unusedRow, pendingRow, AtRow, arriveOf, openOf, mayE
 use Rattle.row.specs.declared.Row.{Row}
 use Rattle.row.specs.declared.Ending.{Ending}
 use Rattle.row.specs.declared.Ending.the-variants.{SubscribeError as Erring, SubscribeDone as Ended, Unsubscribe as Leaving}
-use Rattle.ledger.specs.Ledgers.{held, hasAlias, emptyLedger}
+use Rattle.ledger.specs.Ledgers.{mostRows, held, hasAlias, emptyLedger}
 use Rattle.ledger.specs.Answers.{Came, only, same, done, isOwn, breaks, gated}
 use Rattle.ledger.specs.Senders.{sender}
 use Rattle.ledger.specs.declared.Part.{Part}
@@ -46,7 +46,7 @@ refusedStart part = record { says = only 15; next = emptyLedger part 0 0 }
 
 unfoldable pub startOf : Part → ℕ → ℕ → Came
 startOf part capacity maximum =
-    guard (both (leb 1 capacity) (both (leb capacity 64) (small maximum))) (refusedStart part)
+    guard (both (leb 1 capacity) (both (leb capacity mostRows) (small maximum))) (refusedStart part)
     (done (emptyLedger part capacity maximum))
 
 -- ---- rows in their places

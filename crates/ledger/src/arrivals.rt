@@ -1,6 +1,7 @@
 // Arrivals.
 ghost use mathlib.Core.Path.{_≡_};
 ghost use Prim.Native.Nat.{_≤_};
+ghost use Rattle.ledger.specs.Ledgers.{mostRows};
 ghost use Rattle.ledger.specs.Answers.{told};
 ghost use Rattle.ledger.specs.Steps.{arrivalStep, smallArrival};
 use crate::Answer;
@@ -25,7 +26,7 @@ pub fn is_small(a: Arrival) -> bool
 }
 
 pub fn count(l: Ledger, a: Arrival) -> Taken
-    requires { ⌜ l .used ≤ 64 ⌝ }
+    requires { ⌜ l .used ≤ mostRows ⌝ }
     ensures { λ r. ⌜ told r ≡ arrivalStep l a ⌝ }
 {
     let place = a.place;

@@ -2,8 +2,9 @@
 ghost use mathlib.Core.Path.{_≡_};
 ghost use Prim.Native.Nat.{_≤_};
 ghost use lib.ListN.{drop};
-ghost use Rattle.ledger.specs.Ledgers.{held, rising, distinct, allUnused, bounded, isLedger};
+ghost use Rattle.ledger.specs.Ledgers.{mostRows, held, rising, distinct, allUnused, bounded, isLedger};
 use crate::Ledger;
+use crate::MOST_ROWS;
 
 pub fn is_ledger(l: Ledger) -> bool
     ensures { λ r. ⌜ r ≡ isLedger l ⌝ }
@@ -27,7 +28,7 @@ fn is_bounded(l: Ledger) -> bool
     if l.capacity < 1 {
         return false;
     }
-    if l.capacity > 64 {
+    if l.capacity > MOST_ROWS {
         return false;
     }
     if l.used > l.capacity {
@@ -41,7 +42,7 @@ fn is_bounded(l: Ledger) -> bool
 
 // The rows in use rise strictly by ID, below the next one, and each is a row.
 fn do_rise(l: Ledger) -> bool
-    requires { ⌜ l .used ≤ 64 ⌝ }
+    requires { ⌜ l .used ≤ mostRows ⌝ }
     ensures { λ r. ⌜ r ≡ rising 0 (l .next) (held l) ⌝ }
 {
     let used = l.used;
@@ -68,7 +69,7 @@ fn do_rise(l: Ledger) -> bool
 
 // No alias is held by two rows.
 fn are_distinct(l: Ledger) -> bool
-    requires { ⌜ l .used ≤ 64 ⌝ }
+    requires { ⌜ l .used ≤ mostRows ⌝ }
     ensures { λ r. ⌜ r ≡ distinct (held l) ⌝ }
 {
     let used = l.used;
@@ -90,11 +91,11 @@ fn are_distinct(l: Ledger) -> bool
 }
 
 fn is_rest_unused(l: Ledger) -> bool
-    requires { ⌜ l .used ≤ 64 ⌝ }
+    requires { ⌜ l .used ≤ mostRows ⌝ }
     ensures { λ r. ⌜ r ≡ allUnused (drop (l .used) (l .rows)) ⌝ }
 {
     let mut i = l.used;
-    while i < 64 {
+    while i < MOST_ROWS {
         let row = l.rows[i];
         if !row::is_unused(row) {
             return false;

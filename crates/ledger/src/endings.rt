@@ -1,6 +1,7 @@
 // SUBSCRIBE_ERROR, SUBSCRIBE_DONE and UNSUBSCRIBE, which free a row.
 ghost use mathlib.Core.Path.{_≡_};
 ghost use Prim.Native.Nat.{_≤_, _<_};
+ghost use Rattle.ledger.specs.Ledgers.{mostRows};
 ghost use Rattle.ledger.specs.Answers.{told};
 ghost use Rattle.ledger.specs.Steps.{freed, endStep};
 use crate::Answer;
@@ -18,7 +19,7 @@ use row::Ending;
 
 // A message of this kind, which the part `by` sends.
 pub fn end(l: Ledger, by: Part, ending: Ending, id: u64) -> Taken
-    requires { ⌜ l .used ≤ 64 ⌝ }
+    requires { ⌜ l .used ≤ mostRows ⌝ }
     ensures { λ r. ⌜ told r ≡ endStep l by ending id ⌝ }
 {
     let Found::At(i) = find_row(l, Key::Id, id) else {
@@ -38,7 +39,7 @@ pub fn end(l: Ledger, by: Part, ending: Ending, id: u64) -> Taken
 
 // The row is removed, and the rows after it move up one place.
 fn without(l: Ledger, at: usize) -> Ledger
-    requires { ⌜ (at < l .used) × (l .used ≤ 64) ⌝ }
+    requires { ⌜ (at < l .used) × (l .used ≤ mostRows) ⌝ }
     ensures { λ r. ⌜ r ≡ freed l at ⌝ }
 {
     let mut next = l;

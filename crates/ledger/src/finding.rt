@@ -1,7 +1,7 @@
 // Where a row stands: by its ID, or by its alias.
 ghost use mathlib.Core.Path.{_≡_};
 ghost use Prim.Native.Nat.{_≤_};
-ghost use Rattle.ledger.specs.Ledgers.{held};
+ghost use Rattle.ledger.specs.Ledgers.{mostRows, held};
 ghost use Rattle.ledger.specs.Steps.{find, keyOf};
 use crate::Found;
 use crate::Key;
@@ -18,7 +18,7 @@ fn number(row: Row, key: Key) -> u64
 }
 
 pub fn find_row(l: Ledger, key: Key, n: u64) -> Found
-    requires { ⌜ l .used ≤ 64 ⌝ }
+    requires { ⌜ l .used ≤ mostRows ⌝ }
     ensures { λ r. ⌜ r ≡ find (keyOf key) n 0 (held l) ⌝ }
 {
     let used = l.used;

@@ -19,6 +19,9 @@ use row::Row;
 pub use rules::close_code;
 pub use starting::start;
 
+// How many rows a ledger has places for.
+pub const MOST_ROWS: usize = 64;
+
 // The end of a session that a ledger belongs to, or that sends a message.
 pub enum Part {
     Subscriber,
@@ -44,7 +47,7 @@ pub enum Session {
 
 // The rows in use stand first, rising by ID. `next` is one more than the highest ID accepted, 0 for none.
 pub struct Ledger {
-    pub rows: [Row; 64],
+    pub rows: [Row; MOST_ROWS],
     pub part: Part,
     pub session: Session,
     pub capacity: usize,

@@ -5,13 +5,14 @@ ghost use mathlib.Core.List.{map};
 ghost use Prim.Native.Nat.{_≤_};
 ghost use lib.ListN.{length, take};
 ghost use Rattle.row.specs.Rows.{arrivedNumber, leftBy};
-ghost use Rattle.ledger.specs.Ledgers.{isOpen};
+ghost use Rattle.ledger.specs.Ledgers.{mostRows, isOpen};
 ghost use Rattle.ledger.specs.Answers.{stops};
 ghost use Rattle.ledger.specs.Steps.{find, aliasOf, smallArrival};
 ghost use Rattle.ledger.specs.Runs.{runOf, Runs, itself};
 use crate::Filled;
 use crate::Found;
 use crate::Ledger;
+use crate::MOST_ROWS;
 use crate::Ran;
 use crate::Session;
 use crate::arrivals::is_small;
@@ -93,12 +94,12 @@ fn first(opened: bool, a: Arrival) -> u8
 }
 
 // The aliases of all rows.
-fn aliases(l: Ledger) -> [u64; 64]
+fn aliases(l: Ledger) -> [u64; MOST_ROWS]
     ensures { λ r. ⌜ r ≡ map aliasOf (l .rows) ⌝ }
 {
-    let mut names = [0u64; 64];
+    let mut names = [0u64; MOST_ROWS];
     let mut i: usize = 0;
-    while i < 64 {
+    while i < MOST_ROWS {
         let row = l.rows[i];
         names[i] = row.alias;
         i += 1;
@@ -106,8 +107,8 @@ fn aliases(l: Ledger) -> [u64; 64]
     names
 }
 
-fn find_name(names: &[u64; 64], used: usize, alias: u64) -> Found
-    requires { ⌜ (used ≤ 64) × (used ≤ length (now names)) ⌝ }
+fn find_name(names: &[u64; MOST_ROWS], used: usize, alias: u64) -> Found
+    requires { ⌜ (used ≤ mostRows) × (used ≤ length (now names)) ⌝ }
     ensures { λ r. ⌜ r ≡ find itself alias 0 (take used (now (names .entry))) ⌝ }
 {
     let mut i: usize = 0;

@@ -5,6 +5,7 @@ ghost use Rattle.ledger.specs.Answers.{told};
 ghost use Rattle.ledger.specs.Steps.{refusedStart, startOf};
 use crate::Answer;
 use crate::Ledger;
+use crate::MOST_ROWS;
 use crate::Part;
 use crate::Session;
 use crate::Taken;
@@ -16,7 +17,7 @@ pub fn start(part: Part, capacity: usize, maximum: u64) -> Taken
     if capacity < 1 {
         return refused(part);
     }
-    if capacity > 64 {
+    if capacity > MOST_ROWS {
         return refused(part);
     }
     if maximum > integer::GREATEST {
@@ -42,7 +43,7 @@ fn empty(part: Part, capacity: usize, maximum: u64) -> Ledger
 {
     let row = row::unused();
     Ledger {
-        rows: [row; 64],
+        rows: [row; MOST_ROWS],
         part,
         session: Session::Open,
         capacity,

@@ -1,6 +1,7 @@
 // SUBSCRIBE, which adds a row, and SUBSCRIBE_OK, which makes it active.
 ghost use mathlib.Core.Path.{_≡_};
 ghost use Prim.Native.Nat.{_≤_, _<_};
+ghost use Rattle.ledger.specs.Ledgers.{mostRows};
 ghost use Rattle.ledger.specs.Answers.{told};
 ghost use Rattle.ledger.specs.Steps.{added, changed, noRow, subscribeStep, okStep};
 use crate::Answer;
@@ -19,7 +20,7 @@ use subscription::Subscribe;
 use subscription::SubscribeOk;
 
 pub fn add(l: Ledger, m: Subscribe) -> Taken
-    requires { ⌜ (l .used ≤ 64) × (l .capacity ≤ 64) ⌝ }
+    requires { ⌜ (l .used ≤ mostRows) × (l .capacity ≤ mostRows) ⌝ }
     ensures { λ r. ⌜ told r ≡ subscribeStep l m ⌝ }
 {
     let part = l.part;
@@ -48,7 +49,7 @@ pub fn add(l: Ledger, m: Subscribe) -> Taken
 
 // The row is added last, and its ID becomes the highest.
 fn with_last(l: Ledger, row: Row) -> Ledger
-    requires { ⌜ (l .used < 64) × (row .id < l .maximum) ⌝ }
+    requires { ⌜ (l .used < mostRows) × (row .id < l .maximum) ⌝ }
     ensures { λ r. ⌜ r ≡ added l row ⌝ }
 {
     let mut next = l;
@@ -61,7 +62,7 @@ fn with_last(l: Ledger, row: Row) -> Ledger
 
 // One row changed.
 pub fn with_row(l: Ledger, i: usize, row: Row) -> Ledger
-    requires { ⌜ i < 64 ⌝ }
+    requires { ⌜ i < mostRows ⌝ }
     ensures { λ r. ⌜ r ≡ changed l i row ⌝ }
 {
     let mut next = l;
@@ -84,7 +85,7 @@ pub fn no_row(l: Ledger, sender: Part, id: u64) -> Taken
 }
 
 pub fn accept(l: Ledger, m: SubscribeOk) -> Taken
-    requires { ⌜ l .used ≤ 64 ⌝ }
+    requires { ⌜ l .used ≤ mostRows ⌝ }
     ensures { λ r. ⌜ told r ≡ okStep l m ⌝ }
 {
     let Found::At(i) = find_row(l, Key::Id, m.id) else {

@@ -15,7 +15,7 @@ use Rattle.row.specs.declared.Range.the-variants.{Unknown, Open, Closed}
 use Rattle.row.specs.declared.Greatest.{Greatest}
 use Rattle.row.specs.declared.Greatest.the-variants.{Nowhere, At}
 use Rattle.row.specs.declared.Row.{Row}
-use Rattle.ledger.specs.Ledgers.{emptyLedger}
+use Rattle.ledger.specs.Ledgers.{mostRows, emptyLedger}
 use Rattle.ledger.specs.declared.Part.{Part}
 use Rattle.ledger.specs.declared.Part.the-variants.{Subscriber, Publisher}
 use Rattle.ledger.specs.declared.Rule.{Rule}
@@ -23,7 +23,7 @@ use Rattle.ledger.specs.declared.Rule.the-variants.{R1, R2, R3, R4, R5, R6, R7}
 use Rattle.ledger.specs.declared.Session.{Session}
 use Rattle.ledger.specs.declared.Session.the-variants.{Open as IsOpen, Closed as IsClosed}
 use Rattle.ledger.specs.declared.Ledger.{Ledger}
-use Rattle.packed.specs.Numbers.{numbersOf}
+use Rattle.packed.specs.Numbers.{ownSize, rowSize, ledgerSize, numbersOf}
 
 -- ---- what numbers name. A number that names nothing is taken for the last; `unpackOf` refuses it.
 
@@ -40,7 +40,7 @@ rangeOf n group object last =
 unfoldable pub greatestOf : ℕ → ℕ → ℕ → Greatest
 greatestOf n group object = pick (eqb n 0) Nowhere (At (placeOf group object))
 
--- the eleven numbers at an offset
+-- a row's numbers at an offset
 unfoldable pub rowIn : List ℕ → ℕ → Row
 rowIn ns at = record {
   id = getD ns at 0;
@@ -54,7 +54,7 @@ rowIn ns at = record {
 -- so many rows from an offset on
 unfoldable pub rowsIn : ℕ → List ℕ → ℕ → List Row
 rowsIn zero ns at = []
-rowsIn (suc more) ns at = rowIn ns at ∷ rowsIn more ns (at + 11)
+rowsIn (suc more) ns at = rowIn ns at ∷ rowsIn more ns (at + rowSize)
 
 unfoldable pub partOf : ℕ → Part
 partOf n = pick (eqb n 0) Subscriber Publisher
@@ -68,7 +68,7 @@ sessionOf n = pick (eqb n 0) IsOpen (IsClosed (ruleOf n))
 
 unfoldable pub ledgerIn : List ℕ → Ledger
 ledgerIn ns = record {
-  rows = rowsIn 64 ns 6;
+  rows = rowsIn mostRows ns ownSize;
   part = partOf (getD ns 0 0);
   session = sessionOf (getD ns 1 0);
   capacity = getD ns 2 0;
@@ -90,7 +90,7 @@ abbrev pub noLedger : Ledger
 noLedger = emptyLedger Subscriber 0 0
 
 unfoldable pub unpackOf : List ℕ → Ledger
-unpackOf ns = pick (areSame (numbersOf (ledgerIn ns)) (take 710 ns)) (ledgerIn ns) noLedger
+unpackOf ns = pick (areSame (numbersOf (ledgerIn ns)) (take ledgerSize ns)) (ledgerIn ns) noLedger
 
 -- the numbers behind a call that left this ledger: they stay where it is none, or there is no room for it
 unfoldable pub keptIn : List ℕ → Ledger → List ℕ

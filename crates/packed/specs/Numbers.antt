@@ -1,6 +1,6 @@
--- A ledger as numbers, 710 of them: what it starts with, "its own end's part (subscriber or publisher), a row capacity and a maximum
+-- A ledger as numbers: what it starts with, "its own end's part (subscriber or publisher), a row capacity and a maximum
 -- Subscribe ID", and its rows. "A row: ID, alias, pending or active, range, greatest place counted or none, count."
-use Prim.Native.Nat.{ℕ}
+use Prim.Native.Nat.{ℕ, _+_, _*_}
 use mathlib.Core.List.{List, [], _∷_, _++_}
 use Rattle.field.specs.declared.Place.{Place}
 use Rattle.row.specs.declared.State.{State}
@@ -10,6 +10,7 @@ use Rattle.row.specs.declared.Range.the-variants.{Unknown, Open, Closed}
 use Rattle.row.specs.declared.Greatest.{Greatest}
 use Rattle.row.specs.declared.Greatest.the-variants.{Nowhere, At}
 use Rattle.row.specs.declared.Row.{Row}
+use Rattle.ledger.specs.Ledgers.{mostRows}
 use Rattle.ledger.specs.Answers.{ruleNumber}
 use Rattle.ledger.specs.declared.Part.{Part}
 use Rattle.ledger.specs.declared.Part.the-variants.{Subscriber, Publisher}
@@ -17,7 +18,17 @@ use Rattle.ledger.specs.declared.Session.{Session}
 use Rattle.ledger.specs.declared.Session.the-variants.{Open as IsOpen, Closed as IsClosed}
 use Rattle.ledger.specs.declared.Ledger.{Ledger}
 
--- ---- a row: eleven numbers
+-- how many numbers a ledger has of its own, how many a row has, and how many both
+abbrev pub ownSize : ℕ
+ownSize = 6
+
+abbrev pub rowSize : ℕ
+rowSize = 11
+
+abbrev pub ledgerSize : ℕ
+ledgerSize = ownSize + rowSize * mostRows
+
+-- ---- a row
 
 abbrev pub stateNumber : State → ℕ
 stateNumber Pending = 0
@@ -42,7 +53,7 @@ unfoldable pub rowsNumbers : List Row → List ℕ
 rowsNumbers [] = []
 rowsNumbers (r ∷ rs) = rowNumbers r ++ rowsNumbers rs
 
--- ---- a ledger: six numbers, and those of its rows
+-- ---- a ledger: its own numbers, and those of its rows
 
 abbrev pub partNumber : Part → ℕ
 partNumber Subscriber = 0

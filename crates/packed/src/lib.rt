@@ -1,4 +1,4 @@
-// A ledger as numbers, as a caller in another language holds it: 710 of them, six of the ledger's own and eleven of each row.
+// A ledger as numbers, as a caller in another language holds it: the ledger's own, and those of each row.
 mod packing;
 mod rows;
 mod unpacking;
@@ -6,5 +6,9 @@ mod unpacking;
 pub use packing::keep;
 pub use unpacking::unpack;
 
-// How many numbers a ledger has.
-pub const SIZE: usize = 710;
+// How many numbers a ledger has of its own, how many a row has, and how many both.
+pub const OWN_SIZE: usize = 6;
+
+pub const ROW_SIZE: usize = 11;
+
+pub const SIZE: usize = OWN_SIZE + ROW_SIZE * ledger::MOST_ROWS;

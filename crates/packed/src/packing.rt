@@ -6,9 +6,11 @@ ghost use Rattle.integer.specs.Integer.{over};
 ghost use Rattle.packed.specs.Numbers.{partNumber, sessionNumber, rowsNumbers, numbersOf};
 ghost use Rattle.packed.specs.Naming.{keptIn};
 ghost use Rattle.shortest.specs.Putting.{Put};
+use crate::OWN_SIZE;
 use crate::SIZE;
 use crate::rows::put_row;
 use ledger::Ledger;
+use ledger::MOST_ROWS;
 use ledger::Part;
 use ledger::Session;
 
@@ -37,7 +39,7 @@ fn put_rows(out: &mut [u64], l: Ledger) -> usize
 {
     let mut at: usize = 0;
     let mut i: usize = 0;
-    while i < 64 {
+    while i < MOST_ROWS {
         let row = l.rows[i];
         let n = put_row(&mut out[at..], row);
         at = at + n;
@@ -59,8 +61,8 @@ pub fn put_ledger(out: &mut [u64], l: Ledger) -> usize
     out[3] = l.maximum;
     out[4] = l.next;
     out[5] = l.used as u64;
-    let n = put_rows(&mut out[6..], l);
-    6 + n
+    let n = put_rows(&mut out[OWN_SIZE..], l);
+    OWN_SIZE + n
 }
 
 // The numbers of the ledger that a call left; where it is none, or there is no room for it, what was there stays.

@@ -1,10 +1,11 @@
-// A row as eleven numbers.
+// A row as numbers.
 ghost use mathlib.Core.Path.{_≡_};
 ghost use Prim.Native.Nat.{_+_, _≤_};
 ghost use lib.ListN.{length};
 ghost use Rattle.shortest.specs.Putting.{Put};
-ghost use Rattle.packed.specs.Numbers.{stateNumber, rangeNumbers, greatestNumbers, rowNumbers};
+ghost use Rattle.packed.specs.Numbers.{rowSize, stateNumber, rangeNumbers, greatestNumbers, rowNumbers};
 ghost use Rattle.packed.specs.Naming.{stateOf, rangeOf, greatestOf, rowIn};
+use crate::ROW_SIZE;
 use field::Place;
 use row::Greatest;
 use row::Range;
@@ -43,7 +44,7 @@ fn greatest_numbers(greatest: Greatest) -> [u64; 3]
 
 // At the front of out.
 pub fn put_row(out: &mut [u64], row: Row) -> usize
-    requires { ⌜ 11 ≤ length (now out) ⌝ }
+    requires { ⌜ rowSize ≤ length (now out) ⌝ }
     ensures { λ r. ⌜ Put (rowNumbers row) (now (out .entry)) r (now (out .exit)) ⌝ }
 {
     let state = row.state;
@@ -62,7 +63,7 @@ pub fn put_row(out: &mut [u64], row: Row) -> usize
     out[8] = shown[1];
     out[9] = shown[2];
     out[10] = row.count;
-    11
+    ROW_SIZE
 }
 
 // ---- the row that numbers name
@@ -97,7 +98,7 @@ fn greatest_of(n: u64, group: u64, object: u64) -> Greatest
 }
 
 pub fn row_in(numbers: &[u64], at: usize) -> Row
-    requires { ⌜ at + 11 ≤ length (now numbers) ⌝ }
+    requires { ⌜ at + rowSize ≤ length (now numbers) ⌝ }
     ensures { λ r. ⌜ r ≡ rowIn (now (numbers .entry)) at ⌝ }
 {
     let state = state_of(numbers[at + 2]);

@@ -2,12 +2,16 @@
 ghost use mathlib.Core.Path.{_≡_};
 ghost use Prim.Native.Nat.{_≤_};
 ghost use lib.ListN.{length, take};
-ghost use Rattle.packed.specs.Numbers.{numbersOf};
+ghost use Rattle.ledger.specs.Ledgers.{mostRows};
+ghost use Rattle.packed.specs.Numbers.{ownSize, ledgerSize, numbersOf};
 ghost use Rattle.packed.specs.Naming.{rowsIn, partOf, ruleOf, sessionOf, ledgerIn, areSame, noLedger, unpackOf};
+use crate::OWN_SIZE;
+use crate::ROW_SIZE;
 use crate::SIZE;
 use crate::packing::put_ledger;
 use crate::rows::row_in;
 use ledger::Ledger;
+use ledger::MOST_ROWS;
 use ledger::Part;
 use ledger::Rule;
 use ledger::Session;
@@ -66,21 +70,21 @@ fn session_of(n: u64) -> Session
     Session::Closed(rule_of(n))
 }
 
-fn rows_in(numbers: &[u64]) -> [Row; 64]
-    requires { ⌜ 710 ≤ length (now numbers) ⌝ }
-    ensures { λ r. ⌜ r ≡ rowsIn 64 (now (numbers .entry)) 6 ⌝ }
+fn rows_in(numbers: &[u64]) -> [Row; MOST_ROWS]
+    requires { ⌜ ledgerSize ≤ length (now numbers) ⌝ }
+    ensures { λ r. ⌜ r ≡ rowsIn mostRows (now (numbers .entry)) ownSize ⌝ }
 {
-    let mut rows = [row::unused(); 64];
+    let mut rows = [row::unused(); MOST_ROWS];
     let mut i: usize = 0;
-    while i < 64 {
-        rows[i] = row_in(numbers, 6 + 11 * i);
+    while i < MOST_ROWS {
+        rows[i] = row_in(numbers, OWN_SIZE + ROW_SIZE * i);
         i += 1;
     }
     rows
 }
 
 fn ledger_in(numbers: &[u64]) -> Ledger
-    requires { ⌜ 710 ≤ length (now numbers) ⌝ }
+    requires { ⌜ ledgerSize ≤ length (now numbers) ⌝ }
     ensures { λ r. ⌜ r ≡ ledgerIn (now (numbers .entry)) ⌝ }
 {
     let rows = rows_in(numbers);
@@ -99,10 +103,10 @@ fn ledger_in(numbers: &[u64]) -> Ledger
 
 // Whether these are the ledger's own.
 fn has_numbers(l: Ledger, numbers: &[u64]) -> bool
-    requires { ⌜ 710 ≤ length (now numbers) ⌝ }
-    ensures { λ r. ⌜ r ≡ areSame (numbersOf l) (take 710 (now (numbers .entry))) ⌝ }
+    requires { ⌜ ledgerSize ≤ length (now numbers) ⌝ }
+    ensures { λ r. ⌜ r ≡ areSame (numbersOf l) (take ledgerSize (now (numbers .entry))) ⌝ }
 {
-    let mut own = [0u64; 710];
+    let mut own = [0u64; SIZE];
     put_ledger(&mut own, l);
     let mut i: usize = 0;
     while i < SIZE {

@@ -21,7 +21,7 @@ use Rattle.message.specs.declared.Message.{Message}
 use Rattle.message.specs.declared.Reading.{Reading}
 use Rattle.message.specs.declared.Reading.the-variants.{Whole, More, Unknown, TooLong, Unfilled, Forbidden, Oversize}
 use Rattle.row.specs.Places.{small}
-use Rattle.ledger.specs.Ledgers.{isLedger}
+use Rattle.ledger.specs.Ledgers.{mostRows, isLedger}
 use Rattle.ledger.specs.Steps.{startOf}
 use Rattle.ledger.specs.declared.Ledger.{Ledger}
 use Rattle.ledger.specs.declared.Part.{Part}
@@ -102,9 +102,9 @@ due-fits Empty e f = pick-by Startable (isStart e) (λ _. f) (λ _. tt)
 due-fits Running e f = pick-by Startable (isStart e) (λ _. tt) (λ _. f)
 due-fits (Faulty at) e f = tt
 
-started-is : (part : Part) (maximum : ℕ) → small maximum ≡ true → isLedger (startOf part 64 maximum .next) ≡ true
+started-is : (part : Part) (maximum : ℕ) → small maximum ≡ true → isLedger (startOf part mostRows maximum .next) ≡ true
 unfolding startOf
-started-is part maximum h = starts part 64 maximum (rw h)
+started-is part maximum h = starts part mostRows maximum (rw h)
 
 heard-keeps : (p : Progress) (e : Event) → Startable e → isLedger (p .ledger) ≡ true → isLedger (heardOf p e .ledger) ≡ true
 heard-keeps p (Start part maximum) f w = started-is part maximum f

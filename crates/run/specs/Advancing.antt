@@ -16,7 +16,7 @@ pub record Onward : Type 0 where
   pub left : ℕ
   pub holds : List ℕ
 
--- the whole fields of the first bytes are taken; what is left goes to the front, and every byte behind it stays as it was
+-- the whole fields of the first bytes are taken; what is left goes to the front, and every byte behind it stays
 unfoldable pub advanceOf : Progress → List ℕ → ℕ → Onward
 advanceOf p before filled =
     let h = fed p (take filled before) in

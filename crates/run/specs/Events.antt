@@ -1,6 +1,7 @@
--- What a field of a trace is: "Tag 1, first and once: part (one byte: 0 subscriber, 1 publisher), then the maximum. Tag 2: one
--- control message; answers 2 to 6 count as malformed, whichever end would send it. Tag 3: alias, group, object as integers." "Any
--- other shape ..., a message answering 1, or a whole message or an arrival that leaves bytes of its field" is a fault.
+-- What a field of a trace is: "Tag 1, first and once: part (one byte: 0 subscriber, 1 publisher), then the maximum.
+-- Tag 2: one control message; answers 2 to 6 count as malformed, whichever end would send it. Tag 3: alias, group,
+-- object as integers." "Any other shape ..., a message answering 1, or a whole message or an arrival that leaves bytes
+-- of its field" is a fault.
 use Prim.Native.Nat.{ℕ}
 use mathlib.Core.List.{List}
 use lib.ListN.{length, getD}
@@ -55,7 +56,10 @@ controlBy value = readingBy value (readingOf value)
 unfoldable pub arrivedBy : List ℕ → Event
 arrivedBy value =
     onFound (numberAt value 0)
-    (λ alias next. onFound (placeAt value next) (λ place end. filling value end (Arrived (record { alias = alias; place = place }))) Fault)
+    (λ alias next.
+    onFound (placeAt value next)
+    (λ place end. filling value end (Arrived (record { alias = alias; place = place })))
+    Fault)
     Fault
 
 unfoldable pub eventOf : ℕ → List ℕ → Event

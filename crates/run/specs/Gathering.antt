@@ -1,5 +1,5 @@
--- How the functions that feed a trace go on: what is fed to one progress from an offset on is what is fed to the next from a later
--- one on.
+-- How the functions that feed a trace go on: what is fed to one progress from an offset on is what is fed to the next
+-- from a later one on.
 use Prim.Native.Nat.{ℕ, _-_, _*_, _^_, _≤_, _<_}
 use mathlib.Core.Path.{_≡_}
 use mathlib.Core.Bool.{Bool, true, false}
@@ -33,7 +33,8 @@ pub record Gathers (s : List ℕ) (at : ℕ) (g : Gathered) (before after : List
   pub goes-on : at ≤ g .end
   pub ends : g .end ≤ length s
   pub moves : 0 < g .count → at < g .end
-  pub feeds : (p : Progress) → p .stage ≡ Running → p .offset < 2 ^ 64 → fed p (drop at s) ≡ fed (arrivedAll p (take (3 * g .count) after) (g .end - at)) (drop (g .end) s)
+  pub feeds : (p : Progress) → p .stage ≡ Running → p .offset < 2 ^ 64 →
+      fed p (drop at s) ≡ fed (arrivedAll p (take (3 * g .count) after) (g .end - at)) (drop (g .end) s)
 
 -- one turn: where nothing is used, no whole field stands there
 pub record Turns (p : Progress) (s : List ℕ) (at : ℕ) (r : Fed) : Type 0 where

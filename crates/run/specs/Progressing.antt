@@ -1,11 +1,11 @@
--- A trace is taken field by field by a ledger of 64 rows.
+-- A trace is taken field by field by a ledger.
 use Prim.Native.Nat.{ℕ, _+_, _-_, _%_, _^_}
 use mathlib.Core.Bool.{Bool, true, false}
 use mathlib.Core.List.{List, []}
 use lib.ListN.{length}
 use lib.Dec.{eqb}
 use Rattle.integer.specs.Answer.{guard, pick}
-use Rattle.ledger.specs.Ledgers.{emptyLedger}
+use Rattle.ledger.specs.Ledgers.{mostRows, emptyLedger}
 use Rattle.ledger.specs.Answers.{Said, Came, only}
 use Rattle.ledger.specs.Steps.{startOf, takeOf, malformedOf, arrivalOf}
 use Rattle.ledger.specs.Runs.{arrivalsIn, behind}
@@ -55,7 +55,7 @@ goesOn came = record { says = came .says; ledger = came .next; stage = Running }
 
 -- "`moqreport` ... has 64 rows"; nothing is said to a fault
 abbrev pub heardOf : Progress → Event → Hearing
-heardOf p (Start part maximum) = goesOn (startOf part 64 maximum)
+heardOf p (Start part maximum) = goesOn (startOf part mostRows maximum)
 heardOf p (Control m) = goesOn (takeOf (p .ledger) m)
 heardOf p (Malformed number) = goesOn (malformedOf (p .ledger))
 heardOf p (Arrived a) = goesOn (arrivalOf (p .ledger) a)
@@ -84,7 +84,7 @@ stepOf p event size =
 
 -- before its first byte
 abbrev pub begun : Progress
-begun = record { ledger = emptyLedger Subscriber 64 0; stage = Empty; offset = 0 }
+begun = record { ledger = emptyLedger Subscriber mostRows 0; stage = Empty; offset = 0 }
 
 -- one field
 unfoldable pub step : Progress → List ℕ → Progress

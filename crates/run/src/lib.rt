@@ -13,8 +13,8 @@ use ledger::Part;
 use message::Message;
 pub use steps::begin;
 
-// What a field of a trace is: the start, with a part and a maximum; a whole message; bytes that are none, with the reader's
-// number; an arrival; or none of these.
+// What a field of a trace is: the start, with a part and a maximum; a whole message; bytes that are none, with the
+// reader's number; an arrival; or none of these.
 pub enum Event {
     Start(Part, u64),
     Control(Message),

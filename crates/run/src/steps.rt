@@ -8,6 +8,7 @@ use crate::Progress;
 use crate::Stage;
 use crate::Stepped;
 use ledger::Ledger;
+use ledger::MOST_ROWS;
 use ledger::Part;
 use ledger::Taken;
 
@@ -15,7 +16,7 @@ use ledger::Taken;
 pub fn begin() -> Progress
     ensures { λ r. ⌜ r ≡ begun ⌝ }
 {
-    let started = ledger::start(Part::Subscriber, 64, 0);
+    let started = ledger::start(Part::Subscriber, MOST_ROWS, 0);
     let ledger = started.ledger;
     Progress {
         ledger,
@@ -101,7 +102,7 @@ fn hear(p: Progress, e: Event) -> Heard
     let l = p.ledger;
     let stage = p.stage;
     match e {
-        Event::Start(part, maximum) => heard(ledger::start(part, 64, maximum)),
+        Event::Start(part, maximum) => heard(ledger::start(part, MOST_ROWS, maximum)),
         Event::Control(m) => heard(l.take(m)),
         Event::Malformed(_) => heard(l.malformed()),
         Event::Arrived(a) => heard(l.arrival(a)),

@@ -6,6 +6,7 @@ use mathlib.Core.Bool.{true}
 use mathlib.Core.List.{List, [], _∷_, _++_, map, headD, tail, append-assoc, append-nil}
 use native.Mathlib.Omega.{arith}
 use lib.ListN.{length}
+use Rattle.ledger.specs.Ledgers.{mostRows}
 use Rattle.ledger.specs.Answers.{Said, only}
 use Rattle.ledger.specs.Steps.{startOf}
 use Rattle.ledger.specs.declared.Ledger.{Ledger}
@@ -100,7 +101,7 @@ from-first (field ∷ fields) h = go (eventIn field) h
     go Fault k = no-fault fields _ _ _ _ k
 
 -- the first is a start, and it is accepted
-small-starts : (part : Part) (maximum : ℕ) → small maximum ≡ true → startOf part 64 maximum .says ≡ only 8
+small-starts : (part : Part) (maximum : ℕ) → small maximum ≡ true → startOf part mostRows maximum .says ≡ only 8
 unfolding startOf
 small-starts part maximum e = rw e
 

@@ -3,7 +3,7 @@ use Prim.Native.Nat.{ℕ}
 use mathlib.Core.Path.{_≡_, sym, ap, _∙_}
 use mathlib.Core.List.{List, _∷_, map}
 use Rattle.ledger.specs.Answers.{only}
-use Rattle.ledger.specs.Ledgers.{held}
+use Rattle.ledger.specs.Ledgers.{mostRows, held}
 use Rattle.ledger.specs.declared.Ledger.{Ledger}
 use Rattle.history.specs.Events.{Event, run, told}
 use Rattle.history.specs.Orders.{Exchanged}
@@ -36,7 +36,7 @@ report-of-a-history s h = rw (h, run-follows s h)
 pub rows-of-a-history : (s : List ℕ) → Faultless s → held (runOf s .ledger) ≡ rowsOf (told (startIn s) (historyOf s))
 rows-of-a-history s h =
     let started = trace-starts s h in
-    rw (run-follows s h, started .ledger) (rows-told-by-their-history (started .part) 64 (started .maximum) (historyOf s))
+    rw (run-follows s h, started .ledger) (rows-told-by-their-history (started .part) mostRows (started .maximum) (historyOf s))
 
 -- 6. Two traces that start alike, and whose events differ by exchanges that demand 3 allows, print the same report, byte for byte.
 pub exchanged-traces-report-alike : (s t : List ℕ) → Faultless s → Faultless t → startIn s ≡ startIn t → Exchanged (startIn s) (historyOf s) (historyOf t) → reportOf s ≡ reportOf t

@@ -2,6 +2,7 @@
 use Prim.Native.Nat.{ℕ}
 use mathlib.Core.Path.{_≡_}
 use mathlib.Core.List.{List, [], _∷_, _++_, headD, tail}
+use Rattle.ledger.specs.Ledgers.{mostRows}
 use Rattle.ledger.specs.Answers.{Said, only}
 use Rattle.ledger.specs.Steps.{startOf}
 use Rattle.ledger.specs.declared.Ledger.{Ledger}
@@ -49,8 +50,8 @@ startIn s = startBy (fieldsOf s)
 pub record Started (l : Ledger) : Type 0 where
   pub part : Part
   pub maximum : ℕ
-  pub accepted : startOf part 64 maximum .says ≡ only 8
-  pub ledger : l ≡ startOf part 64 maximum .next
+  pub accepted : startOf part mostRows maximum .says ≡ only 8
+  pub ledger : l ≡ startOf part mostRows maximum .next
 
 -- what happens to it by a field
 abbrev pub happens : FieldEvent → List Event
