@@ -8,12 +8,12 @@
 
 #include "moq.h"
 
-static uint64_t numbers[710];
+static uint64_t numbers[MOQ_LEDGER_NUMBERS];
 
 /* A control message, and what it is answered. */
 static void take(const char *name, const uint8_t *s, size_t length) {
     uint64_t info[2];
-    uint64_t answer = moq_ledger_take(s, length, numbers, 710, info, 2);
+    uint64_t answer = moq_ledger_take(s, length, numbers, MOQ_LEDGER_NUMBERS, info, 2);
     printf("%s: %llu\n", name, (unsigned long long)answer);
 }
 
@@ -23,18 +23,18 @@ int main(void) {
     const uint64_t run[] = {7, 65536, 0, 7, 65535, 2, 8, 1, 0}; /* alias, group, object */
     uint8_t answers[3];
 
-    printf("start: %llu\n", (unsigned long long)moq_ledger_start(0, 64, 10, numbers, 710));
+    printf("start: %llu\n", (unsigned long long)moq_ledger_start(0, MOQ_ROWS, 10, numbers, MOQ_LEDGER_NUMBERS));
     take("SUBSCRIBE", subscribe, sizeof subscribe);
     take("SUBSCRIBE_OK", subscribe_ok, sizeof subscribe_ok);
-    if (moq_ledger_arrivals(run, 9, numbers, 710, answers, 3) == 0)
+    if (moq_ledger_arrivals(run, 9, numbers, MOQ_LEDGER_NUMBERS, answers, 3) == 0)
         printf("arrivals: %d %d %d\n", answers[0], answers[1], answers[2]);
 
     for (uint64_t i = 0; i < numbers[5]; i++) { /* the rows in use */
-        const uint64_t *row = numbers + 6 + 11 * i;
+        const uint64_t *row = numbers + MOQ_OWN_NUMBERS + MOQ_ROW_NUMBERS * i;
         printf("ID %llu: group %llu, object %llu, %llu counted\n", (unsigned long long)row[0], (unsigned long long)row[8],
                (unsigned long long)row[9], (unsigned long long)row[10]);
     }
     numbers[5] = 65; /* more rows than there can be: no ledger any more */
-    printf("another arrival: %llu\n", (unsigned long long)moq_ledger_arrival(7, 70000, 0, numbers, 710));
+    printf("another arrival: %llu\n", (unsigned long long)moq_ledger_arrival(7, 70000, 0, numbers, MOQ_LEDGER_NUMBERS));
     return 0;
 }

@@ -9,7 +9,7 @@
 #include "moq.h"
 
 static uint8_t trace[1 << 20];
-static uint8_t text[16384];
+static uint8_t text[MOQ_LONGEST_REPORT];
 
 int main(void) {
     size_t length = fread(trace, 1, sizeof trace, stdin);

@@ -73,7 +73,8 @@ uint64_t moq_fetch_object_rewrite(const uint8_t *s, size_t s_len, uint8_t *out, 
 
    info[0]: the bytes written. A trace that is at fault has a text too, which says where. 7: info has no value, or out is too short. */
 
-/* The report. */
+/* The report, which has at most MOQ_LONGEST_REPORT bytes. */
+#define MOQ_LONGEST_REPORT 13464
 uint64_t moq_report(const uint8_t *trace, size_t trace_len, uint8_t *out, size_t out_len, uint64_t *info, size_t info_len);
 
 /* What each field was answered, a line for each. */
@@ -81,7 +82,8 @@ uint64_t moq_answers(const uint8_t *trace, size_t trace_len, uint8_t *out, size_
 
 /* ---- ledgers: the subscriptions of a session in one direction
 
-   A ledger is 710 numbers, which the caller holds and lends as `numbers`; what stands behind them stays. The first six:
+   A ledger is MOQ_LEDGER_NUMBERS numbers, which the caller holds and lends as `numbers`; what stands behind them stays. The first
+   MOQ_OWN_NUMBERS are its own:
 
      0  part: 0 for the subscriber's end, 1 for the publisher's
      1  session: 0 while it is open, or 1 to 7, the rule that closed it
@@ -90,7 +92,7 @@ uint64_t moq_answers(const uint8_t *trace, size_t trace_len, uint8_t *out, size_
      4  next: one more than the highest ID accepted, 0 for none
      5  used: how many rows are in use
 
-   Then 64 rows of eleven, those in use first:
+   Then MOQ_ROWS rows of MOQ_ROW_NUMBERS each, those in use first:
 
      0  Subscribe ID
      1  Track Alias
@@ -104,10 +106,10 @@ uint64_t moq_answers(const uint8_t *trace, size_t trace_len, uint8_t *out, size_
      9  its object
     10  count
 
-   Numbers that a range or a place doesn't have are 0. Numbers are a ledger's where all this is so: the capacity is 1 to 64, and no
-   more rows are in use; their IDs rise, and none is above the highest; no alias comes twice; the count is 0 exactly where there is no
-   place; a pending row counts nothing, and the range of an active one is known; all eleven numbers of a row that isn't in use are 0;
-   no count is above 4,294,967,295, and neither the highest ID nor any other number is above 4,611,686,018,427,387,903.
+   Numbers that a range or a place doesn't have are 0. Numbers are a ledger's where all this is so: the capacity is 1 to MOQ_ROWS,
+   and no more rows are in use; their IDs rise, and none is above the highest; no alias comes twice; the count is 0 exactly where there
+   is no place; a pending row counts nothing, and the range of an active one is known; all numbers of a row that isn't in use are 0; no
+   count is above 4,294,967,295, and neither the highest ID nor any other number is above 4,611,686,018,427,387,903.
 
      8  done
      9  the ledger doesn't keep such messages
@@ -125,8 +127,13 @@ uint64_t moq_answers(const uint8_t *trace, size_t trace_len, uint8_t *out, size_
    Where a call's list has no "or", the first of it that holds is answered. `numbers` are the next ledger's with 8, with 16, with 13 where
    the peer broke the rule, and with the 0 of a run; with any other number they stay as they are. */
 
-/* A new ledger with no row in use: 5, 15, 7, 8. 5: part is neither 0 nor 1. 15: rows isn't 1 to 64, or the maximum is above
-   4,611,686,018,427,387,903. 7: numbers has fewer than 710 values. What it held before isn't looked at. */
+#define MOQ_ROWS 64
+#define MOQ_OWN_NUMBERS 6
+#define MOQ_ROW_NUMBERS 11
+#define MOQ_LEDGER_NUMBERS (MOQ_OWN_NUMBERS + MOQ_ROW_NUMBERS * MOQ_ROWS)
+
+/* A new ledger with no row in use: 5, 15, 7, 8. 5: part is neither 0 nor 1. 15: rows isn't 1 to MOQ_ROWS, or the maximum is above
+   4,611,686,018,427,387,903. 7: numbers has fewer than MOQ_LEDGER_NUMBERS values. What it held before isn't looked at. */
 uint64_t moq_ledger_start(uint64_t part, uint64_t rows, uint64_t maximum, uint64_t *numbers, size_t numbers_len);
 
 /* The control message at the front of s is taken; its type tells who sent it. info[0]: the bytes used; info[1]: the rule with 13, else

@@ -6,7 +6,7 @@ use native.Mathlib.Omega.{arith}
 use lib.ListN.{length}
 use Rattle.integer.specs.Answer.{Leaves}
 use Rattle.shortest.proofs.Puts.{lent, given}
-use Rattle.text.specs.Lines.{lineOf, placed, itemsOf, putOf, saying}
+use Rattle.text.specs.Lines.{lineOf, longestLine, placed, itemsOf, putOf, saying}
 use Rattle.text.specs.declared.Line.{Line}
 use Rattle.text.specs.declared.Putting.{Putting}
 use Rattle.text.specs.declared.Putting.the-variants.{Done, TooShort}
@@ -43,11 +43,11 @@ module _ (text before : List ℕ) (at : ℕ) (r : Putting) {t : List ℕ} (k : a
   front-ends ends n e = omega (arith, ends n e, given-length text before at k w)
 
 -- the line of a trace's end has two items at most
-fault-bound : (stage : Stage) → length (lineOf (faultItems stage)) ≤ 204
+fault-bound : (stage : Stage) → length (lineOf (faultItems stage)) ≤ longestLine
 fault-bound Empty = omega (arith, line-bound (faultItems Empty))
 fault-bound Running = omega (arith, line-bound (faultItems Running))
 fault-bound (Faulty at) = omega (arith, line-bound (faultItems (Faulty at)))
 
-pub end-bound : (p : Progress) (left : ℕ) {line : Line} → line ≡ placed (endItems p left) → length (lineOf (itemsOf line)) ≤ 204
+pub end-bound : (p : Progress) (left : ℕ) {line : Line} → line ≡ placed (endItems p left) → length (lineOf (itemsOf line)) ≤ longestLine
 unfolding endItems
 end-bound p left e = rw (items-placed _ e) (fault-bound (endOf p left .stage))

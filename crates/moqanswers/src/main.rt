@@ -141,9 +141,9 @@ fn print_front(out: &mut [u8], at: usize, line: Line) -> Putting
     text::put(out, line)
 }
 
-// The line of the trace's end, if it has one: no line takes more than 204 bytes.
+// The line of the trace's end, if it has one.
 fn print_end(p: Progress, left: usize) {
-    let mut out = [0u8; 204];
+    let mut out = [0u8; text::LONGEST];
     let line = answers::tell_end(p, left);
     text::put(&mut out, line);
     let n = text::measure(line);

@@ -2,7 +2,9 @@
 // whatever the trace's length.
 ghost use Prim.Native.Nat.{_≤_};
 ghost use lib.ListN.{length};
-use libc::STDERR_FILENO;
+ghost use Rattle.shortest.specs.Putting.{Put};
+ghost use Rattle.run.specs.Progressing.{endOf};
+ghost use Rattle.report.specs.Report.{textOf, longestReport};
 use libc::STDIN_FILENO;
 use libc::STDOUT_FILENO;
 use run::Progress;
@@ -40,12 +42,20 @@ fn read_behind(buffer: &mut [u8], left: usize) -> isize
     libc::read(STDIN_FILENO, &mut buffer[left..])
 }
 
-fn print(p: Progress, left: usize) {
-    let mut out = [0u8; 16384];
-    let Putting::Done(n) = report::of_progress(p, left, &mut out) else {
-        io::write_all(STDERR_FILENO, b"moqreport: no room for the report\n");
-        return;
+// The report, where it has room.
+fn put(out: &mut [u8], p: Progress, left: usize) -> usize
+    requires { ⌜ longestReport ≤ length (now out) ⌝ }
+    ensures { λ r. ⌜ Put (textOf (endOf p left)) (now (out .entry)) r (now (out .exit)) ⌝ }
+{
+    let Putting::Done(n) = report::of_progress(p, left, out) else {
+        return 0;
     };
+    n
+}
+
+fn print(p: Progress, left: usize) {
+    let mut out = [0u8; report::LONGEST];
+    let n = put(&mut out, p, left);
     if !io::write_all(STDOUT_FILENO, &out[..n]) {
         os::fail(b"moqreport: standard output");
     }

@@ -8,17 +8,17 @@ use native.Mathlib.Omega.{arith}
 use lib.ListN.{length, getD, take, drop, length-take, length-append, drop-of-length-le}
 use lib.Seq.{drop-cons, getD-take}
 use Rattle.row.specs.declared.Row.{Row}
-use Rattle.ledger.specs.Ledgers.{held}
+use Rattle.ledger.specs.Ledgers.{mostRows, held}
 use Rattle.ledger.specs.declared.Ledger.{Ledger}
 use Rattle.ledger.specs.declared.Session.{Session}
 use Rattle.ledger.specs.declared.Session.the-variants.{Open, Closed}
 use Rattle.shortest.proofs.Going.{Next}
-use Rattle.text.specs.Lines.{lineOf, placed, itemsOf}
+use Rattle.text.specs.Lines.{lineOf, longestLine, placed, itemsOf}
 use Rattle.text.specs.declared.Line.{Line}
 use Rattle.text.proofs.Placing.{items-placed}
 use Rattle.text.proofs.Bounds.{line-bound}
 use Rattle.report.specs.Rows.{sessionLine, columnsLine, rowLine}
-use Rattle.report.specs.Report.{rowsText, ledgerText}
+use Rattle.report.specs.Report.{rowsText, ledgerText, longestReport}
 
 -- ---- how long lines are
 
@@ -26,7 +26,7 @@ session-bound : (session : Session) (rows : ℕ) → length (lineOf (sessionLine
 session-bound Open rows = omega (arith, line-bound (sessionLine Open rows))
 session-bound (Closed rule) rows = omega (arith, line-bound (sessionLine (Closed rule) rows))
 
-rows-bound : (rs : List Row) → length (rowsText rs) ≤ 204 * length rs
+rows-bound : (rs : List Row) → length (rowsText rs) ≤ longestLine * length rs
 unfolding rowsText
 rows-bound [] = le-refl 0
 rows-bound (r ∷ rs) = omega (arith, length-append (lineOf (rowLine r)) (rowsText rs), line-bound (rowLine r), rows-bound rs)
@@ -46,13 +46,13 @@ ledger-counted l f g i j k =
 
 -- ---- a ledger's rows
 
-module _ (l : Ledger) (places : length (l .rows) ≡ 64) where
+module _ (l : Ledger) (places : length (l .rows) ≡ mostRows) where
   -- as many as are used, and no more than there are places
-  held-count : length (held l) ≡ min (l .used) 64
+  held-count : length (held l) ≡ min (l .used) mostRows
   unfolding held
   held-count = length-take (l .used) (l .rows) ∙ rw places
 
-  module _ {n : ℕ} (e : n ≡ min (l .used) 64) (i : ℕ) where
+  module _ {n : ℕ} (e : n ≡ min (l .used) mostRows) (i : ℕ) where
     -- the text goes on with the i-th,
     pub row-next : (d : Row) → i < n → {line : Line} → line ≡ placed (rowLine (getD (l .rows) i d)) → Next (lineOf (itemsOf line)) (rowsText (drop (i + 1) (held l))) (rowsText (drop i (held l)))
     unfolding held rowsText
@@ -67,9 +67,9 @@ module _ (l : Ledger) (places : length (l .rows) ≡ 64) where
     rows-end h = rw (drop-of-length-le (held l) {i = i} (omega (arith, held-count)))
 
   -- no rows take more,
-  pub held-bound : length (rowsText (held l)) ≤ 13_056
+  pub held-bound : length (rowsText (held l)) ≤ longestLine * mostRows
   held-bound = omega (arith, rows-bound (held l), held-count)
 
   -- and no report is longer
-  pub ledger-bound : length (ledgerText l) ≤ 13_464
+  pub ledger-bound : length (ledgerText l) ≤ longestReport
   ledger-bound = omega (arith, ledger-length l, session-bound (l .session) (l .used), line-bound columnsLine, held-bound)

@@ -1,10 +1,10 @@
 -- THE REPORT, from the whole trace to the whole output.
-use Prim.Native.Nat.{ℕ}
+use Prim.Native.Nat.{ℕ, _+_, _*_}
 use mathlib.Core.List.{List, [], _∷_, _++_}
 use Rattle.row.specs.declared.Row.{Row}
-use Rattle.ledger.specs.Ledgers.{held}
+use Rattle.ledger.specs.Ledgers.{mostRows, held}
 use Rattle.ledger.specs.declared.Ledger.{Ledger}
-use Rattle.text.specs.Lines.{lineOf}
+use Rattle.text.specs.Lines.{lineOf, longestLine}
 use Rattle.run.specs.Progressing.{onFault, runOf}
 use Rattle.run.specs.declared.Progress.{Progress}
 use Rattle.report.specs.Rows.{sessionLine, columnsLine, rowLine, faultLine}
@@ -23,3 +23,7 @@ textOf p = onFault (p .stage) (λ at. lineOf (faultLine at)) (ledgerText (p .led
 
 unfoldable pub reportOf : List ℕ → List ℕ
 reportOf s = textOf (runOf s)
+
+-- no report is longer: a line for the session, one for the columns, and one for each row
+abbrev pub longestReport : ℕ
+longestReport = longestLine * (2 + mostRows)

@@ -2,6 +2,10 @@
 mod lines;
 mod writing;
 
+use ledger::MOST_ROWS;
 pub use lines::fault_line;
 pub use writing::of_progress;
 pub use writing::of_trace;
+
+// How many bytes a report takes at most: a line for the session, one for the columns, and one for each row.
+pub const LONGEST: usize = text::LONGEST * (2 + MOST_ROWS);

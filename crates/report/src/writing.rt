@@ -4,7 +4,7 @@ ghost use Prim.Native.Nat.{_≤_, min};
 ghost use lib.ListN.{length};
 ghost use Rattle.integer.specs.Answer.{Leaves};
 ghost use Rattle.shortest.specs.Putting.{Put};
-ghost use Rattle.ledger.specs.Ledgers.{held};
+ghost use Rattle.ledger.specs.Ledgers.{mostRows, held};
 ghost use Rattle.text.specs.Lines.{itemsOf, lineOf, putOf, saying};
 ghost use Rattle.run.specs.Progressing.{endOf};
 ghost use Rattle.report.specs.Report.{rowsText, ledgerText, textOf, reportOf};
@@ -13,16 +13,17 @@ use crate::lines::fault_line;
 use crate::lines::row_line;
 use crate::lines::session_line;
 use ledger::Ledger;
+use ledger::MOST_ROWS;
 use run::Progress;
 use run::Stage;
 use text::Line;
 use text::Putting;
 
 // How many rows there are: no more than there are places.
-fn sixty_four(used: usize) -> usize
-    ensures { λ r. ⌜ r ≡ min used 64 ⌝ }
+fn row_count(used: usize) -> usize
+    ensures { λ r. ⌜ r ≡ min used mostRows ⌝ }
 {
-    if used < 64 { used } else { 64 }
+    if used < MOST_ROWS { used } else { MOST_ROWS }
 }
 
 // ---- measuring
@@ -31,7 +32,7 @@ fn sixty_four(used: usize) -> usize
 fn measure_rows(l: Ledger) -> usize
     ensures { λ r. ⌜ r ≡ length (rowsText (held l)) ⌝ }
 {
-    let used = sixty_four(l.used);
+    let used = row_count(l.used);
     let mut sum: usize = 0;
     let mut i: usize = 0;
     while i < used {
@@ -72,7 +73,7 @@ fn put_rows(out: &mut [u8], l: Ledger) -> usize
     requires { ⌜ length (rowsText (held l)) ≤ length (now out) ⌝ }
     ensures { λ r. ⌜ Put (rowsText (held l)) (now (out .entry)) r (now (out .exit)) ⌝ }
 {
-    let used = sixty_four(l.used);
+    let used = row_count(l.used);
     let mut at: usize = 0;
     let mut i: usize = 0;
     while i < used {

@@ -14,7 +14,7 @@ use Rattle.types.specs.Letters.{letters}
 use Rattle.types.specs.Table.{Row, Listed, onListed, messages, rowIn, rowOf, nameOf}
 use Rattle.text.specs.Decimals.{decimalOf}
 use Rattle.text.specs.Words.{wordOf}
-use Rattle.text.specs.Lines.{itemOf, endedOf, isNone, lineOf, itemsOf}
+use Rattle.text.specs.Lines.{itemOf, endedOf, isNone, lineOf, longestLine, itemsOf}
 use Rattle.text.specs.declared.Word.{Word as Wording}
 use Rattle.text.specs.declared.Word.the-variants.{Open, Closed, Columns, Pending, Active, Nothing, TraceFaultAt, Start, Malformed, Arrival}
 use Rattle.text.specs.declared.Item.{Item}
@@ -85,5 +85,5 @@ line-bound (item ∷ rest) =
     omega (arith, length-append (endedOf item last) (lineOf rest), length-append (itemOf item) (pick last 10 32 ∷ []), item-bound item, line-bound rest)
 
 -- six items, then, at most
-pub six-bound : (line : Line) → length (line .at) ≡ 6 → length (lineOf (itemsOf line)) ≤ 204
+pub six-bound : (line : Line) → length (line .at) ≡ 6 → length (lineOf (itemsOf line)) ≤ longestLine
 six-bound line l = omega (arith, line-bound (itemsOf line), items-count line l)

@@ -38,6 +38,10 @@ unfoldable pub lineOf : List Item → List ℕ
 lineOf [] = []
 lineOf (item ∷ rest) = endedOf item (isNone rest) ++ lineOf rest
 
+-- no line is longer: six items of at most 33 letters, and a byte behind each
+abbrev pub longestLine : ℕ
+longestLine = 204
+
 -- ---- the items in their places
 
 abbrev pub slot : Slot → Item

@@ -13,6 +13,9 @@ pub use lines::of5;
 pub use lines::of6;
 pub use lines::put;
 
+// How many bytes a line takes at most.
+pub const LONGEST: usize = 204;
+
 // The words that the programs print.
 pub enum Word {
     Open,

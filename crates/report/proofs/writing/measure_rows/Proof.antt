@@ -25,26 +25,26 @@ loop-holds : tie.Need-loop-holds Inv-loop μ-loop
 loop-holds c = counted-start _
 
 mul-row : tie.Need-mul-row Inv-loop μ-loop
-mul-row c = omega (arith, c .before .before .sixty-four .ensures)
+mul-row c = omega (arith, c .before .before .row-count .ensures)
 
 element-copy-out-row : tie.Need-element-copy-out-row Inv-loop μ-loop
-element-copy-out-row c = omega (arith, c .before .before .sixty-four .ensures)
+element-copy-out-row c = omega (arith, c .before .before .row-count .ensures)
 
 add-sum : tie.Need-add-sum Inv-loop μ-loop
 add-sum c =
     let a = c .before .before .before .before .before .before in
-    omega (arith, counted-sum (c .before .before .before .before .loop .inv) (row-next _ (places a) (c .before .before .before .before .before .sixty-four .ensures) _ _ (c .before .before .before .loop-test .taken) (c .before .row-line .ensures)) (c .measure .ensures), held-bound (a .args .t1) (places a))
+    omega (arith, counted-sum (c .before .before .before .before .loop .inv) (row-next _ (places a) (c .before .before .before .before .before .row-count .ensures) _ _ (c .before .before .before .loop-test .taken) (c .before .row-line .ensures)) (c .measure .ensures), held-bound (a .args .t1) (places a))
 
 loop-again : tie.Need-loop-again Inv-loop μ-loop
 loop-again c =
     let a = c .before .before .before .before .before .before in
-    let next = row-next _ (places a) (c .before .before .before .before .before .sixty-four .ensures) _ _ (c .before .before .before .loop-test .taken) (c .before .row-line .ensures) in
+    let next = row-next _ (places a) (c .before .before .before .before .before .row-count .ensures) _ _ (c .before .before .before .loop-test .taken) (c .before .row-line .ensures) in
     counted-next (c .before .before .before .before .loop .inv) next (c .measure .ensures)
 
 returns : tie.Need-returns Inv-loop μ-loop
 returns c =
     let a = c .before .before .before in
-    counted-end (c .before .loop .inv) (rows-end _ (places a) (c .before .before .sixty-four .ensures) _ (c .loop-test .left))
+    counted-end (c .before .loop .inv) (rows-end _ (places a) (c .before .before .row-count .ensures) _ (c .loop-test .left))
 
 pub measure-rows-spec : {M : Type 1} → statement M
 measure-rows-spec =

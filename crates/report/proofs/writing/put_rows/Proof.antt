@@ -25,10 +25,10 @@ loop-holds : tie.Need-loop-holds Inv-loop μ-loop
 loop-holds c = going-start _ _
 
 mul-row : tie.Need-mul-row Inv-loop μ-loop
-mul-row c = omega (arith, c .before .before .sixty-four .ensures)
+mul-row c = omega (arith, c .before .before .row-count .ensures)
 
 element-copy-out-row : tie.Need-element-copy-out-row Inv-loop μ-loop
-element-copy-out-row c = omega (arith, c .before .before .sixty-four .ensures)
+element-copy-out-row c = omega (arith, c .before .before .row-count .ensures)
 
 starts : tie.Need-sub-put-line Inv-loop μ-loop
 starts c = going-within (c .before .before .loop .inv) (c .before .before .before .before .before .pre)
@@ -36,18 +36,18 @@ starts c = going-within (c .before .before .loop .inv) (c .before .before .befor
 asks : tie.Need-put-line-requires Inv-loop μ-loop
 asks c κs =
     let a = c .before .before .before .before .before .before .before in
-    next-fits (c .before .before .before .before .loop .inv) (a .pre) (row-next _ (places a) (c .before .before .before .before .before .sixty-four .ensures) _ _ (c .before .before .before .loop-test .taken) (c .row-line .ensures))
+    next-fits (c .before .before .before .before .loop .inv) (a .pre) (row-next _ (places a) (c .before .before .before .before .before .row-count .ensures) _ _ (c .before .before .before .loop-test .taken) (c .row-line .ensures))
 
 add-at : tie.Need-add-at Inv-loop μ-loop
 add-at c =
     let a = c .before .before .before .before .before .before .before .before .before .before in
-    let next = row-next _ (places a) (c .before .before .before .before .before .before .before .before .sixty-four .ensures) _ _ (c .before .before .before .before .before .before .loop-test .taken) (c .before .before .before .row-line .ensures) in
+    let next = row-next _ (places a) (c .before .before .before .before .before .before .before .before .row-count .ensures) _ _ (c .before .before .before .before .before .before .loop-test .taken) (c .before .before .before .row-line .ensures) in
     omega (arith, going-sum (c .before .before .before .before .before .before .before .loop .inv) (a .pre) next (c .before .before .put-line .ensures))
 
 loop-again : tie.Need-loop-again Inv-loop μ-loop
 loop-again c =
     let a = c .before .before .before .before .before .before .before .before .before .before in
-    let next = row-next _ (places a) (c .before .before .before .before .before .before .before .before .sixty-four .ensures) _ _ (c .before .before .before .before .before .before .loop-test .taken) (c .before .before .before .row-line .ensures) in
+    let next = row-next _ (places a) (c .before .before .before .before .before .before .before .before .row-count .ensures) _ _ (c .before .before .before .before .before .before .loop-test .taken) (c .before .before .before .row-line .ensures) in
     going-next (c .before .before .before .before .before .before .before .loop .inv) (a .pre) next (c .before .before .put-line .ensures)
 
 same-length : tie.Need-same-length Inv-loop μ-loop
@@ -56,7 +56,7 @@ same-length c = going-length (c .before .loop .inv) (c .before .before .before .
 returns : tie.Need-returns Inv-loop μ-loop
 returns c =
     let a = c .before .before .before .before in
-    going-end (c .before .loop .inv) (a .pre) (rows-end _ (places a) (c .before .before .sixty-four .ensures) _ (c .loop-test .left))
+    going-end (c .before .loop .inv) (a .pre) (rows-end _ (places a) (c .before .before .row-count .ensures) _ (c .loop-test .left))
 
 pub put-rows-spec : {M : Type 1} → statement M
 put-rows-spec =
