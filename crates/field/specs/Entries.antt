@@ -14,6 +14,17 @@ use Rattle.field.specs.declared.Entries.{Entries}
 use Rattle.field.specs.declared.Kind.{Kind}
 use Rattle.field.specs.declared.Kind.the-variants.{Namespace, Parameters, Versions}
 
+-- "Sizes (6, never 5): 1 to 32 namespace fields; namespace field bytes plus name bytes at most 4,096; at most 64
+-- parameters."
+abbrev pub mostFields : ℕ
+mostFields = 32
+
+abbrev pub longestTrack : ℕ
+longestTrack = 4_096
+
+abbrev pub mostParameters : ℕ
+mostParameters = 64
+
 -- how many bytes a part has
 abbrev pub size : Span → ℕ
 size p = p .end - p .start
@@ -52,10 +63,10 @@ hasBytes Namespace = true
 hasBytes Parameters = true
 hasBytes Versions = false
 
--- "namespace field bytes plus name bytes at most 4,096": how many are left when so many are held. Where sizes are not judged, and
--- for other entries, a length may be anything
+-- how many of a track's bytes are left when so many are held. Where sizes are not judged, and for other entries, a
+-- length may be anything
 unfoldable pub mostOf : Bool → Kind → ℕ → ℕ
-mostOf true Namespace held = 4_096 - held
+mostOf true Namespace held = longestTrack - held
 mostOf true Parameters held = greatest
 mostOf true Versions held = greatest
 mostOf false kind held = greatest
@@ -66,10 +77,10 @@ entriesAt sized kind zero held s at = whole held at
 entriesAt sized kind (suc count) held s at =
     andThen (entryAt kind (mostOf sized kind held) s at) λ e end. entriesAt sized kind count (held + size (e .bytes)) s end
 
--- "1 to 32 namespace fields", "at most 64 parameters"; no size for versions
+-- how many entries there may be; no size for versions
 unfoldable pub few : Kind → ℕ → Bool
-few Namespace count = both (leb 1 count) (leb count 32)
-few Parameters count = leb count 64
+few Namespace count = both (leb 1 count) (leb count mostFields)
+few Parameters count = leb count mostParameters
 few Versions count = true
 
 -- a count and as many entries, and how many bytes they hold

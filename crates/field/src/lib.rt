@@ -18,6 +18,13 @@ pub use rules::is_givable;
 pub use walking::entry_at;
 pub use walking::walk;
 
+// Document 01's sizes: the fields of a namespace; its bytes and the name's together; the parameters.
+pub const MOST_FIELDS: u64 = 32;
+
+pub const LONGEST_TRACK: usize = 4_096;
+
+pub const MOST_PARAMETERS: u64 = 64;
+
 // A part of the caller's bytes: from start up to end.
 pub struct Span {
     pub start: usize,

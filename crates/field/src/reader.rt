@@ -11,6 +11,8 @@ use crate::EntryRead;
 use crate::Fault;
 use crate::Kind;
 use crate::ListRead;
+use crate::MOST_FIELDS;
+use crate::MOST_PARAMETERS;
 use crate::NumberRead;
 use crate::Track;
 use crate::TrackRead;
@@ -58,9 +60,9 @@ pub fn is_few(kind: Kind, count: u64) -> bool
             if count < 1 {
                 return false;
             }
-            count <= 32
+            count <= MOST_FIELDS
         }
-        Kind::Parameters => count <= 64,
+        Kind::Parameters => count <= MOST_PARAMETERS,
         Kind::Versions => true,
     }
 }

@@ -9,6 +9,7 @@ use crate::Entry;
 use crate::EntryRead;
 use crate::Fault;
 use crate::Kind;
+use crate::LONGEST_TRACK;
 use crate::Span;
 use crate::Sums;
 use crate::Walked;
@@ -92,10 +93,10 @@ pub fn most(sized: bool, kind: Kind, held: usize) -> u64
     }
     match kind {
         Kind::Namespace => {
-            if held > 4096 {
+            if held > LONGEST_TRACK {
                 return 0;
             }
-            (4096 - held) as u64
+            (LONGEST_TRACK - held) as u64
         }
         Kind::Parameters => integer::GREATEST,
         Kind::Versions => integer::GREATEST,

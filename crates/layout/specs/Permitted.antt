@@ -7,7 +7,7 @@ use lib.Dec.{leb, eqb}
 use Rattle.integer.specs.Answer.{pick}
 use Rattle.integer.specs.Integer.{greatest}
 use Rattle.field.specs.Outcome.{both}
-use Rattle.field.specs.Entries.{few}
+use Rattle.field.specs.Entries.{longestTrack, few}
 use Rattle.field.specs.Fields.{Form, integer, byte, bytes, list, track}
 use Rattle.field.specs.Value.{Value, number, octet, text, items, fullName, Item, total}
 use Rattle.field.specs.declared.Kind.{Kind}
@@ -26,7 +26,7 @@ goodItems kind (i ∷ is) = both (goodItem kind i) (goodItems kind is)
 
 -- the sizes: how many entries, and for a namespace how many bytes, with `also` of a name
 unfoldable pub within : Kind → ℕ → Bool
-within Namespace held = leb held 4_096
+within Namespace held = leb held longestTrack
 within Parameters held = true
 within Versions held = true
 

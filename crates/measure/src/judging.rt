@@ -59,10 +59,10 @@ fn is_within(kind: Kind, held: usize, also: usize) -> bool
 {
     match kind {
         Kind::Namespace => {
-            if held > 4096 {
+            if held > field::LONGEST_TRACK {
                 return false;
             }
-            also <= 4096 - held
+            also <= field::LONGEST_TRACK - held
         }
         Kind::Parameters => true,
         Kind::Versions => true,
