@@ -5,9 +5,10 @@ use Rattle.field.specs.declared.Arrival.{Arrival}
 use Rattle.ledger.specs.Answers.{Said}
 use Rattle.ledger.specs.Steps.{arrivalOf}
 use Rattle.ledger.specs.declared.Ledger.{Ledger}
-use Rattle.history.specs.Events.{Event, arrival, comes, run, Told, told}
+use Rattle.view.specs.Events.{Event, arrival, comes}
+use Rattle.history.specs.Events.{run, Told, told}
 use Rattle.history.specs.Orders.{Reordered, EitherOrder, Exchanged}
-use Rattle.history.proofs.Exchanging.{arrivals-either, messages-either}
+use Rattle.history.proofs.Neighbours.{arrivals-either, messages-either}
 
 -- ---- an exchange of two neighbours
 

@@ -6,23 +6,32 @@ use mathlib.Core.List.{List, [], _∷_, _++_}
 use native.Mathlib.Omega.{arith}
 use lib.Dec.{eqb}
 use Rattle.field.specs.Outcome.{both}
-use Rattle.ledger.specs.Answers.{Came, breaks, ruleNumber}
-use Rattle.ledger.specs.Ledgers.{isOpen}
+use Rattle.ledger.specs.Answers.{Came, ruleNumber}
+use Rattle.ledger.specs.Ledgers.{isLedger, isOpen}
 use Rattle.ledger.specs.declared.Ledger.{Ledger}
 use Rattle.ledger.specs.declared.Part.{Part}
 use Rattle.ledger.specs.declared.Rule.{Rule}
 use Rattle.ledger.specs.declared.Session.{Session}
 use Rattle.ledger.specs.declared.Session.the-variants.{Open, Closed}
-use Rattle.history.specs.Events.{Event, comes, run, Told, told}
+use Rattle.view.specs.Views.{View, Seen, viewOf, seenOf}
+use Rattle.view.specs.Steps.{broken, replied}
+use Rattle.view.proofs.ArraysFollow.{arrays-follow, no-ledger, view-once}
+use Rattle.view.proofs.Guards.{closed-stays}
+use Rattle.view.specs.Events.{Event, comes}
+use Rattle.history.specs.Events.{run, Told, told}
 use Rattle.history.specs.Closings.{isPeers, anyBroken, firstBroken, kept}
-use Rattle.history.proofs.Gate.{comes-by}
-use Rattle.history.proofs.Moves.{Moves, stayed, broken, counted, turned, taken, raised, moves, quiet}
+use Rattle.history.proofs.Keeping.{comes-keeps}
+use Rattle.history.proofs.Moves.{Moves, stayed, broke, counted, turned, taken, raised, ledger-moves, quiet}
 
 -- ---- a closed session
 
 pub closed-next : (l : Ledger) (e : Event) → isOpen (l .session) ≡ false → comes l e .next ≡ l
-closed-next l e shut =
-    comes-by l e (λ (c : Came). c .next ≡ l) (λ p. absurd (let h = p .opened in let z : _≡_ {A = ℕ} 0 1 = cc in omega arith)) (λ _ _. refl)
+closed-next l e shut = go (isLedger l) refl
+  where
+    go : (b : Bool) → isLedger l ≡ b → comes l e .next ≡ l
+    go true w =
+        view-once (comes l e .next) l (comes-keeps l e w) w (ap (λ (s : Seen). s .next) (arrays-follow l e w) ∙ closed-stays (viewOf l) e shut)
+    go false w = ap (λ (c : Came). c .next) (no-ledger l e w)
 
 closed-run : (l : Ledger) (es : List Event) → isOpen (l .session) ≡ false → run l es ≡ l
 unfolding run
@@ -41,26 +50,25 @@ is-open (Closed rule) e = absurd (let z : _≡_ {A = ℕ} 0 1 = cc in omega arit
 -- ---- one event
 
 -- whether what is said of an event of the peer's (or of an own one) closes the session
-abbrev shuts : Came → Bool → Bool
+abbrev shuts : Seen → Bool → Bool
 shuts c peers = both (eqb (c .says .number) 13) peers
 
 -- what an event leaves of the session: all of it, or the rule that was broken
-data Leaves (l : Ledger) (peers : Bool) (c : Came) : Type 0 where
-  stays : shuts c peers ≡ false → c .next .session ≡ l .session → c .next .part ≡ l .part → Leaves l peers c
-  closes : shuts c peers ≡ true → (rule : Rule) → c .says .rule ≡ ruleNumber rule → c .next .session ≡ Closed rule → Leaves l peers c
+data Leaves (v : View) (peers : Bool) (c : Seen) : Type 0 where
+  stays : shuts c peers ≡ false → c .next .standing .session ≡ v .standing .session → c .next .standing .part ≡ v .standing .part → Leaves v peers c
+  closes : shuts c peers ≡ true → (rule : Rule) → c .says .rule ≡ ruleNumber rule → c .next .standing .session ≡ Closed rule → Leaves v peers c
 
-module _ (l : Ledger) where
-  breaking : (own : Bool) (rule : Rule) → Leaves l (not own) (breaks l own rule)
-  unfolding breaks
+module _ (v : View) where
+  breaking : (own : Bool) (rule : Rule) → Leaves v (not own) (replied v own (broken rule))
   breaking true rule = stays refl refl refl
   breaking false rule = closes refl rule refl refl
 
-  leaves : {e : Event} {c : Came} → Moves l e c → Leaves l (isPeers (l .part) e) c
+  leaves : {e : Event} {c : Seen} → Moves v e c → Leaves v (isPeers (v .standing .part) e) c
   leaves (stayed q) = stays (rw (quiet q .1)) refl refl
-  leaves (broken own rule p) = rw p (breaking own rule)
-  leaves (counted w b) = stays refl (b .session) (b .part)
-  leaves (turned id f w is b) = stays refl (b .session) (b .part)
-  leaves (taken fresh b) = stays refl (b .session) (b .part)
+  leaves (broke own rule p) = rw p (breaking own rule)
+  leaves counted = stays refl refl refl
+  leaves (turned id f is) = stays refl refl refl
+  leaves taken = stays refl refl refl
   leaves (raised more) = stays refl refl refl
 
 -- ---- a history
@@ -73,12 +81,12 @@ record Stands (s : Session) (part : Part) (ts : List Told) : Type 0 where
 stands : (l : Ledger) (es : List Event) → l .session ≡ Open → Stands (run l es .session) (l .part) (told l es)
 unfolding run told anyBroken firstBroken
 stands l [] o = record { opened = ap isOpen o; rule = ap kept o }
-stands l (e ∷ es) o = go (leaves l (moves l e)) (stands (comes l e .next) es)
+stands l (e ∷ es) o = go (leaves (viewOf l) (ledger-moves l e)) (stands (comes l e .next) es)
   where
     after : Ledger
     after = comes l e .next
 
-    go : Leaves l (isPeers (l .part) e) (comes l e) → (after .session ≡ Open → Stands (run after es .session) (after .part) (told after es)) → Stands (run l (e ∷ es) .session) (l .part) (told l (e ∷ es))
+    go : Leaves (viewOf l) (isPeers (l .part) e) (seenOf (comes l e)) → (after .session ≡ Open → Stands (run after es .session) (after .part) (told after es)) → Stands (run l (e ∷ es) .session) (l .part) (told l (e ∷ es))
     go (stays s session part) ih =
         let h = subst (λ (p : Part). Stands (run after es .session) p (told after es)) part (ih (session ∙ o)) in
         record { opened = rw s (h .opened); rule = rw s (h .rule) }

@@ -12,20 +12,20 @@ use Rattle.message.specs.declared.Message.the-variants.{Subscription, Fetch, An
 use Rattle.row.specs.Rows.{isRow}
 use Rattle.row.specs.declared.Row.{Row}
 use Rattle.ledger.specs.Ledgers.{held, hasAlias, distinct, rising}
-use Rattle.ledger.specs.Answers.{Came, breaks}
-use Rattle.ledger.specs.Steps.{idOf, aliasOf, withMaximum}
+use Rattle.ledger.specs.Steps.{idOf, aliasOf}
 use Rattle.ledger.specs.declared.Ledger.{Ledger}
 use Rattle.ledger.specs.declared.Rule.{Rule}
 use Rattle.ledger.proofs.Facts.{parts}
-use Rattle.ledger.proofs.Keyed.{editBy}
-use Rattle.ledger.proofs.Turning.{Change, now, put, turn, has-not}
-use Rattle.ledger.proofs.Asking.{newRow}
-use Rattle.ledger.proofs.Replies.{Becomes, Quiet, counting}
+use Rattle.view.specs.Keys.{Change, now, put, turn}
+use Rattle.view.specs.Views.{View, Seen, viewOf}
+use Rattle.view.specs.Events.{Event, message, malformed, arrival, comes}
+use Rattle.view.specs.Steps.{broken, replied, newRow}
+use Rattle.view.proofs.ArraysFollow.{seen-by}
 use Rattle.history.specs.Lists.{Each}
-use Rattle.history.specs.Events.{Event, message, malformed, arrival}
 use Rattle.history.specs.Deeds.{Deed, nothing, deedIn}
 use Rattle.history.specs.Ledgers.{nextBy, maximumBy}
-use Rattle.history.proofs.Moves.{Turns, opens, frees, Moves, stayed, broken, turned, taken, raised, quiet}
+use Rattle.history.proofs.Aliases.{has-not}
+use Rattle.history.proofs.Moves.{Quiet, not-a-ledger, quiet, withRows, counting, Turns, opens, frees, Moves, stayed, broke, turned, taken, raised, moves}
 use Rattle.history.proofs.Telling.{made, every, new}
 
 -- ---- no two rows have one number
@@ -70,8 +70,8 @@ id-lone low next (r ∷ rs) e =
     (id-others (r .id) (r .id + 1) next rs (omega arith) more, id-lone (r .id + 1) next rs more)
 
 -- so to turn the first row that has a number is to turn each that has it
-module _ (key : Row → ℕ) (n : ℕ) (f : Row → Change) where
-  abbrev at : Row → Change
+module _ (key : Row → ℕ) (n : ℕ) (f : Row → Change Row) where
+  abbrev at : Row → Change Row
   at r = pick (eqb (key r) n) (f r) (now r)
 
   every-other : (rs : List Row) → Others key n rs → every at rs ≡ rs
@@ -80,7 +80,7 @@ module _ (key : Row → ℕ) (n : ℕ) (f : Row → Change) where
   every-other (r ∷ rs) h = rw (h .0) (ap (λ (xs : List Row). r ∷ xs) (every-other rs (h .1)))
 
   turn-every : (rs : List Row) → Lone key rs → turn key n f rs ≡ every at rs
-  unfolding editBy every
+  unfolding turn every
   turn-every [] h = refl
   turn-every (r ∷ rs) h = go (eqb (key r) n) refl (turn-every rs (h .1))
     where
@@ -97,12 +97,12 @@ every-now (r ∷ rs) = ap (λ (xs : List Row). r ∷ xs) (every-now rs)
 -- ---- one event
 
 -- every part of the ledger but the session
-pub record Did (l : Ledger) (d : Deed) (after : Ledger) : Type 0 where
-  pub part : after .part ≡ l .part
-  pub capacity : after .capacity ≡ l .capacity
-  pub rows : held after ≡ every (made d) (held l) ++ new d
-  pub next : after .next ≡ nextBy (l .next) d
-  pub maximum : after .maximum ≡ maximumBy (l .maximum) d
+pub record Did (v : View) (d : Deed) (after : View) : Type 0 where
+  pub part : after .standing .part ≡ v .standing .part
+  pub capacity : after .standing .capacity ≡ v .standing .capacity
+  pub rows : after .rows ≡ every (made d) (v .rows) ++ new d
+  pub next : after .standing .next ≡ nextBy (v .standing .next) d
+  pub maximum : after .standing .maximum ≡ maximumBy (v .standing .maximum) d
 
 -- what changes nothing, and what breaks a rule, does nothing
 quiet-deed : {n : ℕ} → Quiet n → (e : Event) → deedIn e n ≡ nothing
@@ -121,48 +121,54 @@ broken-deed (message (Session m)) = refl
 broken-deed malformed = refl
 broken-deed (arrival a) = refl
 
-module _ (l : Ledger) where
-  rows-stay : held l ≡ every now (held l) ++ []
-  rows-stay = sym (append-nil (every now (held l)) ∙ every-now (held l))
+module _ (v : View) where
+  rows-stay : v .rows ≡ every now (v .rows) ++ []
+  rows-stay = sym (append-nil (every now (v .rows)) ∙ every-now (v .rows))
 
-  did-nothing : Did l nothing l
+  did-nothing : Did v nothing v
   did-nothing = record { part = refl; capacity = refl; rows = rows-stay; next = refl; maximum = refl }
 
-  did-broken : (own : Bool) (rule : Rule) → Did l nothing (breaks l own rule .next)
-  unfolding breaks held
+  did-broken : (own : Bool) (rule : Rule) → Did v nothing (replied v own (broken rule) .next)
   did-broken true rule = did-nothing
   did-broken false rule = record { part = refl; capacity = refl; rows = rows-stay; next = refl; maximum = refl }
 
-  did-raised : (id : ℕ) → Did l (Deed.raised id) (withMaximum l id)
-  unfolding held
-  did-raised id = record { part = refl; capacity = refl; rows = rows-stay; next = refl; maximum = refl }
-
-  -- the rows are others
-  did-rows : {d : Deed} {above : ℕ} {hs : List Row} {after : Ledger} → Becomes l above hs after → hs ≡ every (made d) (held l) ++ new d → above ≡ nextBy (l .next) d → l .maximum ≡ maximumBy (l .maximum) d → Did l d after
-  did-rows b rows next maximum =
-      record {
-        part = b .part;
-        capacity = b .capacity;
-        rows = b .rows ∙ rows;
-        next = b .next ∙ next;
-        maximum = b .maximum ∙ maximum;
-      }
-
   -- one row is turned
-  turned-rows : (key : Row → ℕ) (n : ℕ) (f : Row → Change) → Lone key (held l) → turn key n f (held l) ≡ every (at key n f) (held l) ++ []
-  turned-rows key n f lone = turn-every key n f (held l) lone ∙ sym (append-nil (every (at key n f) (held l)))
+  turned-rows : (key : Row → ℕ) (n : ℕ) (f : Row → Change Row) → Lone key (v .rows) → turn key n f (v .rows) ≡ every (at key n f) (v .rows) ++ []
+  turned-rows key n f lone = turn-every key n f (v .rows) lone ∙ sym (append-nil (every (at key n f) (v .rows)))
 
-  did-turned : {d : Deed} {id : ℕ} {f : Row → Change} {after : Ledger} → Lone idOf (held l) → Turns d id f → Becomes l (l .next) (turn idOf id f (held l)) after → Did l d after
-  did-turned {id = id} {f = f} lone opens b = did-rows b (turned-rows idOf id f lone) refl refl
-  did-turned {id = id} {f = f} lone frees b = did-rows b (turned-rows idOf id f lone) refl refl
+  did-turned : {d : Deed} {id : ℕ} {f : Row → Change Row} → Lone idOf (v .rows) → Turns d id f → Did v d (withRows v (turn idOf id f (v .rows)))
+  did-turned {id = id} {f = f} lone opens =
+      record { part = refl; capacity = refl; rows = turned-rows idOf id f lone; next = refl; maximum = refl }
+  did-turned {id = id} {f = f} lone frees =
+      record { part = refl; capacity = refl; rows = turned-rows idOf id f lone; next = refl; maximum = refl }
 
-  pub did : {e : Event} {c : Came} → Moves l e c → Did l (deedIn e (c .says .number)) (c .next)
-  unfolding breaks
-  did (stayed {e} q) = rw (quiet-deed q e) did-nothing
-  did (broken {e} own rule p) = rw (broken-deed e) (did-broken own rule)
-  did (Moves.counted {a} w b) =
-      did-rows b (turned-rows aliasOf (a .alias) (counting (a .place)) (alias-lone (held l) (parts l w .apart))) refl refl
-  did (turned id f w is b) = did-turned (id-lone 0 (l .next) (held l) (parts l w .rises)) is b
-  did (taken {m} fresh b) =
-      did-rows b (ap (λ (rs : List Row). rs ++ (newRow m ∷ [])) (sym (every-now (held l)))) refl refl
-  did (raised {id} more) = did-raised id
+  did-moves : {e : Event} {c : Seen} → Lone aliasOf (v .rows) → Lone idOf (v .rows) → Moves v e c → Did v (deedIn e (c .says .number)) (c .next)
+  did-moves aliases ids (stayed {e} q) = rw (quiet-deed q e) did-nothing
+  did-moves aliases ids (broke {e} own rule p) = rw (broken-deed e) (did-broken own rule)
+  did-moves aliases ids (Moves.counted {a}) =
+      record {
+        part = refl;
+        capacity = refl;
+        rows = turned-rows aliasOf (a .alias) (counting (a .place)) aliases;
+        next = refl;
+        maximum = refl;
+      }
+  did-moves aliases ids (turned id f is) = did-turned ids is
+  did-moves aliases ids (taken {m}) =
+      record {
+        part = refl;
+        capacity = refl;
+        rows = ap (λ (rs : List Row). rs ++ (newRow m ∷ [])) (sym (every-now (v .rows)));
+        next = refl;
+        maximum = refl;
+      }
+  did-moves aliases ids (raised {id} more) =
+      record { part = refl; capacity = refl; rows = rows-stay; next = refl; maximum = refl }
+
+pub did : (l : Ledger) (e : Event) → Did (viewOf l) (deedIn e (comes l e .says .number)) (viewOf (comes l e .next))
+did l e =
+    seen-by l e (λ c. Did (viewOf l) (deedIn e (c .says .number)) (c .next))
+    (λ w.
+    let is = parts l w in
+    did-moves (viewOf l) (alias-lone (held l) (is .apart)) (id-lone 0 (l .next) (held l) (is .rises)) (moves (viewOf l) e))
+    (rw (quiet-deed not-a-ledger e) (did-nothing (viewOf l)))

@@ -1,12 +1,9 @@
-pub mod Gate
 pub mod Keeping
+pub mod Neighbours
+pub mod AnyOrder
+pub mod Aliases
 pub mod Moves
 pub mod Closing
-pub mod Idle
-pub mod Acting
-pub mod Touching
-pub mod Exchanging
-pub mod AnyOrder
 pub mod Telling
 pub mod Doing
 pub mod Whole

@@ -1,136 +1,57 @@
--- What an event comes to, one case for each way that a ledger goes on. Assumes nothing.
-use Prim.Native.Nat.{ℕ, _+_, _<_}
-use mathlib.Core.Path.{_≡_, refl, subst}
-use mathlib.Core.Bool.{Bool, true, false, not}
-use mathlib.Core.List.{[], _∷_, _++_}
+-- What an event comes to, one case for each way that a view goes on. Assumes nothing.
+use Prim.Native.Nat.{ℕ, _<_}
+use mathlib.Core.Path.{_≡_, refl, sym, ap}
+use mathlib.Core.Bool.{Bool, false, not}
+use mathlib.Core.List.{List, [], _∷_, _++_}
 use native.Mathlib.Omega.{arith}
-use lib.Dec.{eqb, leb}
+use borrow.Author.Tests.{leb-false}
+use lib.Dec.{eqb, leb, ltb}
+use lib.ListN.{length}
 use Rattle.integer.proofs.Cases.{pick-by}
 use Rattle.integer.specs.Answer.{pick}
 use Rattle.field.specs.declared.Arrival.{Arrival}
+use Rattle.field.specs.declared.Place.{Place}
 use Rattle.subscription.specs.declared.Content.{Content}
 use Rattle.subscription.specs.declared.Subscribe.{Subscribe}
-use Rattle.subscription.specs.declared.SubscribeOk.{SubscribeOk}
 use Rattle.subscription.specs.declared.SubscriptionMessage.{SubscriptionMessage}
 use Rattle.subscription.specs.declared.SubscriptionMessage.the-variants.{SubscribeUpdate as ASubscribeUpdate, Subscribe as ASubscribe, SubscribeOk as ASubscribeOk, SubscribeError as ASubscribeError, Unsubscribe as AUnsubscribe, SubscribeDone as ASubscribeDone, MaxSubscribeId as AMaxSubscribeId, SubscribesBlocked as ASubscribesBlocked}
 use Rattle.message.specs.declared.Message.the-variants.{Subscription, Fetch, Announce, Session}
 use Rattle.row.specs.Ranges.{settledOf}
-use Rattle.row.specs.Rows.{activeRow, mayEnd}
+use Rattle.row.specs.Rows.{AtRow, countedRow, activeRow, mayEnd}
 use Rattle.row.specs.declared.Row.{Row}
-use Rattle.row.specs.declared.State.{State}
-use Rattle.row.specs.declared.State.the-variants.{Pending, Active}
 use Rattle.row.specs.declared.Ending.{Ending}
 use Rattle.row.specs.declared.Ending.the-variants.{SubscribeError as Erring, SubscribeDone as Ended, Unsubscribe as Leaving}
-use Rattle.ledger.specs.Ledgers.{held, hasAlias, isLedger}
-use Rattle.ledger.specs.Answers.{Came, only, same, done, isOwn, breaks}
-use Rattle.ledger.specs.Steps.{idOf, aliasOf, withMaximum, subscriptionStep}
+use Rattle.row.proofs.Keeping.{arrive-by, open-by}
+use Rattle.ledger.specs.Ledgers.{hasAlias, isOpen}
+use Rattle.ledger.specs.Answers.{only, isOwn}
+use Rattle.ledger.specs.Steps.{idOf, aliasOf}
 use Rattle.ledger.specs.declared.Ledger.{Ledger}
-use Rattle.ledger.specs.declared.Part.the-variants.{Publisher}
+use Rattle.ledger.specs.declared.Part.{Part}
+use Rattle.ledger.specs.declared.Part.the-variants.{Subscriber, Publisher}
 use Rattle.ledger.specs.declared.Rule.{Rule}
-use Rattle.ledger.specs.declared.Rule.the-variants.{R1, R5, R6, R7}
-use Rattle.ledger.proofs.Facts.{parts}
-use Rattle.ledger.proofs.Turning.{Looked, none, one, look, Change, gone, now, turn, turn-found}
-use Rattle.ledger.proofs.Replies.{Becomes, Quiet, forbidden, not-kept, closed, full, stale, not-a-ledger, outside, no-row, pending, Reply, stays, broke, turns, opening, okReply, endReply, Counting, Still, counting, Does, stayed as stayedBy, broken as brokenBy, turned as turnedBy, arrival-does, ok-does, end-does}
-use Rattle.ledger.proofs.Asking.{newRow, Asked, asked, Raised, raises}
-use Rattle.history.specs.Events.{Event, message, malformed, arrival, comes}
+use Rattle.ledger.specs.declared.Rule.the-variants.{R1, R2, R3, R4, R5, R6, R7}
+use Rattle.view.specs.Keys.{Looked, none, one, look, found, Change, gone, now, turn}
+use Rattle.view.specs.Views.{View, Seen, viewOf, seenOf}
+use Rattle.view.specs.Events.{Event, message, malformed, arrival, comes, isSound}
+use Rattle.view.specs.Steps.{Reply, answer, broken, saidBy, closing, replied, unchanged, newRow, withHighest, subscribeSeen, RowStep, named, noRow, okAt, endAt, byId, withMaximum, maximumSeen, arriveAt, subscriptionSeen, eventSeen, viewStep}
+use Rattle.view.proofs.Turns.{turn-found, turn-same}
+use Rattle.view.proofs.ArraysFollow.{seen-by}
 use Rattle.history.specs.Closings.{isPeers}
 use Rattle.history.specs.Deeds.{Deed, opened, ended, deedBy}
-use Rattle.history.proofs.Gate.{quieted, stepOf, comes-by}
 
--- what a deed makes of the row of an ID
-pub data Turns : Deed → ℕ → (Row → Change) → Type 0 where
-  opens : {id : ℕ} {content : Content} → Turns (opened id content) id (λ r. now (activeRow r (settledOf (r .range) content)))
-  frees : {id : ℕ} → Turns (ended id) id (λ _. gone)
+-- the answers that leave the ledger as it was, 13 apart
+pub data Quiet : ℕ → Type 0 where
+  forbidden : Quiet 5
+  not-kept : Quiet 9
+  closed : Quiet 10
+  full : Quiet 11
+  stale : Quiet 12
+  not-a-ledger : Quiet 14
+  outside : Quiet 17
+  no-row : Quiet 18
+  pending : Quiet 19
 
-pub data Moves (l : Ledger) : Event → Came → Type 0 where
-  -- it changes nothing
-  stayed : {e : Event} {n : ℕ} → Quiet n → Moves l e (same l n)
-  -- it breaks a rule: an own message, or the peer's
-  broken : {e : Event} (own : Bool) (rule : Rule) → isPeers (l .part) e ≡ not own → Moves l e (breaks l own rule)
-  -- an arrival is counted
-  counted : {a : Arrival} {after : Ledger} → isLedger l ≡ true → Becomes l (l .next) (turn aliasOf (a .alias) (counting (a .place)) (held l)) after → Moves l (arrival a) (record { says = only 16; next = after })
-  -- a row is opened or freed
-  turned : {m : SubscriptionMessage} {after : Ledger} (id : ℕ) (f : Row → Change) → isLedger l ≡ true → Turns (deedBy m) id f → Becomes l (l .next) (turn idOf id f (held l)) after → Moves l (message (Subscription m)) (done after)
-  -- a SUBSCRIBE is taken
-  taken : {m : Subscribe} {after : Ledger} → hasAlias (m .alias) (held l) ≡ false → Becomes l (m .id + 1) (held l ++ (newRow m ∷ [])) after → Moves l (message (Subscription (ASubscribe m))) (done after)
-  -- the maximum rises
-  raised : {id : ℕ} → l .maximum < id → Moves l (message (Subscription (AMaxSubscribeId id))) (done (withMaximum l id))
-
--- ---- a reply that turns a row turns it so
-
-missed-not : (next id : ℕ) {f : Row → Change} → pick (leb next id) (broke R5) (stays stale) ≡ turns f → ⊥
-missed-not next id {f} =
-    pick-by (λ (r : Reply). r ≡ turns f → ⊥) (leb next id) (λ _ h. let z : _≡_ {A = ℕ} 0 1 = cc in omega arith)
-    (λ _ h. let z : _≡_ {A = ℕ} 0 1 = cc in omega arith)
-
-ok-turns : (m : SubscribeOk) (next : ℕ) (looked : Looked) (f : Row → Change) → okReply m next looked ≡ turns f → Turns (opened (m .id) (m .content)) (m .id) f
-ok-turns m next none f e = absurd (missed-not next (m .id) e)
-ok-turns m next (one r) f e = go (r .state) e
-  where
-    go : (s : State) → opening s (m .content) ≡ turns f → Turns (opened (m .id) (m .content)) (m .id) f
-    go Pending h = subst (Turns (opened (m .id) (m .content)) (m .id)) (cc) opens
-    go Active h = absurd (let z : _≡_ {A = ℕ} 0 1 = cc in omega arith)
-
-end-turns : (ending : Ending) (id next : ℕ) (looked : Looked) (f : Row → Change) → endReply ending id next looked ≡ turns f → Turns (ended id) id f
-end-turns ending id next none f e = absurd (missed-not next id e)
-end-turns ending id next (one r) f e = go (mayEnd ending (r .state)) e
-  where
-    go : (b : Bool) → pick b (turns (λ _. gone)) (broke R6) ≡ turns f → Turns (ended id) id f
-    go true h = subst (Turns (ended id) id) (cc) frees
-    go false h = absurd (let z : _≡_ {A = ℕ} 0 1 = cc in omega arith)
-
--- ---- each event
-
-module _ (l : Ledger) (w : isLedger l ≡ true) where
-  message-moves : {m : SubscriptionMessage} {own : Bool} {id : ℕ} {r : Reply} {c : Came} → isPeers (l .part) (message (Subscription m)) ≡ not own → ((f : Row → Change) → r ≡ turns f → Turns (deedBy m) id f) → Does l own 8 Still idOf id r c → Moves l (message (Subscription m)) c
-  message-moves p is (stayedBy {q = q}) = stayed q
-  message-moves {own = own} p is (brokenBy {rule}) = broken own rule p
-  message-moves {id = id} p is (turnedBy {f} still b) = turned id f w (is f refl) b
-
-  arrival-moves : (a : Arrival) {r : Reply} {c : Came} → Does l (isOwn (l .part) Publisher) 16 (Counting (a .place)) aliasOf (a .alias) r c → Moves l (arrival a) c
-  arrival-moves a (stayedBy {q = q}) = stayed q
-  arrival-moves a (brokenBy {rule}) = broken _ rule refl
-  arrival-moves a (turnedBy {f} is b) =
-      let f-is = turn-found aliasOf (a .alias) f (counting (a .place)) (held l) (λ r _. is r) in
-      counted {a = a} w (rw f-is at b)
-
-  subscribe-moves : {m : Subscribe} {c : Came} → Asked l m c → Moves l (message (Subscription (ASubscribe m))) c
-  subscribe-moves Asked.full = stayed full
-  subscribe-moves (Asked.broken rule) = broken _ rule refl
-  subscribe-moves (Asked.taken fresh b) = taken fresh b
-
-  maximum-moves : {id : ℕ} {c : Came} → Raised l id c → Moves l (message (Subscription (AMaxSubscribeId id))) c
-  maximum-moves Raised.broken = broken _ R7 refl
-  maximum-moves (Raised.raised more) = raised more
-
-  ends : (ending : Ending) (id : ℕ) (f : Row → Change) → endReply ending id (l .next) (look idOf id (held l)) ≡ turns f → Turns (ended id) id f
-  ends ending id = end-turns ending id (l .next) (look idOf id (held l))
-
-  subscription-moves : (m : SubscriptionMessage) → Moves l (message (Subscription m)) (subscriptionStep l m)
-  subscription-moves (ASubscribeUpdate m) = stayed not-kept
-  subscription-moves (ASubscribe m) = subscribe-moves (asked l m (parts l w))
-  subscription-moves (ASubscribeOk m) =
-      message-moves refl (ok-turns m (l .next) (look idOf (m .id) (held l))) (ok-does l m)
-  subscription-moves (ASubscribeError m) = message-moves refl (ends Erring (m .id)) (end-does l (parts l w) _ Erring (m .id))
-  subscription-moves (AUnsubscribe id) = message-moves refl (ends Leaving id) (end-does l (parts l w) _ Leaving id)
-  subscription-moves (ASubscribeDone m) = message-moves refl (ends Ended (m .id)) (end-does l (parts l w) _ Ended (m .id))
-  subscription-moves (AMaxSubscribeId id) = maximum-moves (raises l id)
-  subscription-moves (ASubscribesBlocked id) = stayed not-kept
-
-  step-moves : (e : Event) → Moves l e (stepOf l e)
-  step-moves (message (Subscription m)) = subscription-moves m
-  step-moves (message (Fetch m)) = stayed not-kept
-  step-moves (message (Announce m)) = stayed not-kept
-  step-moves (message (Session m)) = stayed not-kept
-  step-moves malformed = broken false R1 refl
-  step-moves (arrival a) =
-      arrival-moves a (arrival-does l _ a)
-
--- every event of every ledger
-pub moves : (l : Ledger) (e : Event) → Moves l e (comes l e)
-moves l e = comes-by l e (Moves l e) (λ p. step-moves l (p .ledger) e) (λ _ q. stayed (quieted q))
-
--- an answer that changes nothing is none of 8, 13 and 16
+-- such an answer is none of 8, 13 and 16
 pub quiet : {n : ℕ} → Quiet n → (eqb n 8 ≡ false) × (eqb n 13 ≡ false) × (eqb n 16 ≡ false)
 quiet forbidden = (refl, refl, refl)
 quiet not-kept = (refl, refl, refl)
@@ -141,3 +62,149 @@ quiet not-a-ledger = (refl, refl, refl)
 quiet outside = (refl, refl, refl)
 quiet no-row = (refl, refl, refl)
 quiet pending = (refl, refl, refl)
+
+-- the view with other rows
+abbrev pub withRows : View → List Row → View
+withRows v rows = record { standing = v .standing; rows = rows }
+
+abbrev pub counting : Place → Row → Change Row
+counting place r = now (countedRow r place)
+
+-- what a deed makes of the row of an ID
+pub data Turns : Deed → ℕ → (Row → Change Row) → Type 0 where
+  opens : {id : ℕ} {content : Content} → Turns (opened id content) id (λ r. now (activeRow r (settledOf (r .range) content)))
+  frees : {id : ℕ} → Turns (ended id) id (λ _. gone)
+
+pub data Moves (v : View) : Event → Seen → Type 0 where
+  -- it changes nothing
+  stayed : {e : Event} {n : ℕ} → Quiet n → Moves v e (unchanged v n)
+  -- it breaks a rule: an own message, or the peer's
+  broke : {e : Event} (own : Bool) (rule : Rule) → isPeers (v .standing .part) e ≡ not own → Moves v e (replied v own (broken rule))
+  -- an arrival is counted
+  counted : {a : Arrival} → Moves v (arrival a) (record { says = only 16; next = withRows v (turn aliasOf (a .alias) (counting (a .place)) (v .rows)) })
+  -- a row is opened or freed
+  turned : {m : SubscriptionMessage} (id : ℕ) (f : Row → Change Row) → Turns (deedBy m) id f → Moves v (message (Subscription m)) (record { says = only 8; next = withRows v (turn idOf id f (v .rows)) })
+  -- a SUBSCRIBE is taken
+  taken : {m : Subscribe} → Moves v (message (Subscription (ASubscribe m))) (record { says = only 8; next = record { standing = withHighest (v .standing) (m .id); rows = v .rows ++ (newRow m ∷ []) } })
+  -- the maximum rises
+  raised : {id : ℕ} → v .standing .maximum < id → Moves v (message (Subscription (AMaxSubscribeId id))) (record { says = only 8; next = record { standing = withMaximum (v .standing) id; rows = v .rows } })
+
+-- ---- at the row that is named
+
+-- it is turned with a number, it stays, or a rule is broken
+data Meets (number : ℕ) (f : Row → Change Row) (r : Row) : RowStep → Type 0 where
+  turns : Meets number f r (record { reply = answer number; row = f r })
+  stays : {n : ℕ} → Quiet n → Meets number f r (record { reply = answer n; row = now r })
+  breaks : {rule : Rule} → Meets number f r (record { reply = broken rule; row = now r })
+
+arrival-meets : (place : Place) (r : Row) → Meets 16 (counting place) r (arriveAt place r)
+unfolding arriveAt
+arrival-meets place r =
+    arrive-by (λ (x : AtRow). Meets 16 (counting place) r (record { reply = answer (x .number); row = now (x .row) })) place r
+    (stays pending) (stays outside) (λ _. turns)
+
+ok-meets : (content : Content) (r : Row) → Meets 8 (λ r. now (activeRow r (settledOf (r .range) content))) r (okAt content r)
+unfolding okAt
+ok-meets content r =
+    open-by (λ (x : AtRow). Meets 8 (λ r. now (activeRow r (settledOf (r .range) content))) r (record { reply = pick (eqb (x .number) 8) (answer 8) (broken R6); row = now (x .row) })) content r
+    breaks turns
+
+end-meets : (ending : Ending) (r : Row) → Meets 8 (λ _. gone) r (endAt ending r)
+unfolding endAt
+end-meets ending r = pick-by (Meets 8 (λ _. gone) r) (mayEnd ending (r .state)) (λ _. turns) (λ _. breaks)
+
+module _ (v : View) (own : Bool) (key : Row → ℕ) (n : ℕ) (missing : Reply) (at : Row → RowStep) (number : ℕ) (f : Row → Change Row) (meets : (r : Row) → Meets number f r (at r)) where
+  abbrev seenWith : Reply → List Row → Seen
+  seenWith reply rows = record { says = saidBy reply; next = record { standing = closing own reply (v .standing); rows = rows } }
+
+  row : Row → Change Row
+  row r = at r .row
+
+  named-by : (P : Seen → Type 0) → P (replied v own missing) → P (seenWith (answer number) (turn key n f (v .rows))) → ((m : ℕ) → Quiet m → P (unchanged v m)) → ((rule : Rule) → P (replied v own (broken rule))) → P (named v own key n missing at)
+  unfolding named row
+  named-by P nowhere turning staying breaking = go (look key n (v .rows)) refl
+    where
+      still : ((r : Row) → look key n (v .rows) ≡ one r → row r ≡ now r) → turn key n row (v .rows) ≡ v .rows
+      still = turn-same key n row (v .rows)
+
+      there : (r : Row) → look key n (v .rows) ≡ one r → (x : RowStep) → at r ≡ x → Meets number f r x → P (seenWith (x .reply) (turn key n row (v .rows)))
+      there r e x is turns =
+          rw (turn-found key n row f (v .rows) (λ y h. let same : r ≡ y = cc in rw (sym same) (ap (λ (x : RowStep). x .row) is))) turning
+      there r e x is (stays q) =
+          rw (still (λ y h. let same : r ≡ y = cc in rw (sym same) (ap (λ (x : RowStep). x .row) is))) (staying _ q)
+      there r e x is (breaks {rule}) =
+          rw (still (λ y h. let same : r ≡ y = cc in rw (sym same) (ap (λ (x : RowStep). x .row) is))) (breaking rule)
+
+      go : (looked : Looked Row) → look key n (v .rows) ≡ looked → P (seenWith (found missing (λ r. at r .reply) looked) (turn key n row (v .rows)))
+      go none e = rw (still (λ r h. absurd (let z : _≡_ {A = ℕ} 0 1 = cc in omega arith))) nowhere
+      go (one r) e = there r e (at r) refl (meets r)
+
+-- ---- each event
+
+module _ (v : View) where
+  module _ (m : SubscriptionMessage) (by : Part) (peers : isPeers (v .standing .part) (message (Subscription m)) ≡ not (isOwn (v .standing .part) by)) where
+    no-row-moves : (id : ℕ) → Moves v (message (Subscription m)) (replied v (isOwn (v .standing .part) by) (noRow (v .standing) id))
+    unfolding noRow
+    no-row-moves id =
+        pick-by (λ (r : Reply). Moves v (message (Subscription m)) (replied v (isOwn (v .standing .part) by) r)) (leb (v .standing .next) id)
+        (λ _. broke (isOwn (v .standing .part) by) R5 peers) (λ _. stayed stale)
+
+    id-moves : (id : ℕ) (at : Row → RowStep) (f : Row → Change Row) → ((r : Row) → Meets 8 f r (at r)) → Turns (deedBy m) id f → Moves v (message (Subscription m)) (byId v by id at)
+    id-moves id at f meets is =
+        named-by v (isOwn (v .standing .part) by) idOf id (noRow (v .standing) id) at 8 f meets (Moves v (message (Subscription m)))
+        (no-row-moves id) (turned id f is) (λ _ q. stayed q) (λ rule. broke (isOwn (v .standing .part) by) rule peers)
+
+  arrival-moves : (a : Arrival) → Moves v (arrival a) (eventSeen v (arrival a))
+  arrival-moves a =
+      named-by v (isOwn (v .standing .part) Publisher) aliasOf (a .alias) (answer 18) (arriveAt (a .place)) 16 (counting (a .place)) (arrival-meets (a .place)) (Moves v (arrival a))
+      (stayed no-row) counted (λ _ q. stayed q) (λ rule. broke (isOwn (v .standing .part) Publisher) rule refl)
+
+  subscribe-moves : (m : Subscribe) → Moves v (message (Subscription (ASubscribe m))) (subscribeSeen v m)
+  unfolding subscribeSeen
+  subscribe-moves m =
+      pick-by P (ltb (m .id) (v .standing .next)) (λ _. broke own R2 refl) (λ _.
+      pick-by P (leb (v .standing .maximum) (m .id)) (λ _. broke own R3 refl) (λ _.
+      pick-by P (hasAlias (m .alias) (v .rows)) (λ _. broke own R4 refl) (λ _.
+      pick-by P (leb (v .standing .capacity) (length (v .rows))) (λ _. stayed full) (λ _. taken))))
+    where
+      own : Bool
+      own = isOwn (v .standing .part) Subscriber
+
+      P : Seen → Type 0
+      P = Moves v (message (Subscription (ASubscribe m)))
+
+  maximum-moves : (id : ℕ) → Moves v (message (Subscription (AMaxSubscribeId id))) (maximumSeen v id)
+  unfolding maximumSeen
+  maximum-moves id =
+      pick-by (Moves v (message (Subscription (AMaxSubscribeId id)))) (leb id (v .standing .maximum))
+      (λ _. broke (isOwn (v .standing .part) Publisher) R7 refl) (λ more. raised (leb-false id (v .standing .maximum) more))
+
+  message-moves : (m : SubscriptionMessage) → Moves v (message (Subscription m)) (subscriptionSeen v m)
+  message-moves (ASubscribeUpdate m) = stayed not-kept
+  message-moves (ASubscribe m) = subscribe-moves m
+  message-moves (ASubscribeOk m) = id-moves (ASubscribeOk m) Publisher refl (m .id) (okAt (m .content)) _ (ok-meets (m .content)) opens
+  message-moves (ASubscribeError m) = id-moves (ASubscribeError m) Publisher refl (m .id) (endAt Erring) _ (end-meets Erring) frees
+  message-moves (AUnsubscribe id) = id-moves (AUnsubscribe id) Subscriber refl id (endAt Leaving) _ (end-meets Leaving) frees
+  message-moves (ASubscribeDone m) = id-moves (ASubscribeDone m) Publisher refl (m .id) (endAt Ended) _ (end-meets Ended) frees
+  message-moves (AMaxSubscribeId id) = maximum-moves id
+  message-moves (ASubscribesBlocked id) = stayed not-kept
+
+  event-moves : (e : Event) → Moves v e (eventSeen v e)
+  event-moves (message (Subscription m)) = message-moves m
+  event-moves (message (Fetch m)) = stayed not-kept
+  event-moves (message (Announce m)) = stayed not-kept
+  event-moves (message (Session m)) = stayed not-kept
+  event-moves malformed = broke false R1 refl
+  event-moves (arrival a) = arrival-moves a
+
+  -- every event of every view
+  pub moves : (e : Event) → Moves v e (viewStep v e)
+  unfolding viewStep
+  moves e =
+      pick-by (Moves v e) (isSound e)
+      (λ _. pick-by (Moves v e) (isOpen (v .standing .session)) (λ _. event-moves e) (λ _. stayed closed))
+      (λ _. stayed forbidden)
+
+-- and of every ledger
+pub ledger-moves : (l : Ledger) (e : Event) → Moves (viewOf l) e (seenOf (comes l e))
+ledger-moves l e = seen-by l e (Moves (viewOf l) e) (λ _. moves (viewOf l) e) (stayed not-a-ledger)

@@ -1,18 +1,18 @@
 -- A run of arrivals is the history of its arrivals. Assumes nothing.
 use Prim.Native.Nat.{ℕ, _≤_}
-use mathlib.Core.Path.{_≡_, refl, sym, ap}
+use mathlib.Core.Path.{_≡_, refl, ap}
 use mathlib.Core.Bool.{true}
 use mathlib.Core.List.{List, [], _∷_, map}
 use borrow.Author.Tests.{le-leb}
 use lib.ListN.{length}
 use Rattle.field.specs.declared.Arrival.{Arrival}
-use Rattle.integer.specs.Answer.{wrote}
 use Rattle.integer.specs.Integer.{over}
 use Rattle.ledger.specs.Ledgers.{isLedger}
-use Rattle.ledger.specs.Runs.{arrivalsIn, behind, numbersOf, Run, runOf}
+use Rattle.ledger.specs.Runs.{arrivalsIn, behind, numbersOf, runOf}
 use Rattle.ledger.specs.Steps.{arrivalOf}
 use Rattle.ledger.specs.declared.Ledger.{Ledger}
-use Rattle.history.specs.Events.{Event, arrival, run, Told, told}
+use Rattle.view.specs.Events.{arrival}
+use Rattle.history.specs.Events.{run, told}
 use Rattle.history.specs.Runs.{numberOf, Follows}
 
 pub behind-run : (l : Ledger) (xs : List Arrival) → behind l xs ≡ run l (map arrival xs)

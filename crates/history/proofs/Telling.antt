@@ -20,8 +20,8 @@ use Rattle.row.specs.declared.State.{State}
 use Rattle.row.specs.declared.State.the-variants.{Pending, Active}
 use Rattle.row.specs.declared.Greatest.{Greatest}
 use Rattle.row.specs.declared.Greatest.the-variants.{Nowhere, At}
-use Rattle.ledger.proofs.Turning.{Change, gone, now, put}
-use Rattle.ledger.proofs.Asking.{newRow}
+use Rattle.view.specs.Keys.{Change, gone, now, put}
+use Rattle.view.specs.Steps.{newRow}
 use Rattle.history.specs.Events.{Told}
 use Rattle.history.specs.Deeds.{Deed, asked, opened, ended, raised, counted, nothing, deedOf}
 use Rattle.history.specs.Rows.{ends, opens, counts, isEnded, given, stateOf, settled, greatestOf, rowOf, adds, rowsOf}
@@ -29,7 +29,7 @@ use Rattle.history.specs.Rows.{ends, opens, counts, isEnded, given, stat
 -- ---- one deed
 
 -- what it makes of a row,
-abbrev pub made : Deed → Row → Change
+abbrev pub made : Deed → Row → Change Row
 made (asked m) r = now r
 made (opened id content) r = pick (eqb (r .id) id) (now (activeRow r (settledOf (r .range) content))) (now r)
 made (ended id) r = pick (eqb (r .id) id) gone (now r)
@@ -38,7 +38,7 @@ made (counted a) r = pick (eqb (r .alias) (a .alias)) (now (countedRow r (a .pla
 made nothing r = now r
 
 -- of each row,
-unfoldable pub every : (Row → Change) → List Row → List Row
+unfoldable pub every : (Row → Change Row) → List Row → List Row
 every f [] = []
 every f (r ∷ rs) = put (f r) (every f rs)
 
@@ -53,7 +53,7 @@ new nothing = []
 
 -- ---- a row, by the deeds that come
 
-abbrev behind : (Row → List Row) → Change → List Row
+abbrev behind : (Row → List Row) → Change Row → List Row
 behind f gone = []
 behind f (now r) = f r
 
@@ -214,7 +214,7 @@ module _ (t : Told) (ts : List Told) where
       others : List Row
       others = every (made (deedOf t)) rs
 
-      go : (c : Change) → laters (put c others) ts ≡ behind (later ts) c ++ laters others ts
+      go : (c : Change Row) → laters (put c others) ts ≡ behind (later ts) c ++ laters others ts
       go gone = refl
       go (now x) = refl
 

@@ -21,9 +21,11 @@ use Rattle.ledger.specs.declared.Ledger.{Ledger}
 use Rattle.ledger.specs.declared.Part.{Part}
 use Rattle.ledger.proofs.Facts.{parts}
 use Rattle.ledger.proofs.Keeps.{starts}
-use Rattle.history.specs.Events.{Event, message, arrival, run, Told, told}
+use Rattle.view.specs.Events.{Event, message, arrival}
+use Rattle.view.specs.Orders.{Apart}
+use Rattle.history.specs.Events.{run, Told, told}
 use Rattle.history.specs.Lists.{Each, Among}
-use Rattle.history.specs.Orders.{Reordered, Apart, EitherOrder, Exchanged}
+use Rattle.history.specs.Orders.{Reordered, EitherOrder, Exchanged}
 use Rattle.history.specs.Rows.{greatestOf, rowsOf}
 use Rattle.history.specs.Closings.{anyBroken, firstBroken, kept}
 use Rattle.history.specs.Ledgers.{ToldBy}
@@ -31,7 +33,7 @@ use Rattle.history.specs.Takings.{NoneTaken}
 use Rattle.history.specs.Runs.{Follows}
 use Rattle.history.proofs.Keeping.{run-keeps}
 use Rattle.history.proofs.Closing.{closed-later, open-after, kept-after}
-use Rattle.history.proofs.Exchanging.{messages-either, open-either}
+use Rattle.history.proofs.Neighbours.{messages-either, open-either}
 use Rattle.history.proofs.AnyOrder.{run-exchanged, told-exchanged, between, told-alone}
 use Rattle.history.proofs.Whole.{told-from-start, told-once}
 use Rattle.history.proofs.Foremost.{nowhere-only, none-nowhere, among, none-after}

@@ -18,13 +18,14 @@ use Rattle.ledger.specs.declared.Rule.the-variants.{R1, R2, R3, R4, R5, R6, R7}
 use Rattle.ledger.specs.declared.Session.{Session}
 use Rattle.ledger.specs.declared.Session.the-variants.{Open, Closed}
 use Rattle.ledger.proofs.Facts.{parts}
-use Rattle.ledger.proofs.Same.{same-ledger}
-use Rattle.history.specs.Events.{Event, comes, run, Told, told}
+use Rattle.view.proofs.SameLedger.{same-ledger}
+use Rattle.view.specs.Views.{viewOf}
+use Rattle.view.specs.Events.{Event, comes}
+use Rattle.history.specs.Events.{run, Told, told}
 use Rattle.history.specs.Deeds.{deedOf}
 use Rattle.history.specs.Rows.{rowsOf}
 use Rattle.history.specs.Closings.{kept}
 use Rattle.history.specs.Ledgers.{through, nextBy, maximumBy, ToldBy}
-use Rattle.history.proofs.Moves.{moves}
 use Rattle.history.proofs.Closing.{kept-after}
 use Rattle.history.proofs.Telling.{laters, no-laters, laters-none, laters-on}
 use Rattle.history.proofs.Doing.{Did, did}
@@ -49,7 +50,7 @@ from-now l =
       maximum = refl;
     }
 
-from-on : {l k after : Ledger} {t : Told} {ts : List Told} → Did l (deedOf t) k → From k ts after → From l (t ∷ ts) after
+from-on : {l k after : Ledger} {t : Told} {ts : List Told} → Did (viewOf l) (deedOf t) (viewOf k) → From k ts after → From l (t ∷ ts) after
 unfolding through
 from-on {l} {t = t} {ts = ts} d f =
     record {
@@ -63,7 +64,7 @@ from-on {l} {t = t} {ts = ts} d f =
 from : (l : Ledger) (es : List Event) → From l (told l es) (run l es)
 unfolding run told
 from l [] = from-now l
-from l (e ∷ es) = from-on (did l (moves l e)) (from (comes l e .next) es)
+from l (e ∷ es) = from-on (did l e) (from (comes l e .next) es)
 
 -- ---- from a start, where no row is held and no ID was accepted
 

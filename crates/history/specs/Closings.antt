@@ -11,15 +11,17 @@ use Rattle.ledger.specs.declared.Part.{Part}
 use Rattle.ledger.specs.declared.Part.the-variants.{Publisher}
 use Rattle.ledger.specs.declared.Session.{Session}
 use Rattle.ledger.specs.declared.Session.the-variants.{Open, Closed}
-use Rattle.history.specs.Events.{Event, message, malformed, arrival, Told}
+use Rattle.view.specs.Events.{Event, message, malformed, arrival}
+use Rattle.history.specs.Events.{Told}
 
--- whether the peer of this part is the one that sends it; what either end may send is nobody's here, since it breaks no rule
+-- whether the peer of this part is the one that sends it; what either end may send is nobody's here, since it breaks no
+-- rule
 abbrev pub fromPeer : Part → Sender → Bool
 fromPeer part (the sender) = not (isOwn part sender)
 fromPeer part either = false
 
--- whether an event is the peer's: a message by its kind; malformed always, as "the caller reports answers 2 to 6 on a peer's control
--- bytes"; an arrival where the peer publishes, since "Objects are sent by publishers"
+-- whether an event is the peer's: a message by its kind; malformed always, as "the caller reports answers 2 to 6 on a
+-- peer's control bytes"; an arrival where the peer publishes, since "Objects are sent by publishers"
 abbrev pub isPeers : Part → Event → Bool
 isPeers part (message m) = fromPeer part (senderOf m)
 isPeers part malformed = true

@@ -1,21 +1,8 @@
--- What happens to a ledger, and the ledger behind it.
+-- A history of a ledger, and the ledger behind it.
 use mathlib.Core.List.{List, [], _∷_}
-use Rattle.field.specs.declared.Arrival.{Arrival}
-use Rattle.message.specs.declared.Message.{Message}
-use Rattle.ledger.specs.Answers.{Said, Came}
-use Rattle.ledger.specs.Steps.{takeOf, malformedOf, arrivalOf}
+use Rattle.ledger.specs.Answers.{Said}
 use Rattle.ledger.specs.declared.Ledger.{Ledger}
-
--- an event: a control message, bytes that are none, or an arrival
-pub data Event : Type 0 where
-  message : Message → Event
-  malformed : Event
-  arrival : Arrival → Event
-
-abbrev pub comes : Ledger → Event → Came
-comes l (message m) = takeOf l m
-comes l malformed = malformedOf l
-comes l (arrival a) = arrivalOf l a
+use Rattle.view.specs.Events.{Event, comes}
 
 -- a history: events, the earliest first. The ledger behind it,
 unfoldable pub run : Ledger → List Event → Ledger

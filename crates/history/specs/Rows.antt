@@ -79,8 +79,8 @@ greatestOf (p ∷ ps) = At (greater (greatestOf ps) p)
 -- ---- the rows
 
 -- the row of a SUBSCRIBE, by what came since: active exactly when a SUBSCRIBE_OK was answered 8 for its ID; the range
--- that was asked for, settled by that; the greatest of the places that were answered 16 for its alias; and how many they
--- are, up to the top
+-- that was asked for, settled by that; the greatest of the places that were answered 16 for its alias; and how many
+-- they are, up to the top
 unfoldable pub rowOf : Subscribe → List Told → Row
 rowOf m since =
     let contents = given (opens (m .id)) since in

@@ -5,7 +5,8 @@ use mathlib.Core.List.{List, map}
 use Rattle.integer.specs.Integer.{over}
 use Rattle.ledger.specs.Runs.{Run}
 use Rattle.ledger.specs.declared.Ledger.{Ledger}
-use Rattle.history.specs.Events.{Event, run, Told, told}
+use Rattle.view.specs.Events.{Event}
+use Rattle.history.specs.Events.{run, Told, told}
 
 -- 01's number of what an event was answered
 abbrev pub numberOf : Told → ℕ

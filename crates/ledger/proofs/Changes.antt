@@ -1,13 +1,12 @@
 -- A ledger whose row is changed, added last or taken out is a ledger; so is one that is closed, or has another maximum.
 -- Assumes nothing.
 use Prim.Native.Nat.{ℕ, suc, _+_, _-_, _≤_, _<_}
-use mathlib.Core.Path.{_≡_, refl, sym, ap, _∙_}
+use mathlib.Core.Path.{_≡_, ap, _∙_}
 use mathlib.Core.Bool.{true, false}
 use mathlib.Core.List.{List, [], _∷_, _++_}
-use native.Mathlib.Numerals.{add-one}
 use native.Mathlib.Omega.{arith}
 use borrow.Author.Tests.{leb-true}
-use lib.ListN.{length, take, drop, set, length-set, length-append, length-take, length-drop}
+use lib.ListN.{length, take, drop, length-set, length-append, length-take, length-drop}
 use lib.Seq.{drop-set-lt}
 use Rattle.integer.specs.Integer.{greatest}
 use Rattle.row.specs.Places.{small}
@@ -15,13 +14,12 @@ use Rattle.row.specs.Rows.{unusedRow, isRow}
 use Rattle.row.specs.declared.Row.{Row}
 use Rattle.ledger.specs.Ledgers.{held, hasAlias, allUnused}
 use Rattle.ledger.specs.Answers.{closedBy}
-use Rattle.ledger.specs.Steps.{find, idOf, rowAt, changed, added, freed, withMaximum}
+use Rattle.ledger.specs.Steps.{rowAt, changed, added, freed, withMaximum}
 use Rattle.ledger.specs.declared.Rule.{Rule}
 use Rattle.ledger.specs.declared.Ledger.{Ledger}
-use Rattle.ledger.specs.declared.Found.the-variants.{At}
 use Rattle.ledger.proofs.Parts.{rest-next}
-use Rattle.ledger.proofs.Finds.{found-used}
-use Rattle.ledger.proofs.Facts.{Bounds, IsLedger}
+use Rattle.ledger.proofs.Finds.{IsFirst, first-used}
+use Rattle.ledger.proofs.Facts.{IsLedger}
 use Rattle.ledger.proofs.Rises.{rising-alter, distinct-alter, rising-last, distinct-last, rising-remove, distinct-remove, unused-last, unused-rest}
 use Rattle.ledger.proofs.Views.{drop-gone, view-changed, view-added, view-freed}
 
@@ -42,7 +40,7 @@ module _ (l : Ledger) (w : IsLedger l) where
   within-room h = omega (arith, w .long, w .within .few)
 
   -- a row changed, which keeps its ID and alias
-  pub keeps-changed : (key : Row → ℕ) (n i : ℕ) → find key n 0 (held l) ≡ At i → (f : Row → Row) → ((r : Row) → f r .id ≡ r .id) → ((r : Row) → f r .alias ≡ r .alias) → ((r : Row) → isRow r ≡ true → isRow (f r) ≡ true) → IsLedger (changed l i (f (rowAt l i)))
+  pub keeps-changed : (key : Row → ℕ) (n i : ℕ) → IsFirst key n (held l) i → (f : Row → Row) → ((r : Row) → f r .id ≡ r .id) → ((r : Row) → f r .alias ≡ r .alias) → ((r : Row) → isRow r ≡ true → isRow (f r) ≡ true) → IsLedger (changed l i (f (rowAt l i)))
   unfolding changed
   keeps-changed key n i e f id alias is =
       let view = view-changed l key n i e f in
@@ -51,7 +49,7 @@ module _ (l : Ledger) (w : IsLedger l) where
         within = w .within;
         rises = rw view (rising-alter key n f id is 0 (l .next) (held l) (w .rises));
         apart = rw view (distinct-alter key n f alias (held l) ∙ w .apart);
-        rest = rw (drop-set-lt (l .used) (l .rows) i (f (rowAt l i)) (found-used key n l refl e)) (w .rest);
+        rest = rw (drop-set-lt (l .used) (l .rows) i (f (rowAt l i)) (first-used key n l e)) (w .rest);
       }
 
   -- behind the first unused row the others are unused
@@ -75,11 +73,11 @@ module _ (l : Ledger) (w : IsLedger l) where
       }
 
   -- a row taken out
-  pub keeps-freed : (key : Row → ℕ) (n i : ℕ) → find key n 0 (held l) ≡ At i → IsLedger (freed l i)
+  pub keeps-freed : (key : Row → ℕ) (n i : ℕ) → IsFirst key n (held l) i → IsLedger (freed l i)
   unfolding freed
   keeps-freed key n i e =
       let b = w .within in
-      let h : i < l .used = found-used key n l refl e in
+      let h : i < l .used = first-used key n l e in
       let up : suc (l .used - 1) ≡ l .used = omega arith in
       let inside : l .used - 1 < length (l .rows) = omega (arith, within-places) in
       let view = view-freed l key n i e within-places in

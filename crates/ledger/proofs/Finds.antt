@@ -1,11 +1,12 @@
 -- Where a row was found, and what it means that none was. Assumes nothing.
-use Prim.Native.Nat.{ℕ, _+_, _≤_, _<_}
-use mathlib.Core.Path.{_≡_, refl}
+use Prim.Native.Nat.{ℕ, zero, suc, _+_, _<_}
+use mathlib.Core.Path.{_≡_, refl, sym, subst}
 use mathlib.Core.Bool.{Bool, true, false}
 use mathlib.Core.List.{List, [], _∷_}
+use native.Mathlib.Nat.{add-zero, zero-add}
 use native.Mathlib.Omega.{arith}
 use lib.Dec.{eqb}
-use lib.ListN.{length, take, length-take}
+use lib.ListN.{length, length-take}
 use Rattle.integer.specs.Answer.{pick}
 use Rattle.row.specs.declared.Row.{Row}
 use Rattle.ledger.specs.Ledgers.{held, hasAlias}
@@ -14,32 +15,45 @@ use Rattle.ledger.specs.declared.Ledger.{Ledger}
 use Rattle.ledger.specs.declared.Found.{Found}
 use Rattle.ledger.specs.declared.Found.the-variants.{At, Missing}
 
-module _ (key : Row → ℕ) (n : ℕ) where
-  -- a row that is found is one of the list's: not before the first,
-  pub found-from : (from : ℕ) (rs : List Row) (i : ℕ) → find key n from rs ≡ At i → from ≤ i
-  unfolding find
-  found-from from [] i e = absurd (let z : _≡_ {A = ℕ} 0 1 = cc in omega arith)
-  found-from from (r ∷ rs) i e = go (eqb (key r) n) e (found-from (from + 1) rs i)
-    where
-      go : (b : Bool) → pick b (At from) (find key n (from + 1) rs) ≡ At i → (find key n (from + 1) rs ≡ At i → from + 1 ≤ i) → from ≤ i
-      go true p ih = let s : from ≡ i = cc in omega arith
-      go false p ih = omega (arith, ih p)
+module _ {A : Type 0} (key : A → ℕ) (n : ℕ) where
+  -- none has a number; or the first that has it stands at a place
+  pub data HasNone : List A → Type 0 where
+    end : HasNone []
+    other : {x : A} {xs : List A} → eqb (key x) n ≡ false → HasNone xs → HasNone (x ∷ xs)
 
-  -- and not behind the last
-  found-below : (from : ℕ) (rs : List Row) (i : ℕ) → find key n from rs ≡ At i → i < from + length rs
-  unfolding find
-  found-below from [] i e = absurd (let z : _≡_ {A = ℕ} 0 1 = cc in omega arith)
-  found-below from (r ∷ rs) i e = go (eqb (key r) n) e (found-below (from + 1) rs i)
-    where
-      go : (b : Bool) → pick b (At from) (find key n (from + 1) rs) ≡ At i → (find key n (from + 1) rs ≡ At i → i < from + 1 + length rs) → i < from + length (r ∷ rs)
-      go true p ih = let s : from ≡ i = cc in omega arith
-      go false p ih = omega (arith, ih p)
+  pub data IsFirst : List A → ℕ → Type 0 where
+    here : {x : A} {xs : List A} → eqb (key x) n ≡ true → IsFirst (x ∷ xs) zero
+    later : {x : A} {xs : List A} {i : ℕ} → eqb (key x) n ≡ false → IsFirst xs i → IsFirst (x ∷ xs) (suc i)
 
-  pub found-used : (l : Ledger) {f : Found} {i : ℕ} → f ≡ find key n 0 (held l) → f ≡ At i → i < l .used
+  pub find-by : (from : ℕ) (xs : List A) (P : Found → Type 0) → (HasNone xs → P Missing) → ((i : ℕ) → IsFirst xs i → P (At (from + i))) → P (find key n from xs)
+  unfolding find
+  find-by from [] P none at = none end
+  find-by from (x ∷ xs) P none at = go (eqb (key x) n) refl (find-by (from + 1) xs P)
+    where
+      go : (b : Bool) → eqb (key x) n ≡ b → ((HasNone xs → P Missing) → ((i : ℕ) → IsFirst xs i → P (At (from + 1 + i))) → P (find key n (from + 1) xs)) → P (pick b (At from) (find key n (from + 1) xs))
+      go true e ih = subst (λ (i : ℕ). P (At i)) (add-zero from) (at zero (here e))
+      go false e ih =
+          ih (λ h. none (other e h))
+          (λ i h. let on : from + suc i ≡ from + 1 + i = omega arith in subst (λ (k : ℕ). P (At k)) on (at (suc i) (later e h)))
+
+  first-below : {xs : List A} {i : ℕ} → IsFirst xs i → i < length xs
+  first-below (here e) = omega arith
+  first-below (later e h) = omega (arith, first-below h)
+
+-- ---- a row in use
+
+module _ (key : Row → ℕ) (n : ℕ) (l : Ledger) where
+  pub by-place : (P : Found → Type 0) → (HasNone key n (held l) → P Missing) → ((i : ℕ) → IsFirst key n (held l) i → P (At i)) → P (find key n 0 (held l))
+  by-place P none at = find-by key n 0 (held l) P none (λ i h. subst (λ (k : ℕ). P (At k)) (sym (zero-add i)) (at i h))
+
+  pub first-used : {i : ℕ} → IsFirst key n (held l) i → i < l .used
   unfolding held
-  found-used l {f} {i} found at =
-      let here : find key n 0 (take (l .used) (l .rows)) ≡ At i = cc in
-      omega (arith, found-below 0 (take (l .used) (l .rows)) i here, length-take (l .used) (l .rows))
+  first-used h = omega (arith, first-below key n h, length-take (l .used) (l .rows))
+
+  pub found-used : {f : Found} {i : ℕ} → f ≡ find key n 0 (held l) → f ≡ At i → i < l .used
+  found-used {f} {i} found at =
+      by-place (λ (g : Found). f ≡ g → i < l .used) (λ _ e. absurd (let z : _≡_ {A = ℕ} 0 1 = cc in omega arith))
+      (λ j h e. let is : j ≡ i = cc in omega (arith, first-used h)) found
 
 -- one is found exactly where one has the alias
 abbrev pub isFound : Found → Bool

@@ -1,11 +1,10 @@
 -- What every call leaves is a ledger, where it was handed one; and a start that is done gives one. Assumes nothing.
-use Prim.Native.Nat.{ℕ, _≤_, _<_}
-use mathlib.Core.Path.{_≡_, refl, sym, ap, _∙_}
+use Prim.Native.Nat.{ℕ, _≤_}
+use mathlib.Core.Path.{_≡_, refl, ap}
 use mathlib.Core.Bool.{Bool, true, false}
 use native.Mathlib.Omega.{arith}
-use borrow.Author.Tests.{leb-false, ltb-false, eqb-true, le-leb, leb-true}
+use borrow.Author.Tests.{leb-false, ltb-false, eqb-true, leb-true}
 use lib.Dec.{leb, ltb, eqb}
-use Rattle.integer.specs.Answer.{pick}
 use Rattle.integer.proofs.Cases.{pick-by}
 use Rattle.field.specs.Outcome.{both}
 use Rattle.field.specs.declared.Arrival.{Arrival}
@@ -19,21 +18,20 @@ use Rattle.message.specs.declared.Message.{Message}
 use Rattle.message.specs.declared.Message.the-variants.{Subscription, Fetch, Announce, Session}
 use Rattle.row.specs.Places.{small, smallPlace}
 use Rattle.row.specs.Ranges.{askedOf, isKnown}
-use Rattle.row.specs.Rows.{pendingRow, arriveOf, openOf, mayEnd, isUnused, isPending, isNowhere}
+use Rattle.row.specs.Rows.{pendingRow, mayEnd, isUnused, isPending, isNowhere}
 use Rattle.row.specs.declared.Ending.{Ending}
 use Rattle.row.specs.declared.Ending.the-variants.{SubscribeError as Erring, SubscribeDone as Ended, Unsubscribe as Leaving}
 use Rattle.row.proofs.Keeping.{after, after-id, after-alias, after-is, opened, opened-id, opened-alias, opened-is, pending-is}
-use Rattle.ledger.specs.Ledgers.{held, rising, hasAlias, distinct, allUnused, bounded, isLedger, isOpen, emptyLedger}
+use Rattle.ledger.specs.Ledgers.{held, rising, hasAlias, distinct, allUnused, bounded, isLedger, emptyLedger}
 use Rattle.ledger.specs.Answers.{Came, Said, only, isOwn, breaks, closedBy, gateOf, gated}
-use Rattle.ledger.specs.Steps.{refusedStart, startOf, find, idOf, aliasOf, rowAt, changed, noRow, subscribeStep, okAt, openedAt, okStep, endAt, endStep, maximumStep, arriveAt, arrivedAt, arrivalStep, smallArrival, subscriptionStep, messageStep, takeOf, malformedOf, arrivalOf}
+use Rattle.ledger.specs.Steps.{startOf, idOf, aliasOf, rowAt, noRow, subscribeStep, okAt, okStep, endAt, endStep, maximumStep, arriveAt, arrivalStep, smallArrival, subscriptionStep, messageStep, takeOf, malformedOf, arrivalOf}
 use Rattle.ledger.specs.declared.Part.{Part}
 use Rattle.ledger.specs.declared.Part.the-variants.{Subscriber, Publisher}
 use Rattle.ledger.specs.declared.Rule.{Rule}
 use Rattle.ledger.specs.declared.Rule.the-variants.{R1, R2, R3, R4, R5, R6, R7}
 use Rattle.ledger.specs.declared.Ledger.{Ledger}
-use Rattle.ledger.specs.declared.Found.{Found}
-use Rattle.ledger.specs.declared.Found.the-variants.{At, Missing}
-use Rattle.ledger.proofs.Facts.{IsLedger, parts, whole}
+use Rattle.ledger.proofs.Facts.{parts, whole}
+use Rattle.ledger.proofs.Finds.{by-place}
 use Rattle.ledger.proofs.Gates.{gate-passed}
 use Rattle.ledger.proofs.Sounds.{Asks, sound-subscribe, sound-ok, sound-maximum}
 use Rattle.ledger.proofs.Behind.{arrived-is, opened-at}
@@ -68,23 +66,17 @@ module _ (l : Ledger) (w : isLedger l ≡ true) where
 
   keeps-ok : (m : SubscribeOk) → soundOf (Subscription (ASubscribeOk m)) ≡ true → Kept (okStep l m)
   unfolding okStep
-  keeps-ok m s = go (find idOf (m .id) 0 (held l)) refl
-    where
-      go : (f : Found) → find idOf (m .id) 0 (held l) ≡ f → Kept (okAt l f m)
-      go Missing e = keeps-no-row Publisher (m .id)
-      go (At i) e =
-          opened-at l i (m .content) Kept
-          (keeps-breaks (isOwn (l .part) Publisher) R6)
-          (whole _ (keeps-changed l (parts l w) idOf (m .id) i e (opened (m .content)) (opened-id (m .content)) (opened-alias (m .content)) (λ r. opened-is (m .content) r (sound-ok m s))))
+  keeps-ok m s =
+      by-place idOf (m .id) l (λ f. Kept (okAt l f m)) (λ _. keeps-no-row Publisher (m .id)) (λ i e.
+      opened-at l i (m .content) Kept
+      (keeps-breaks (isOwn (l .part) Publisher) R6)
+      (whole _ (keeps-changed l (parts l w) idOf (m .id) i e (opened (m .content)) (opened-id (m .content)) (opened-alias (m .content)) (λ r. opened-is (m .content) r (sound-ok m s)))))
 
   keeps-end : (by : Part) (ending : Ending) (id : ℕ) → Kept (endStep l by ending id)
   unfolding endStep
-  keeps-end by ending id = go (find idOf id 0 (held l)) refl
-    where
-      go : (f : Found) → find idOf id 0 (held l) ≡ f → Kept (endAt l f by ending id)
-      go Missing e = keeps-no-row by id
-      go (At i) e =
-          pick-by Kept (mayEnd ending (rowAt l i .state)) (λ _. whole _ (keeps-freed l (parts l w) idOf id i e)) (λ _. keeps-breaks _ R6)
+  keeps-end by ending id =
+      by-place idOf id l (λ f. Kept (endAt l f by ending id)) (λ _. keeps-no-row by id) (λ i e.
+      pick-by Kept (mayEnd ending (rowAt l i .state)) (λ _. whole _ (keeps-freed l (parts l w) idOf id i e)) (λ _. keeps-breaks _ R6))
 
   keeps-raise : (id : ℕ) → small id ≡ true → Kept (maximumStep l id)
   unfolding maximumStep
@@ -92,16 +84,11 @@ module _ (l : Ledger) (w : isLedger l ≡ true) where
 
   keeps-count : (a : Arrival) → smallArrival a ≡ true → Kept (arrivalStep l a)
   unfolding arrivalStep smallArrival
-  keeps-count a s = go (find aliasOf (a .alias) 0 (held l)) refl
-    where
-      fits : smallPlace (a .place) ≡ true
-      fits = both-second (small (a .alias)) (smallPlace (a .place)) s
-
-      go : (f : Found) → find aliasOf (a .alias) 0 (held l) ≡ f → Kept (arriveAt l f (a .place))
-      go Missing e = w
-      go (At i) e =
-          rw (arrived-is l i (a .place))
-          (whole _ (keeps-changed l (parts l w) aliasOf (a .alias) i e (after (a .place)) (after-id (a .place)) (after-alias (a .place)) (λ r. after-is (a .place) r fits)))
+  keeps-count a s =
+      let fits = both-second (small (a .alias)) (smallPlace (a .place)) s in
+      by-place aliasOf (a .alias) l (λ f. Kept (arriveAt l f (a .place))) (λ _. w) (λ i e.
+      rw (arrived-is l i (a .place))
+      (whole _ (keeps-changed l (parts l w) aliasOf (a .alias) i e (after (a .place)) (after-id (a .place)) (after-alias (a .place)) (λ r. after-is (a .place) r fits))))
 
   keeps-gated : (sound : Bool) (rest : Came) → (sound ≡ true → Kept rest) → Kept (gated l sound rest)
   unfolding gated

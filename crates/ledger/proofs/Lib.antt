@@ -14,9 +14,5 @@ pub mod Changes
 pub mod Behind
 pub mod Keeps
 pub mod Once
-pub mod Same
 pub mod Naming
 pub mod Running
-pub mod Turning
-pub mod Replies
-pub mod Asking

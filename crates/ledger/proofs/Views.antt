@@ -1,7 +1,6 @@
 -- The rows in use behind a step, by key and not by place: a row changed, added last, or taken out. Assumes nothing.
 use Prim.Native.Nat.{ℕ, zero, suc, _+_, _-_, _≤_, _<_}
 use mathlib.Core.Path.{_≡_, refl, sym, ap, _∙_}
-use mathlib.Core.Bool.{true}
 use mathlib.Core.List.{List, [], _∷_, _++_}
 use native.Mathlib.Numerals.{add-one}
 use native.Mathlib.Omega.{arith}
@@ -10,11 +9,10 @@ use lib.Seq.{take-append-le, drop-append-le, take-set-lt, take-suc-set, getD-tak
 use Rattle.row.specs.Rows.{unusedRow}
 use Rattle.row.specs.declared.Row.{Row}
 use Rattle.ledger.specs.Ledgers.{held}
-use Rattle.ledger.specs.Steps.{find, rowAt, changed, added, freed}
+use Rattle.ledger.specs.Steps.{rowAt, changed, added, freed}
 use Rattle.ledger.specs.declared.Ledger.{Ledger}
-use Rattle.ledger.specs.declared.Found.the-variants.{At}
-use Rattle.ledger.proofs.Finds.{found-used}
-use Rattle.ledger.proofs.Keyed.{editBy, alterBy, removeBy, alter-found, remove-found}
+use Rattle.ledger.proofs.Finds.{IsFirst, first-used}
+use Rattle.ledger.proofs.Keyed.{alterBy, removeBy, alter-found, remove-found}
 
 -- ---- lists without an element
 
@@ -48,12 +46,12 @@ module _ (l : Ledger) where
   held-at i d h = getD-take (l .used) (l .rows) i d h
 
   -- the row at a place in use, by what it is found by
-  pub view-changed : (key : Row → ℕ) (n : ℕ) (i : ℕ) → find key n 0 (held l) ≡ At i → (f : Row → Row) → held (changed l i (f (rowAt l i))) ≡ alterBy key n f (held l)
+  pub view-changed : (key : Row → ℕ) (n : ℕ) (i : ℕ) → IsFirst key n (held l) i → (f : Row → Row) → held (changed l i (f (rowAt l i))) ≡ alterBy key n f (held l)
   view-changed key n i e f =
-      let h : i < l .used = found-used key n l refl e in
+      let h : i < l .used = first-used key n l e in
       held-changed i (f (rowAt l i)) h
       ∙ ap (λ (r : Row). set (held l) i (f r)) (sym (held-at i unusedRow h))
-      ∙ alter-found key n (held l) i e f unusedRow
+      ∙ alter-found key n e f unusedRow
 
   -- a row added last
   pub view-added : (r : Row) → l .used < length (l .rows) → held (added l r) ≡ held l ++ (r ∷ [])
@@ -68,5 +66,5 @@ module _ (l : Ledger) where
       take-gone (l .used - 1) (l .rows) (unusedRow ∷ []) i (omega arith) (omega arith)
       ∙ ap (λ (n : ℕ). take i (take n (l .rows)) ++ drop (suc i) (take n (l .rows))) up
 
-  pub view-freed : (key : Row → ℕ) (n : ℕ) (i : ℕ) → find key n 0 (held l) ≡ At i → l .used ≤ length (l .rows) → held (freed l i) ≡ removeBy key n (held l)
-  view-freed key n i e k = held-freed i (found-used key n l refl e) k ∙ remove-found key n (held l) i e
+  pub view-freed : (key : Row → ℕ) (n : ℕ) (i : ℕ) → IsFirst key n (held l) i → l .used ≤ length (l .rows) → held (freed l i) ≡ removeBy key n (held l)
+  view-freed key n i e k = held-freed i (first-used key n l e) k ∙ remove-found key n e

@@ -5,7 +5,8 @@ use mathlib.Core.List.{List, _∷_, map}
 use Rattle.ledger.specs.Answers.{only}
 use Rattle.ledger.specs.Ledgers.{mostRows, held}
 use Rattle.ledger.specs.declared.Ledger.{Ledger}
-use Rattle.history.specs.Events.{Event, run, told}
+use Rattle.view.specs.Events.{Event}
+use Rattle.history.specs.Events.{run, told}
 use Rattle.history.specs.Orders.{Exchanged}
 use Rattle.history.specs.Rows.{rowsOf}
 use Rattle.history.proofs.Theorems.{exchanged-histories-agree, rows-told-by-their-history}

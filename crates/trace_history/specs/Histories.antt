@@ -7,7 +7,8 @@ use Rattle.ledger.specs.Answers.{Said, only}
 use Rattle.ledger.specs.Steps.{startOf}
 use Rattle.ledger.specs.declared.Ledger.{Ledger}
 use Rattle.ledger.specs.declared.Part.{Part}
-use Rattle.history.specs.Events.{Event, message, malformed, arrival, Told}
+use Rattle.view.specs.Events.{Event, message, malformed, arrival}
+use Rattle.history.specs.Events.{Told}
 use Rattle.trace.specs.Fields.{tagOf, valueOf, sizeOf}
 use Rattle.trace.specs.Feeding.{Held, feed}
 use Rattle.text.specs.Lines.{lineOf}

@@ -1,0 +1,6 @@
+pub mod Turns
+pub mod SameLedger
+pub mod ArraysFollow
+pub mod Guards
+pub mod CountedRows
+pub mod EitherOrder

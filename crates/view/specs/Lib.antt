@@ -1,0 +1,5 @@
+pub mod Keys
+pub mod Views
+pub mod Events
+pub mod Steps
+pub mod Orders
