@@ -18,23 +18,22 @@ use Rattle.message.specs.declared.Message.{Message}
 use Rattle.message.specs.declared.Message.the-variants.{Subscription, Fetch, Announce, Session}
 use Rattle.row.specs.Places.{small, smallPlace}
 use Rattle.row.specs.Ranges.{askedOf, isKnown}
-use Rattle.row.specs.Rows.{pendingRow, mayEnd, isUnused, isPending, isNowhere}
+use Rattle.row.specs.Rows.{pendingRow, openOf, mayEnd, isUnused, isPending, isNowhere}
 use Rattle.row.specs.declared.Ending.{Ending}
 use Rattle.row.specs.declared.Ending.the-variants.{SubscribeError as Erring, SubscribeDone as Ended, Unsubscribe as Leaving}
 use Rattle.row.proofs.Keeping.{after, after-id, after-alias, after-is, opened, opened-id, opened-alias, opened-is, pending-is}
 use Rattle.ledger.specs.Ledgers.{held, rising, hasAlias, distinct, allUnused, bounded, isLedger, emptyLedger}
 use Rattle.ledger.specs.Answers.{Came, Said, only, isOwn, breaks, closedBy, gateOf, gated}
-use Rattle.ledger.specs.Steps.{startOf, idOf, aliasOf, rowAt, noRow, subscribeStep, okAt, okStep, endAt, endStep, maximumStep, arriveAt, arrivalStep, smallArrival, subscriptionStep, messageStep, takeOf, malformedOf, arrivalOf}
+use Rattle.ledger.specs.Steps.{startOf, idOf, aliasOf, rowAt, noRow, subscribeStep, okStep, endStep, maximumStep, arrivalStep, smallArrival, subscriptionStep, messageStep, takeOf, malformedOf, arrivalOf}
 use Rattle.ledger.specs.declared.Part.{Part}
 use Rattle.ledger.specs.declared.Part.the-variants.{Subscriber, Publisher}
 use Rattle.ledger.specs.declared.Rule.{Rule}
 use Rattle.ledger.specs.declared.Rule.the-variants.{R1, R2, R3, R4, R5, R6, R7}
 use Rattle.ledger.specs.declared.Ledger.{Ledger}
 use Rattle.ledger.proofs.Facts.{parts, whole}
-use Rattle.ledger.proofs.Finds.{by-place}
+use Rattle.ledger.proofs.Finds.{on-place}
 use Rattle.ledger.proofs.Gates.{gate-passed}
 use Rattle.ledger.proofs.Sounds.{Asks, sound-subscribe, sound-ok, sound-maximum}
-use Rattle.ledger.proofs.Behind.{arrived-is, opened-at}
 use Rattle.ledger.proofs.Changes.{keeps-changed, keeps-added, keeps-freed, keeps-closed, keeps-maximum}
 
 abbrev pub Kept : Came → Type 0
@@ -65,17 +64,17 @@ module _ (l : Ledger) (w : isLedger l ≡ true) where
   keeps-no-row by id = pick-by Kept (leb (l .next) id) (λ _. keeps-breaks _ R5) (λ _. w)
 
   keeps-ok : (m : SubscribeOk) → soundOf (Subscription (ASubscribeOk m)) ≡ true → Kept (okStep l m)
-  unfolding okStep
+  unfolding okStep opened
   keeps-ok m s =
-      by-place idOf (m .id) l (λ f. Kept (okAt l f m)) (λ _. keeps-no-row Publisher (m .id)) (λ i e.
-      opened-at l i (m .content) Kept
-      (keeps-breaks (isOwn (l .part) Publisher) R6)
-      (whole _ (keeps-changed l (parts l w) idOf (m .id) i e (opened (m .content)) (opened-id (m .content)) (opened-alias (m .content)) (λ r. opened-is (m .content) r (sound-ok m s)))))
+      on-place idOf (m .id) l Kept _ _ (λ _. keeps-no-row Publisher (m .id)) (λ i e.
+      pick-by Kept (eqb (openOf (rowAt l i) (m .content) .number) 8)
+      (λ _. whole _ (keeps-changed l (parts l w) idOf (m .id) i e (opened (m .content)) (opened-id (m .content)) (opened-alias (m .content)) (λ r. opened-is (m .content) r (sound-ok m s))))
+      (λ _. keeps-breaks (isOwn (l .part) Publisher) R6))
 
   keeps-end : (by : Part) (ending : Ending) (id : ℕ) → Kept (endStep l by ending id)
   unfolding endStep
   keeps-end by ending id =
-      by-place idOf id l (λ f. Kept (endAt l f by ending id)) (λ _. keeps-no-row by id) (λ i e.
+      on-place idOf id l Kept _ _ (λ _. keeps-no-row by id) (λ i e.
       pick-by Kept (mayEnd ending (rowAt l i .state)) (λ _. whole _ (keeps-freed l (parts l w) idOf id i e)) (λ _. keeps-breaks _ R6))
 
   keeps-raise : (id : ℕ) → small id ≡ true → Kept (maximumStep l id)
@@ -83,12 +82,11 @@ module _ (l : Ledger) (w : isLedger l ≡ true) where
   keeps-raise id s = pick-by Kept (leb id (l .maximum)) (λ _. keeps-breaks _ R7) (λ _. whole _ (keeps-maximum l (parts l w) id s))
 
   keeps-count : (a : Arrival) → smallArrival a ≡ true → Kept (arrivalStep l a)
-  unfolding arrivalStep smallArrival
+  unfolding arrivalStep smallArrival after
   keeps-count a s =
       let fits = both-second (small (a .alias)) (smallPlace (a .place)) s in
-      by-place aliasOf (a .alias) l (λ f. Kept (arriveAt l f (a .place))) (λ _. w) (λ i e.
-      rw (arrived-is l i (a .place))
-      (whole _ (keeps-changed l (parts l w) aliasOf (a .alias) i e (after (a .place)) (after-id (a .place)) (after-alias (a .place)) (λ r. after-is (a .place) r fits))))
+      on-place aliasOf (a .alias) l Kept _ _ (λ _. w) (λ i e.
+      whole _ (keeps-changed l (parts l w) aliasOf (a .alias) i e (after (a .place)) (after-id (a .place)) (after-alias (a .place)) (λ r. after-is (a .place) r fits)))
 
   keeps-gated : (sound : Bool) (rest : Came) → (sound ≡ true → Kept rest) → Kept (gated l sound rest)
   unfolding gated

@@ -11,7 +11,6 @@ pub mod Rises
 pub mod Sounds
 pub mod Views
 pub mod Changes
-pub mod Behind
 pub mod Keeps
 pub mod Once
 pub mod Naming

@@ -1,38 +1,34 @@
 -- A run of arrivals, one turn after the other. Assumes nothing.
-use Prim.Native.Nat.{ℕ, zero, suc, _+_, _-_, _*_, _/_, _≤_, _<_}
+use Prim.Native.Nat.{ℕ, suc, _+_, _*_, _/_, _≤_, _<_}
 use mathlib.Core.Path.{_≡_, refl, sym, ap, _∙_}
 use mathlib.Core.Bool.{Bool, true, false}
-use mathlib.Core.List.{List, [], _∷_, _++_, map, append-assoc, append-nil}
+use mathlib.Core.List.{List, [], _∷_, _++_, map, append-nil}
 use native.Mathlib.Numerals.{add-one}
 use native.Mathlib.Nat.{add-div-right, lt-div-mul-add, div-mul-le-self}
 use native.Mathlib.Omega.{arith}
-use borrow.Author.Tests.{eq-eqb, ne-eqb, eqb-true, le-leb, lt-leb}
+use borrow.Author.Tests.{ne-eqb, le-leb, lt-leb}
 use lib.Dec.{leb, eqb}
-use lib.ListN.{length, take, drop, getD, set, length-drop, length-append, length-set, length-map}
+use lib.ListN.{length, take, drop, getD, set, length-drop, length-append, length-map}
 use lib.Seq.{drop-cons, set-at, append-snoc, map-set-same}
-use Rattle.integer.specs.Answer.{pick, wrote}
-use Rattle.integer.specs.Integer.{over}
+use Rattle.integer.specs.Answer.{wrote}
 use Rattle.integer.proofs.Cases.{pick-by}
 use Rattle.field.specs.declared.Arrival.{Arrival}
-use Rattle.field.specs.declared.Place.{Place}
 use Rattle.row.specs.Rows.{unusedRow, arriveOf, arrivedNumber, leftBy, toldArriving}
 use Rattle.row.specs.declared.Row.{Row}
 use Rattle.row.specs.declared.Arriving.{Arriving}
-use Rattle.row.specs.declared.Arriving.the-variants.{Waiting, Outside, Counted}
 use Rattle.row.proofs.Keeping.{after, after-alias}
 use Rattle.ledger.specs.Ledgers.{held, isLedger, isOpen}
-use Rattle.ledger.specs.Answers.{Came, same, stops, gateOf, gated}
-use Rattle.ledger.specs.Steps.{find, aliasOf, rowAt, changed, arriveAt, arrivedAt, arrivalStep, arrivalOf, smallArrival}
-use Rattle.ledger.specs.Runs.{arrivalsIn, itself, behind, numbersOf, Run, runOf, saying, Runs}
+use Rattle.ledger.specs.Answers.{Came, only, same, stops, gateOf, gated}
+use Rattle.ledger.specs.Steps.{find, aliasOf, rowAt, changed, arrivalStep, arrivalOf, smallArrival}
+use Rattle.ledger.specs.Runs.{arrivalsIn, itself, behind, numbersOf, runOf, Runs}
 use Rattle.ledger.specs.declared.Ledger.{Ledger}
 use Rattle.ledger.specs.declared.Filled.the-variants.{Done, NotALedger, TooShort}
-use Rattle.ledger.specs.declared.Ran.{Ran}
 use Rattle.ledger.specs.declared.Found.{Found}
 use Rattle.ledger.specs.declared.Found.the-variants.{At, Missing}
 use Rattle.ledger.proofs.Facts.{parts, ledger-used}
-use Rattle.ledger.proofs.Finds.{found-used}
+use Rattle.ledger.proofs.Finds.{found-used, on-place}
 use Rattle.ledger.proofs.Naming.{take-map, find-map}
-use Rattle.ledger.proofs.Behind.{arrived-is, same-row}
+use Rattle.ledger.proofs.Taking.{no-alias, answered}
 use Rattle.ledger.proofs.Keeps.{keeps-arrival}
 
 -- ---- arrivals in a list of numbers
@@ -77,13 +73,10 @@ numbers-long l (a ∷ came) = ap suc (numbers-long (arrivalOf l a .next) came)
 module _ (l : Ledger) (a : Arrival) where
   -- it changes nothing, or the row that it is found at
   arrival-by : (P : Ledger → Type 0) → P l → ((i : ℕ) → P (changed l i (after (a .place) (rowAt l i)))) → P (arrivalOf l a .next)
-  unfolding arrivalOf gated arrivalStep
+  unfolding arrivalOf gated arrivalStep after
   arrival-by P as-was row =
-      pick-by (λ (c : Came). P (c .next)) (eqb (gateOf l (smallArrival a)) 0) (λ _. go (find aliasOf (a .alias) 0 (held l))) (λ _. as-was)
-    where
-      go : (f : Found) → P (arriveAt l f (a .place) .next)
-      go Missing = as-was
-      go (At i) = rw (arrived-is l i (a .place)) (row i)
+      pick-by (λ (c : Came). P (c .next)) (eqb (gateOf l (smallArrival a)) 0)
+      (λ _. on-place aliasOf (a .alias) l (λ (c : Came). P (c .next)) _ _ (λ _. as-was) (λ i _. row i)) (λ _. as-was)
 
   arrival-session : arrivalOf l a .next .session ≡ l .session
   unfolding changed
@@ -181,33 +174,22 @@ module _ {start : Ledger} {run before names : List ℕ} {opened : Bool} {used : 
           unfolding held
           by-alias = found ∙ rw (g .named, g .uses, take-map aliasOf (l .used) (l .rows), find-map)
 
-          step : arrivalOf l (arrivalAt run (3 * k)) ≡ arriveAt l f (arrivalAt run (3 * k) .place)
-          unfolding arrivalStep
-          step = arrival-went l (arrivalAt run (3 * k)) (sym gate ∙ z) ∙ rw by-alias
+          step : arrivalOf l (arrivalAt run (3 * k)) ≡ arrivalStep l (arrivalAt run (3 * k))
+          step = arrival-went l (arrivalAt run (3 * k)) (sym gate ∙ z)
+
+          -- by what the step came to
+          taken-turn : {n : ℕ} {next : Ledger} → record { says = only n; next = next } ≡ arrivalStep l (arrivalAt run (3 * k)) → Along start run before names opened used (set answers k n) next (k + 1)
+          taken-turn e = let s = e ∙ sym step in turn (ap (λ (c : Came). c .next) s) (ap (λ (c : Came). c .says .number) s)
 
           pub missed-turn : f ≡ Missing → Along start run before names opened used (set answers k 18) l (k + 1)
-          missed-turn e =
-              let s = step ∙ ap (λ (x : Found). arriveAt l x (arrivalAt run (3 * k) .place)) e in
-              turn (sym (ap (λ (c : Came). c .next) s)) (sym (ap (λ (c : Came). c .says .number) s))
+          missed-turn e = taken-turn (no-alias l (arrivalAt run (3 * k)) by-alias e)
 
           module _ {i : ℕ} (at : f ≡ At i) where
             pub inside : i < 64
             inside = omega (arith, found-used aliasOf (getD run (3 * k) 0) l by-alias at, ledger-used l (g .is))
 
             pub counted-turn : (w : Arriving) {r : Row} {m : ℕ} → toldArriving w (rowAt l i) ≡ arriveOf (rowAt l i) (arrivalAt run (3 * k) .place) → r ≡ leftBy w (rowAt l i) → m ≡ arrivedNumber w → Along start run before names opened used (set answers k m) (changed l i r) (k + 1)
-            counted-turn w {r} {m} came left number =
-                let s = step ∙ ap (λ (x : Found). arriveAt l x (arrivalAt run (3 * k) .place)) at ∙ ap (arrivedAt l i) (sym came) in
-                turn (rw left (sym (ap (λ (c : Came). c .next) s ∙ next-is w))) (number ∙ sym (ap (λ (c : Came). c .says .number) s ∙ number-is w))
-              where
-                next-is : (w : Arriving) → arrivedAt l i (toldArriving w (rowAt l i)) .next ≡ changed l i (leftBy w (rowAt l i))
-                next-is Waiting = same-row l i
-                next-is Outside = same-row l i
-                next-is (Counted x) = refl
-
-                number-is : (w : Arriving) → arrivedAt l i (toldArriving w (rowAt l i)) .says .number ≡ arrivedNumber w
-                number-is Waiting = refl
-                number-is Outside = refl
-                number-is (Counted x) = refl
+            counted-turn w came left number = taken-turn (rw (left, number) (answered l (arrivalAt run (3 * k)) by-alias at {w = w} came {v = w} refl))
 
   -- behind the last
   module _ {count : ℕ} (e : count ≡ length run / 3) (all : count ≤ k) (to : k ≤ count) where

@@ -1,9 +1,10 @@
 -- Each way that a step may go, as what it comes to. Assumes nothing.
 use Prim.Native.Nat.{ℕ, _≤_, _<_}
-use mathlib.Core.Path.{_≡_, refl, sym, ap, _∙_}
+use mathlib.Core.Path.{_≡_, sym, ap, _∙_}
 use mathlib.Core.Bool.{Bool, true, false}
 use borrow.Author.Tests.{lt-ltb, le-ltb, le-leb, lt-leb}
-use lib.Dec.{leb, ltb}
+use lib.Dec.{eqb}
+use Rattle.integer.specs.Answer.{pick}
 use Rattle.field.specs.declared.Arrival.{Arrival}
 use Rattle.subscription.specs.declared.Subscribe.{Subscribe}
 use Rattle.subscription.specs.declared.SubscribeOk.{SubscribeOk}
@@ -12,7 +13,7 @@ use Rattle.message.specs.Sound.{soundOf}
 use Rattle.message.specs.declared.Message.{Message}
 use Rattle.message.specs.declared.Message.the-variants.{Subscription}
 use Rattle.row.specs.Ranges.{askedOf}
-use Rattle.row.specs.Rows.{pendingRow, arriveOf, openOf, mayEnd, toldArriving, toldOpening}
+use Rattle.row.specs.Rows.{pendingRow, AtRow, arriveOf, openOf, mayEnd, toldArriving, toldOpening}
 use Rattle.row.specs.declared.Range.{Range}
 use Rattle.row.specs.declared.Row.{Row}
 use Rattle.row.specs.declared.Arriving.{Arriving}
@@ -22,7 +23,7 @@ use Rattle.row.specs.declared.Opening.the-variants.{Refused, Opened}
 use Rattle.row.specs.declared.Ending.{Ending}
 use Rattle.ledger.specs.Ledgers.{held, hasAlias}
 use Rattle.ledger.specs.Answers.{Came, only, same, done, isOwn, breaks, gated}
-use Rattle.ledger.specs.Steps.{find, idOf, aliasOf, rowAt, changed, added, freed, noRow, subscribeStep, openedAt, okAt, okStep, endAt, endStep, arrivedAt, arriveAt, arrivalStep, messageStep, takeOf}
+use Rattle.ledger.specs.Steps.{find, idOf, aliasOf, rowAt, changed, added, freed, noRow, subscribeStep, okStep, endStep, arrivalStep, messageStep, takeOf}
 use Rattle.ledger.specs.declared.Part.{Part}
 use Rattle.ledger.specs.declared.Part.the-variants.{Subscriber, Publisher}
 use Rattle.ledger.specs.declared.Rule.the-variants.{R2, R3, R4, R6}
@@ -30,6 +31,7 @@ use Rattle.ledger.specs.declared.Ledger.{Ledger}
 use Rattle.ledger.specs.declared.Found.{Found}
 use Rattle.ledger.specs.declared.Found.the-variants.{At, Missing}
 use Rattle.ledger.proofs.Finds.{isFound, has-found}
+use Rattle.ledger.proofs.Views.{same-row}
 
 -- ---- an arrival
 
@@ -39,23 +41,26 @@ module _ (l : Ledger) (a : Arrival) {f : Found} (found : f ≡ find aliasOf (a .
   no-alias e = rw (← found, e)
 
   module _ {i : ℕ} (at : f ≡ At i) where
-    abbrev at-row : Arriving → Came
-    at-row w = arrivedAt l i (toldArriving w (rowAt l i))
+    abbrev at-row : AtRow → Came
+    at-row x = record { says = only (x .number); next = changed l i (x .row) }
 
     -- the step at the row
-    by-row : (w : Arriving) → toldArriving w (rowAt l i) ≡ arriveOf (rowAt l i) (a .place) → at-row w ≡ arrivalStep l a
+    by-row : at-row (arriveOf (rowAt l i) (a .place)) ≡ arrivalStep l a
     unfolding arrivalStep
-    by-row w came = ap (arrivedAt l i) came ∙ ap (λ (g : Found). arriveAt l g (a .place)) (sym at ∙ found)
+    by-row = rw (← found, at)
 
     module _ {w : Arriving} (came : toldArriving w (rowAt l i) ≡ arriveOf (rowAt l i) (a .place)) where
+      pub answered : {v : Arriving} → w ≡ v → at-row (toldArriving v (rowAt l i)) ≡ arrivalStep l a
+      answered e = ap (λ (v : Arriving). at-row (toldArriving v (rowAt l i))) (sym e) ∙ ap at-row came ∙ by-row
+
       pub waiting : w ≡ Waiting → same l 19 ≡ arrivalStep l a
-      waiting e = ap at-row (sym e) ∙ by-row w came
+      waiting e = ap (λ (k : Ledger). same k 19) (same-row l i) ∙ answered e
 
       pub outside : w ≡ Outside → same l 17 ≡ arrivalStep l a
-      outside e = ap at-row (sym e) ∙ by-row w came
+      outside e = ap (λ (k : Ledger). same k 17) (same-row l i) ∙ answered e
 
       pub counted : {r : Row} {next : Ledger} → w ≡ Counted r → next ≡ changed l i r → record { says = only 16; next = next } ≡ arrivalStep l a
-      counted {r} e n = rw n (ap at-row (sym e) ∙ by-row w came)
+      counted {r} e n = rw n (answered e)
 
 -- ---- SUBSCRIBE_OK
 
@@ -65,19 +70,22 @@ module _ (l : Ledger) (m : SubscribeOk) {f : Found} (found : f ≡ find idOf (m 
   ok-nowhere e h = h ∙ rw (← found, e)
 
   module _ {i : ℕ} (at : f ≡ At i) where
-    abbrev opens : Opening → Came
-    opens o = openedAt l Publisher i (toldOpening o (rowAt l i))
+    abbrev opens : AtRow → Came
+    opens x = pick (eqb (x .number) 8) (done (changed l i (x .row))) (breaks l (isOwn (l .part) Publisher) R6)
 
-    opened-row : (o : Opening) → toldOpening o (rowAt l i) ≡ openOf (rowAt l i) (m .content) → opens o ≡ okStep l m
+    opened-row : opens (openOf (rowAt l i) (m .content)) ≡ okStep l m
     unfolding okStep
-    opened-row o opening = ap (openedAt l Publisher i) opening ∙ ap (λ (g : Found). okAt l g m) (sym at ∙ found)
+    opened-row = rw (← found, at)
 
     module _ {o : Opening} (opening : toldOpening o (rowAt l i) ≡ openOf (rowAt l i) (m .content)) where
+      tried : {v : Opening} → o ≡ v → opens (toldOpening v (rowAt l i)) ≡ okStep l m
+      tried e = ap (λ (v : Opening). opens (toldOpening v (rowAt l i))) (sym e) ∙ ap opens opening ∙ opened-row
+
       pub ok-refused : {own : Bool} {came : Came} → o ≡ Refused → own ≡ isOwn (l .part) Publisher → came ≡ breaks l own R6 → came ≡ okStep l m
-      ok-refused e own h = h ∙ rw own (ap opens (sym e) ∙ opened-row o opening)
+      ok-refused e own h = h ∙ rw own (tried e)
 
       pub ok-opened : {r : Row} {next : Ledger} → o ≡ Opened r → next ≡ changed l i r → done next ≡ okStep l m
-      ok-opened e n = rw n (ap opens (sym e) ∙ opened-row o opening)
+      ok-opened e n = rw n (tried e)
 
 -- ---- what ends a subscription
 

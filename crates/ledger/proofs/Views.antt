@@ -5,11 +5,11 @@ use mathlib.Core.List.{List, [], _∷_, _++_}
 use native.Mathlib.Numerals.{add-one}
 use native.Mathlib.Omega.{arith}
 use lib.ListN.{length, take, drop, getD, set}
-use lib.Seq.{take-append-le, drop-append-le, take-set-lt, take-suc-set, getD-take}
+use lib.Seq.{take-append-le, drop-append-le, take-set-lt, take-suc-set, getD-take, set-getD}
 use Rattle.row.specs.Rows.{unusedRow}
 use Rattle.row.specs.declared.Row.{Row}
 use Rattle.ledger.specs.Ledgers.{held}
-use Rattle.ledger.specs.Steps.{rowAt, changed, added, freed}
+use Rattle.ledger.specs.Steps.{rowAt, withRows, changed, added, freed}
 use Rattle.ledger.specs.declared.Ledger.{Ledger}
 use Rattle.ledger.proofs.Finds.{IsFirst, first-used}
 use Rattle.ledger.proofs.Keyed.{alterBy, removeBy, alter-found, remove-found}
@@ -44,6 +44,11 @@ module _ (l : Ledger) where
   pub held-at : (i : ℕ) (d : Row) → i < l .used → getD (held l) i d ≡ getD (l .rows) i d
   unfolding held
   held-at i d h = getD-take (l .used) (l .rows) i d h
+
+  -- the row itself, stored back
+  pub same-row : (i : ℕ) → l ≡ changed l i (rowAt l i)
+  unfolding changed
+  same-row i = ap (λ (rs : List Row). withRows l rs (l .used) (l .next)) (sym (set-getD (l .rows) i unusedRow))
 
   -- the row at a place in use, by what it is found by
   pub view-changed : (key : Row → ℕ) (n : ℕ) (i : ℕ) → IsFirst key n (held l) i → (f : Row → Row) → held (changed l i (f (rowAt l i))) ≡ alterBy key n f (held l)

@@ -7,8 +7,6 @@ use lib.Dec.{leb, ltb, eqb}
 use Rattle.integer.specs.Answer.{guard, pick}
 use Rattle.field.specs.Outcome.{both}
 use Rattle.field.specs.declared.Arrival.{Arrival}
-use Rattle.field.specs.declared.Place.{Place}
-use Rattle.subscription.specs.declared.Content.{Content}
 use Rattle.subscription.specs.declared.Subscribe.{Subscribe}
 use Rattle.subscription.specs.declared.SubscribeOk.{SubscribeOk}
 use Rattle.subscription.specs.declared.SubscribeError.{SubscribeError}
@@ -20,7 +18,7 @@ use Rattle.message.specs.declared.Message.{Message}
 use Rattle.message.specs.declared.Message.the-variants.{Subscription, Fetch, Announce, Session}
 use Rattle.row.specs.Places.{small, smallPlace}
 use Rattle.row.specs.Ranges.{askedOf}
-use Rattle.row.specs.Rows.{unusedRow, pendingRow, AtRow, arriveOf, openOf, mayEnd}
+use Rattle.row.specs.Rows.{unusedRow, pendingRow, arriveOf, openOf, mayEnd}
 use Rattle.row.specs.declared.Row.{Row}
 use Rattle.row.specs.declared.Ending.{Ending}
 use Rattle.row.specs.declared.Ending.the-variants.{SubscribeError as Erring, SubscribeDone as Ended, Unsubscribe as Leaving}
@@ -39,8 +37,8 @@ use Rattle.ledger.specs.declared.Found.the-variants.{At, Missing}
 -- ---- starting
 
 -- "A ledger starts with its own end's part (subscriber or publisher), a row capacity and a maximum Subscribe ID." 15,
--- "start refused: rows not 1 to 64, maximum above the greatest integer": what is then handed back has no capacity, and every call on
--- it answers 14
+-- "start refused: rows not 1 to 64, maximum above the greatest integer": what is then handed back has no capacity, and
+-- every call on it answers 14
 abbrev pub refusedStart : Part → Came
 refusedStart part = record { says = only 15; next = emptyLedger part 0 0 }
 
@@ -55,6 +53,11 @@ startOf part capacity maximum =
 unfoldable pub find : {A : Type 0} → (A → ℕ) → ℕ → ℕ → List A → Found
 find of n from [] = Missing
 find of n from (r ∷ rs) = pick (eqb (of r) n) (At from) (find of n (from + 1) rs)
+
+-- what comes of it where none has it, and where one stands
+abbrev pub onFound : {A : Type 0} → Found → A → (ℕ → A) → A
+onFound Missing missing at = missing
+onFound (At i) missing at = at i
 
 abbrev pub idOf : Row → ℕ
 idOf r = r .id
@@ -95,16 +98,17 @@ freed l i = withRows l (take i (l .rows) ++ (drop (suc i) (l .rows) ++ unusedRow
 
 -- ---- SUBSCRIBE
 
--- "SUBSCRIBE (sent by the subscriber). R2: ID not above the highest accepted, if any. R3: ID not below the maximum. R4: alias
--- held by any row. Then 11. Else a pending row is added last, its range not known yet for filter 2 and as asked for 3 and 4, and
--- the ID becomes the highest."
+-- "SUBSCRIBE (sent by the subscriber). R2: ID not above the highest accepted, if any. R3: ID not below the maximum. R4:
+-- alias held by any row. Then 11. Else a pending row is added last, its range not known yet for filter 2 and as asked
+-- for 3 and 4, and the ID becomes the highest."
 unfoldable pub subscribeStep : Ledger → Subscribe → Came
 subscribeStep l m =
     let own = isOwn (l .part) (sender (ASubscribe m)) in
     pick (ltb (m .id) (l .next)) (breaks l own R2)
     (pick (leb (l .maximum) (m .id)) (breaks l own R3)
     (pick (hasAlias (m .alias) (held l)) (breaks l own R4)
-    (pick (leb (l .capacity) (l .used)) (same l 11) (done (added l (pendingRow (m .id) (m .alias) (askedOf (m .filter))))))))
+    (pick (leb (l .capacity) (l .used)) (same l 11)
+    (done (added l (pendingRow (m .id) (m .alias) (askedOf (m .filter))))))))
 
 -- ---- SUBSCRIBE_OK, SUBSCRIBE_ERROR, SUBSCRIBE_DONE (publisher), UNSUBSCRIBE (subscriber)
 
@@ -113,25 +117,18 @@ unfoldable pub noRow : Ledger → Part → ℕ → Came
 noRow l by id = pick (leb (l .next) id) (breaks l (isOwn (l .part) by) R5) (same l 12)
 
 -- "OK on pending makes it active"; "R6: OK or ERROR on active"
-abbrev pub openedAt : Ledger → Part → ℕ → AtRow → Came
-openedAt l by i at =
-    pick (eqb (at .number) 8) (done (changed l i (at .row))) (breaks l (isOwn (l .part) by) R6)
-
-abbrev pub okAt : Ledger → Found → SubscribeOk → Came
-okAt l Missing m = noRow l (sender (ASubscribeOk m)) (m .id)
-okAt l (At i) m = openedAt l (sender (ASubscribeOk m)) i (openOf (rowAt l i) (m .content))
-
 unfoldable pub okStep : Ledger → SubscribeOk → Came
-okStep l m = okAt l (find idOf (m .id) 0 (held l)) m
+okStep l m =
+    let by = sender (ASubscribeOk m) in
+    onFound (find idOf (m .id) 0 (held l)) (noRow l by (m .id)) (λ i.
+    let at = openOf (rowAt l i) (m .content) in
+    pick (eqb (at .number) 8) (done (changed l i (at .row))) (breaks l (isOwn (l .part) by) R6))
 
 -- "ERROR on pending, DONE on active and UNSUBSCRIBE on either free it"; "R6: OK or ERROR on active, DONE on pending"
-abbrev pub endAt : Ledger → Found → Part → Ending → ℕ → Came
-endAt l Missing by ending id = noRow l by id
-endAt l (At i) by ending id =
-    pick (mayEnd ending (rowAt l i .state)) (done (freed l i)) (breaks l (isOwn (l .part) by) R6)
-
 unfoldable pub endStep : Ledger → Part → Ending → ℕ → Came
-endStep l by ending id = endAt l (find idOf id 0 (held l)) by ending id
+endStep l by ending id =
+    onFound (find idOf id 0 (held l)) (noRow l by id) (λ i.
+    pick (mayEnd ending (rowAt l i .state)) (done (freed l i)) (breaks l (isOwn (l .part) by) R6))
 
 -- ---- MAX_SUBSCRIBE_ID
 
@@ -153,17 +150,13 @@ maximumStep l id =
 
 -- ---- arrivals
 
--- "An arrival is alias, group, object. With an active row and a place in range it is counted"; "for an arrival 18, 19, 17"
-abbrev pub arrivedAt : Ledger → ℕ → AtRow → Came
-arrivedAt l i at =
-    pick (eqb (at .number) 16) (record { says = only 16; next = changed l i (at .row) }) (same l (at .number))
-
-abbrev pub arriveAt : Ledger → Found → Place → Came
-arriveAt l Missing place = same l 18
-arriveAt l (At i) place = arrivedAt l i (arriveOf (rowAt l i) place)
-
+-- "for an arrival 18, 19, 17": 18 where no row has the alias; else what is answered at the row, and the row that it
+-- leaves
 unfoldable pub arrivalStep : Ledger → Arrival → Came
-arrivalStep l a = arriveAt l (find aliasOf (a .alias) 0 (held l)) (a .place)
+arrivalStep l a =
+    onFound (find aliasOf (a .alias) 0 (held l)) (same l 18) (λ i.
+    let at = arriveOf (rowAt l i) (a .place) in
+    record { says = only (at .number); next = changed l i (at .row) })
 
 unfoldable pub smallArrival : Arrival → Bool
 smallArrival a = both (small (a .alias)) (smallPlace (a .place))

@@ -1,20 +1,18 @@
 -- What becomes of a row is a row, with the same ID and alias. Assumes nothing.
-use Prim.Native.Nat.{ℕ, _+_, _≤_, _<_}
-use mathlib.Core.Path.{_≡_, refl, sym, ap, _∙_}
+use Prim.Native.Nat.{ℕ, _≤_}
+use mathlib.Core.Path.{_≡_, refl}
 use mathlib.Core.Bool.{Bool, true, false, not}
 use native.Mathlib.Omega.{arith}
-use borrow.Author.Tests.{ltb-true, ltb-false, ne-eqb, eqb-false, not-true}
+use borrow.Author.Tests.{ltb-true, ltb-false, ne-eqb}
 use lib.Dec.{ltb, eqb}
-use Rattle.integer.specs.Answer.{pick}
 use Rattle.integer.proofs.Cases.{pick-by}
-use Rattle.field.specs.Outcome.{both}
 use Rattle.field.specs.declared.Place.{Place}
 use Rattle.subscription.specs.declared.Content.{Content}
 use Rattle.subscription.specs.declared.Content.the-variants.{Nothing, Largest}
 use Rattle.measure.proofs.Tests.{both-first, both-second}
 use Rattle.row.specs.Places.{before, small, smallPlace}
 use Rattle.row.specs.Ranges.{inRange, isKnown, smallRange, latest, moved, settledOf}
-use Rattle.row.specs.Rows.{top, agree, suits, isRow, pendingRow, greater, risen, countedRow, AtRow, leaving, arriveIn, arriveOf, activeRow, breaksR6, openIn, openOf}
+use Rattle.row.specs.Rows.{top, agree, suits, isRow, pendingRow, greater, risen, isPending, countedRow, AtRow, leaving, arriveOf, activeRow, breaksR6, openOf}
 use Rattle.row.specs.declared.State.{State}
 use Rattle.row.specs.declared.State.the-variants.{Pending, Active}
 use Rattle.row.specs.declared.Range.{Range}
@@ -35,14 +33,18 @@ pending-is id alias range i a s = rw (i, a, s)
 unfoldable pub after : Place → Row → Row
 after place r = arriveOf r place .row
 
+-- what is not pending is active
+is-active : (s : State) → isPending s ≡ false → s ≡ Active
+unfolding isPending
+is-active Pending e = absurd (let z : _≡_ {A = ℕ} 0 1 = cc in omega arith)
+is-active Active e = refl
+
 -- it waits, it is outside, or it is counted at an active row
 pub arrive-by : (P : AtRow → Type 0) (place : Place) (r : Row) → P (leaving 19 r) → P (leaving 17 r) → (r .state ≡ Active → P (leaving 16 (countedRow r place))) → P (arriveOf r place)
 unfolding arriveOf
-arrive-by P place r waits misses counts = go (r .state) refl
-  where
-    go : (s : State) → r .state ≡ s → P (arriveIn s r place)
-    go Pending e = waits
-    go Active e = pick-by P (inRange (r .range) place) (λ _. counts e) (λ _. misses)
+arrive-by P place r waits misses counts =
+    pick-by P (isPending (r .state)) (λ _. waits) (λ e.
+    pick-by P (inRange (r .range) place) (λ _. counts (is-active (r .state) e)) (λ _. misses))
 
 -- so nothing changes, or it is counted
 after-by : (P : Row → Type 0) (place : Place) (r : Row) → P r → (r .state ≡ Active → P (countedRow r place)) → P (after place r)
@@ -96,11 +98,7 @@ opened content r = openOf r content .row
 -- a rule is broken, or a pending row is active now
 pub open-by : (P : AtRow → Type 0) (content : Content) (r : Row) → P (breaksR6 r) → P (leaving 8 (activeRow r (settledOf (r .range) content))) → P (openOf r content)
 unfolding openOf
-open-by P content r refused active = go (r .state)
-  where
-    go : (s : State) → P (openIn s r content)
-    go Pending = active
-    go Active = refused
+open-by P content r refused active = pick-by P (isPending (r .state)) (λ _. active) (λ _. refused)
 
 -- so nothing changes, or it is active
 opened-by : (P : Row → Type 0) (content : Content) (r : Row) → P r → P (activeRow r (settledOf (r .range) content)) → P (opened content r)

@@ -68,7 +68,8 @@ isUnused r =
 
 -- "a pending row is added"
 abbrev pub pendingRow : ℕ → ℕ → Range → Row
-pendingRow id alias range = record { id = id; alias = alias; state = Pending; range = range; greatest = Nowhere; count = 0 }
+pendingRow id alias range =
+    record { id = id; alias = alias; state = Pending; range = range; greatest = Nowhere; count = 0 }
 
 -- "the row keeps the greater place"
 unfoldable pub greater : Greatest → Place → Place
@@ -98,15 +99,14 @@ pub record AtRow : Type 0 where
 abbrev pub leaving : ℕ → Row → AtRow
 leaving number row = record { number = number; rule = 0; row = row }
 
--- 19, "row still pending"; 17, "outside the range"; 16, "arrival counted": "With an active row and a place in range it is counted"
-abbrev pub arriveIn : State → Row → Place → AtRow
-arriveIn Pending r place = leaving 19 r
-arriveIn Active r place = guard (inRange (r .range) place) (leaving 17 r) (leaving 16 (countedRow r place))
-
+-- 19, "row still pending"; 17, "outside the range"; 16, "arrival counted": "With an active row and a place in range it
+-- is counted"
 unfoldable pub arriveOf : Row → Place → AtRow
-arriveOf r place = arriveIn (r .state) r place
+arriveOf r place =
+    pick (isPending (r .state)) (leaving 19 r)
+    (guard (inRange (r .range) place) (leaving 17 r) (leaving 16 (countedRow r place)))
 
--- "OK on pending makes it active", with the range that it settles
+-- an active row, with the range that SUBSCRIBE_OK settles
 abbrev pub activeRow : Row → Range → Row
 activeRow r range = record {
   id = r .id;
@@ -121,12 +121,10 @@ activeRow r range = record {
 abbrev pub breaksR6 : Row → AtRow
 breaksR6 r = record { number = 13; rule = 6; row = r }
 
-abbrev pub openIn : State → Row → Content → AtRow
-openIn Pending r content = leaving 8 (activeRow r (settledOf (r .range) content))
-openIn Active r content = breaksR6 r
-
+-- "OK on pending makes it active"
 unfoldable pub openOf : Row → Content → AtRow
-openOf r content = openIn (r .state) r content
+openOf r content =
+    guard (isPending (r .state)) (breaksR6 r) (leaving 8 (activeRow r (settledOf (r .range) content)))
 
 -- "ERROR on pending, DONE on active and UNSUBSCRIBE on either free it"
 abbrev pub mayEnd : Ending → State → Bool

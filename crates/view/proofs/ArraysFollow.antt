@@ -4,10 +4,9 @@ use mathlib.Core.Path.{_≡_, refl, sym, ap, _∙_}
 use mathlib.Core.Bool.{Bool, true, false}
 use mathlib.Core.List.{List, [], _∷_, _++_}
 use native.Mathlib.Omega.{arith}
-use borrow.Author.Tests.{leb-false, eqb-true}
+use borrow.Author.Tests.{leb-false}
 use lib.Dec.{leb, ltb, eqb}
 use Rattle.integer.specs.Answer.{pick}
-use Rattle.integer.proofs.Cases.{pick-by}
 use Rattle.field.specs.declared.Arrival.{Arrival}
 use Rattle.subscription.specs.declared.Subscribe.{Subscribe}
 use Rattle.subscription.specs.declared.SubscribeOk.{SubscribeOk}
@@ -21,18 +20,17 @@ use Rattle.row.specs.declared.Ending.the-variants.{SubscribeError as Erring, Su
 use Rattle.row.proofs.Keeping.{after, opened, open-by}
 use Rattle.ledger.specs.Ledgers.{held, hasAlias, isLedger, isOpen}
 use Rattle.ledger.specs.Answers.{Came, only, same, done, isOwn, breaks, gated, gateOf, stops}
-use Rattle.ledger.specs.Steps.{idOf, aliasOf, rowAt, changed, added, freed, subscribeStep, maximumStep, okStep, openedAt, endStep, arrivalStep, arrivedAt, subscriptionStep, messageStep, takeOf, malformedOf, arrivalOf, noRow as noRowAt, okAt as okFound, endAt as endFound, arriveAt as arriveFound}
+use Rattle.ledger.specs.Steps.{idOf, aliasOf, rowAt, changed, added, freed, subscribeStep, maximumStep, okStep, endStep, arrivalStep, subscriptionStep, messageStep, takeOf, malformedOf, arrivalOf, noRow as noRowAt}
 use Rattle.ledger.specs.declared.Ledger.{Ledger}
 use Rattle.ledger.specs.declared.Part.{Part}
 use Rattle.ledger.specs.declared.Part.the-variants.{Subscriber, Publisher}
 use Rattle.ledger.specs.declared.Rule.{Rule}
 use Rattle.ledger.specs.declared.Rule.the-variants.{R1, R2, R3, R4, R5, R6, R7}
 use Rattle.ledger.proofs.Facts.{parts, ledger-used}
-use Rattle.ledger.proofs.Finds.{HasNone, IsFirst, by-place, first-used}
+use Rattle.ledger.proofs.Finds.{HasNone, IsFirst, on-place, first-used}
 use Rattle.ledger.proofs.Parts.{held-long}
 use Rattle.ledger.proofs.Views.{held-at, view-changed, view-added, view-freed}
 use Rattle.ledger.proofs.Changes.{within-places, within-room}
-use Rattle.ledger.proofs.Behind.{arrived-is}
 use Rattle.view.specs.Keys.{Looked, one, look, found, Change, gone, now, turn}
 use Rattle.view.specs.Views.{View, Seen, standingOf, viewOf, seenOf}
 use Rattle.view.specs.Events.{Event, message, malformed, arrival, comes, isSound}
@@ -117,22 +115,17 @@ module _ (l : Ledger) where
       (view-changed l key n i e f ∙ alter-turns key n f (held l))
 
   -- an arrival
-  arrived-says : (i : ℕ) (at : AtRow) → arrivedAt l i at .says ≡ only (at .number)
-  arrived-says i at =
-      pick-by (λ (c : Came). c .says ≡ only (at .number)) (eqb (at .number) 16) (λ e. ap only (sym (eqb-true (at .number) 16 e))) (λ _. refl)
-
-  arrived-follows : (own : Bool) (a : Arrival) (i : ℕ) → IsFirst aliasOf (a .alias) (held l) i → seenOf (arrivedAt l i (arriveOf (rowAt l i) (a .place))) ≡ turned l aliasOf (a .alias) own (λ r. arriveAt (a .place) r .row) (arriveAt (a .place) (rowAt l i) .reply)
+  arrived-follows : (a : Arrival) (i : ℕ) → IsFirst aliasOf (a .alias) (held l) i → let at = arriveOf (rowAt l i) (a .place) in seenOf (record { says = only (at .number); next = changed l i (at .row) }) ≡ byAlias (viewOf l) (a .alias) (arriveAt (a .place))
   unfolding after arriveAt
-  arrived-follows own a i e =
-      (λ j. seenOf (record { says = arrived-says i (arriveOf (rowAt l i) (a .place)) j; next = arrived-is l i (a .place) j }))
-      ∙ changed-follows aliasOf (a .alias) i e (after (a .place)) (arriveOf (rowAt l i) (a .place) .number) own
+  arrived-follows a i h =
+      changed-follows aliasOf (a .alias) i h (after (a .place)) (arriveOf (rowAt l i) (a .place) .number) (isOwn (l .part) Publisher)
+      ∙ first-named l aliasOf (a .alias) (isOwn (l .part) Publisher) (answer 18) (arriveAt (a .place)) h
 
   arrival-follows : (a : Arrival) → seenOf (arrivalStep l a) ≡ byAlias (viewOf l) (a .alias) (arriveAt (a .place))
   unfolding arrivalStep
   arrival-follows a =
-      by-place aliasOf (a .alias) l (λ f. seenOf (arriveFound l f (a .place)) ≡ byAlias (viewOf l) (a .alias) (arriveAt (a .place)))
-      (λ h. missing-named l aliasOf (a .alias) _ (answer 18) (arriveAt (a .place)) h)
-      (λ i h. arrived-follows _ a i h ∙ first-named l aliasOf (a .alias) _ (answer 18) (arriveAt (a .place)) h)
+      on-place aliasOf (a .alias) l (λ (c : Came). seenOf c ≡ byAlias (viewOf l) (a .alias) (arriveAt (a .place))) _ _
+      (missing-named l aliasOf (a .alias) (isOwn (l .part) Publisher) (answer 18) (arriveAt (a .place))) (arrived-follows a)
 
   -- what names an ID
   module _ (by : Part) (id : ℕ) (at : Row → RowStep) where
@@ -146,14 +139,17 @@ module _ (l : Ledger) where
     first-follows c h e = e ∙ first-named l idOf id own (noRow (standingOf l) id) at h
 
   -- SUBSCRIBE_OK
-  opened-follows : (m : SubscribeOk) (i : ℕ) → IsFirst idOf (m .id) (held l) i → seenOf (openedAt l Publisher i (openOf (rowAt l i) (m .content))) ≡ turned l idOf (m .id) (isOwn (l .part) Publisher) (λ r. okAt (m .content) r .row) (okAt (m .content) (rowAt l i) .reply)
+  abbrev openedAs : ℕ → AtRow → Came
+  openedAs i x = pick (eqb (x .number) 8) (done (changed l i (x .row))) (breaks l (isOwn (l .part) Publisher) R6)
+
+  opened-follows : (m : SubscribeOk) (i : ℕ) → IsFirst idOf (m .id) (held l) i → seenOf (openedAs i (openOf (rowAt l i) (m .content))) ≡ turned l idOf (m .id) (isOwn (l .part) Publisher) (λ r. okAt (m .content) r .row) (okAt (m .content) (rowAt l i) .reply)
   unfolding okAt opened
-  opened-follows m i f =
+  opened-follows m i h =
       open-by
-      (λ (x : AtRow). x .row ≡ opened (m .content) (rowAt l i) → seenOf (openedAt l Publisher i x) ≡ turned l idOf (m .id) own′ row (pick (eqb (x .number) 8) (answer 8) (broken R6)))
+      (λ (x : AtRow). x .row ≡ opened (m .content) (rowAt l i) → seenOf (openedAs i x) ≡ turned l idOf (m .id) own′ row (pick (eqb (x .number) 8) (answer 8) (broken R6)))
       (m .content) (rowAt l i)
-      (λ h. breaks-follow own′ R6 ∙ first-stays l idOf (m .id) own′ row (broken R6) f (ap now (sym h)))
-      (λ h. ap (λ (r : Row). seenOf (done (changed l i r))) h ∙ changed-follows idOf (m .id) i f (opened (m .content)) 8 own′)
+      (λ same. breaks-follow own′ R6 ∙ first-stays l idOf (m .id) own′ row (broken R6) h (ap now (sym same)))
+      (λ same. ap (λ (r : Row). seenOf (done (changed l i r))) same ∙ changed-follows idOf (m .id) i h (opened (m .content)) 8 own′)
       refl
     where
       own′ : Bool
@@ -165,7 +161,7 @@ module _ (l : Ledger) where
   ok-follows : (m : SubscribeOk) → seenOf (okStep l m) ≡ byId (viewOf l) Publisher (m .id) (okAt (m .content))
   unfolding okStep
   ok-follows m =
-      by-place idOf (m .id) l (λ f. seenOf (okFound l f m) ≡ byId (viewOf l) Publisher (m .id) (okAt (m .content)))
+      on-place idOf (m .id) l (λ (c : Came). seenOf c ≡ byId (viewOf l) Publisher (m .id) (okAt (m .content))) _ _
       (missing-follows Publisher (m .id) (okAt (m .content))) (λ i h. first-follows Publisher (m .id) (okAt (m .content)) _ h (opened-follows m i h))
 
   module _ (w : isLedger l ≡ true) where
@@ -202,7 +198,7 @@ module _ (l : Ledger) where
     end-follows : (by : Part) (ending : Ending) (id : ℕ) → seenOf (endStep l by ending id) ≡ byId (viewOf l) by id (endAt ending)
     unfolding endStep
     end-follows by ending id =
-        by-place idOf id l (λ f. seenOf (endFound l f by ending id) ≡ byId (viewOf l) by id (endAt ending))
+        on-place idOf id l (λ (c : Came). seenOf c ≡ byId (viewOf l) by id (endAt ending)) _ _
         (missing-follows by id (endAt ending)) (λ i h. first-follows by id (endAt ending) _ h (ended-follows by ending id i h))
 
     -- SUBSCRIBE

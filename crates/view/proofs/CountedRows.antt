@@ -1,17 +1,14 @@
 -- What an arrival makes of a row does not depend on the arrivals before it. Assumes nothing.
-use Prim.Native.Nat.{ℕ}
 use mathlib.Core.Path.{_≡_, refl, sym, ap, _∙_}
-use mathlib.Core.Bool.{Bool, true, false}
+use mathlib.Core.Bool.{Bool, true, false, not}
 use Rattle.integer.specs.Answer.{pick}
 use Rattle.field.specs.Outcome.{both}
 use Rattle.field.specs.declared.Place.{Place}
 use Rattle.row.proofs.Keeping.{after, arrive-by}
 use Rattle.row.proofs.Ordering.{greater-either}
 use Rattle.row.specs.Ranges.{inRange}
-use Rattle.row.specs.Rows.{AtRow, risen, countedRow, leaving, arriveIn, arriveOf}
+use Rattle.row.specs.Rows.{isPending, AtRow, risen, countedRow, leaving, arriveOf}
 use Rattle.row.specs.declared.Row.{Row}
-use Rattle.row.specs.declared.State.{State}
-use Rattle.row.specs.declared.State.the-variants.{Pending, Active}
 use Rattle.row.specs.declared.Greatest.the-variants.{At}
 
 -- ---- what an arrival leaves as it was
@@ -26,21 +23,14 @@ module _ (p : Place) (r : Row) where
   after-range = arrive-by (λ (x : AtRow). x .row .range ≡ r .range) p r refl refl (λ _. refl)
 
 -- so another is answered as before,
-abbrev numberBy : State → Bool → ℕ
-numberBy Pending within = 19
-numberBy Active within = pick within 16 17
-
-number-is : (r : Row) (p : Place) → arriveOf r p .number ≡ numberBy (r .state) (inRange (r .range) p)
+number-is : (r : Row) (p : Place) → arriveOf r p .number ≡ pick (isPending (r .state)) 19 (pick (inRange (r .range) p) 16 17)
 unfolding arriveOf
-number-is r p = go (r .state)
+number-is r p = go (isPending (r .state)) (inRange (r .range) p)
   where
-    within : (b : Bool) → pick b (leaving 16 (countedRow r p)) (leaving 17 r) .number ≡ pick b 16 17
-    within true = refl
-    within false = refl
-
-    go : (s : State) → arriveIn s r p .number ≡ numberBy s (inRange (r .range) p)
-    go Pending = refl
-    go Active = within (inRange (r .range) p)
+    go : (s b : Bool) → pick s (leaving 19 r) (pick b (leaving 16 (countedRow r p)) (leaving 17 r)) .number ≡ pick s 19 (pick b 16 17)
+    go true b = refl
+    go false true = refl
+    go false false = refl
 
 pub number-after : (p q : Place) (r : Row) → arriveOf (after p r) q .number ≡ arriveOf r q .number
 number-after p q r =
@@ -48,28 +38,21 @@ number-after p q r =
 
 -- ---- and either may come first
 
-abbrev isActive : State → Bool
-isActive Pending = false
-isActive Active = true
-
 -- whether an arrival is counted in a row, and the row then
 counts : Row → Place → Bool
-counts r p = both (isActive (r .state)) (inRange (r .range) p)
+counts r p = both (not (isPending (r .state))) (inRange (r .range) p)
 
 abbrev grown : Row → Place → Bool → Row
 grown r p b = pick b (countedRow r p) r
 
 after-is : (p : Place) (r : Row) → after p r ≡ grown r p (counts r p)
 unfolding after arriveOf counts
-after-is p r = go (r .state)
+after-is p r = go (isPending (r .state)) (inRange (r .range) p)
   where
-    within : (b : Bool) → pick b (leaving 16 (countedRow r p)) (leaving 17 r) .row ≡ grown r p b
-    within true = refl
-    within false = refl
-
-    go : (s : State) → arriveIn s r p .row ≡ grown r p (both (isActive s) (inRange (r .range) p))
-    go Pending = refl
-    go Active = within (inRange (r .range) p)
+    go : (s b : Bool) → pick s (leaving 19 r) (pick b (leaving 16 (countedRow r p)) (leaving 17 r)) .row ≡ grown r p (both (not s) b)
+    go true b = refl
+    go false true = refl
+    go false false = refl
 
 counts-after : (p q : Place) (r : Row) → counts (after p r) q ≡ counts r q
 unfolding counts

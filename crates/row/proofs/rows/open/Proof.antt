@@ -1,11 +1,11 @@
 -- `open` meets its contract. Assumes nothing.
 use borrow.Author.Needs.{needs}
-use Rattle.row.specs.Rows.{openOf}
+use Rattle.row.specs.Rows.{isPending, openOf}
 use Rattle.row.proofs.rows.open.Statement.{statement}
 use Rattle.row.proofs.rows.open.Tie as tie
 
 pub open-spec : {M : Type 1} → statement M
-unfolding openOf
+unfolding openOf isPending
 open-spec =
     tie.close
     (tie.spec
