@@ -24,7 +24,7 @@ use Rattle.row.specs.declared.Ending.the-variants.{SubscribeError as Erring, Su
 use Rattle.row.proofs.Keeping.{arrive-by, open-by}
 use Rattle.ledger.specs.Ledgers.{hasAlias, isOpen}
 use Rattle.ledger.specs.Answers.{only, isOwn}
-use Rattle.ledger.specs.Steps.{idOf, aliasOf}
+use Rattle.ledger.specs.Steps.{idOf, aliasOf, newRow}
 use Rattle.ledger.specs.declared.Ledger.{Ledger}
 use Rattle.ledger.specs.declared.Part.{Part}
 use Rattle.ledger.specs.declared.Part.the-variants.{Subscriber, Publisher}
@@ -33,7 +33,7 @@ use Rattle.ledger.specs.declared.Rule.the-variants.{R1, R2, R3, R4, R5, R6, R7}
 use Rattle.view.specs.Keys.{Looked, none, one, look, found, Change, gone, now, turn}
 use Rattle.view.specs.Views.{View, Seen, viewOf, seenOf}
 use Rattle.view.specs.Events.{Event, message, malformed, arrival, comes, isSound}
-use Rattle.view.specs.Steps.{Reply, answer, broken, saidBy, closing, replied, unchanged, newRow, withHighest, subscribeSeen, RowStep, named, noRow, okAt, endAt, byId, withMaximum, maximumSeen, arriveAt, subscriptionSeen, eventSeen, viewStep}
+use Rattle.view.specs.Steps.{Reply, answer, broken, saidBy, closing, replied, unchanged, withHighest, subscribeSeen, RowStep, named, noRow, okAt, endAt, byId, withMaximum, maximumSeen, arriveAt, subscriptionSeen, eventSeen, viewStep}
 use Rattle.view.proofs.Turns.{turn-found, turn-same}
 use Rattle.view.proofs.ArraysFollow.{seen-by}
 use Rattle.history.specs.Closings.{isPeers}

@@ -21,7 +21,7 @@ use Rattle.ledger.proofs.Parts.{rest-next}
 use Rattle.ledger.proofs.Finds.{IsFirst, first-used}
 use Rattle.ledger.proofs.Facts.{IsLedger}
 use Rattle.ledger.proofs.Rises.{rising-alter, distinct-alter, rising-last, distinct-last, rising-remove, distinct-remove, unused-last, unused-rest}
-use Rattle.ledger.proofs.Views.{drop-gone, view-changed, view-added, view-freed}
+use Rattle.ledger.proofs.HeldRows.{drop-gone, held-changed-by, held-added, held-freed-by}
 
 -- without one element and with another, a list is as long
 gone-long : (xs : List Row) (x : Row) (i : ℕ) → i < length xs → length (take i xs ++ (drop (suc i) xs ++ (x ∷ []))) ≡ length xs
@@ -43,12 +43,12 @@ module _ (l : Ledger) (w : IsLedger l) where
   pub keeps-changed : (key : Row → ℕ) (n i : ℕ) → IsFirst key n (held l) i → (f : Row → Row) → ((r : Row) → f r .id ≡ r .id) → ((r : Row) → f r .alias ≡ r .alias) → ((r : Row) → isRow r ≡ true → isRow (f r) ≡ true) → IsLedger (changed l i (f (rowAt l i)))
   unfolding changed
   keeps-changed key n i e f id alias is =
-      let view = view-changed l key n i e f in
+      let rows = held-changed-by l key n i e f in
       record {
         long = length-set (l .rows) i (f (rowAt l i)) ∙ w .long;
         within = w .within;
-        rises = rw view (rising-alter key n f id is 0 (l .next) (held l) (w .rises));
-        apart = rw view (distinct-alter key n f alias (held l) ∙ w .apart);
+        rises = rw rows (rising-alter key n f id is 0 (l .next) (held l) (w .rises));
+        apart = rw rows (distinct-alter key n f alias (held l) ∙ w .apart);
         rest = rw (drop-set-lt (l .used) (l .rows) i (f (rowAt l i)) (first-used key n l e)) (w .rest);
       }
 
@@ -62,13 +62,13 @@ module _ (l : Ledger) (w : IsLedger l) where
   keeps-added r room above id fresh is =
       let b = w .within in
       let inside : l .used < length (l .rows) = within-room room in
-      let view = view-added l r inside in
+      let rows = held-added l r inside in
       record {
         long = length-set (l .rows) (l .used) r ∙ w .long;
         within =
             record { some = b .some; few = b .few; room = omega arith; least = b .least; most = omega (arith, leb-true (r .id) greatest id) };
-        rises = rw view (rising-last 0 (l .next) (held l) r (w .rises) (omega arith) above is);
-        apart = rw view (distinct-last (held l) r (w .apart) fresh);
+        rises = rw rows (rising-last 0 (l .next) (held l) r (w .rises) (omega arith) above is);
+        apart = rw rows (distinct-last (held l) r (w .apart) fresh);
         rest = rw (drop-set-lt (l .used + 1) (l .rows) (l .used) r (omega arith)) (behind-first inside);
       }
 
@@ -80,7 +80,7 @@ module _ (l : Ledger) (w : IsLedger l) where
       let h : i < l .used = first-used key n l e in
       let up : suc (l .used - 1) ≡ l .used = omega arith in
       let inside : l .used - 1 < length (l .rows) = omega (arith, within-places) in
-      let view = view-freed l key n i e within-places in
+      let rows = held-freed-by l key n i e within-places in
       let behind : drop (l .used - 1) (take i (l .rows) ++ (drop (suc i) (l .rows) ++ (unusedRow ∷ []))) ≡ drop (l .used) (l .rows) ++ (unusedRow ∷ []) =
       drop-gone (l .used - 1) (l .rows) (unusedRow ∷ []) i (omega arith) inside
       ∙ ap (λ (k : ℕ). drop k (l .rows) ++ (unusedRow ∷ [])) up
@@ -88,8 +88,8 @@ module _ (l : Ledger) (w : IsLedger l) where
       record {
         long = gone-long (l .rows) unusedRow i (omega (arith, within-places)) ∙ w .long;
         within = record { some = b .some; few = b .few; room = omega (arith, b .room); least = b .least; most = b .most };
-        rises = rw view (rising-remove key n 0 (l .next) (held l) (w .rises));
-        apart = rw view (distinct-remove key n (held l) (w .apart));
+        rises = rw rows (rising-remove key n 0 (l .next) (held l) (w .rises));
+        apart = rw rows (distinct-remove key n (held l) (w .apart));
         rest = rw behind (unused-last (drop (l .used) (l .rows)) (w .rest));
       }
 

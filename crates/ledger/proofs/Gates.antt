@@ -1,15 +1,12 @@
 -- What every call looks at first, and what it then comes to. Assumes nothing.
 use Prim.Native.Nat.{ℕ, _≤_}
 use mathlib.Core.Path.{_≡_, refl, sym, ap, _∙_}
-use mathlib.Core.Bool.{Bool, true, false, not}
+use mathlib.Core.Bool.{Bool, true, false}
 use native.Mathlib.Omega.{arith}
 use borrow.Author.Tests.{eq-eqb, ne-eqb}
-use lib.Dec.{eqb}
 use Rattle.integer.specs.Answer.{pick}
-use Rattle.layout.proofs.Steps.{kept, broken}
 use Rattle.ledger.specs.Ledgers.{isLedger, isOpen}
-use Rattle.ledger.specs.Answers.{Said, only, said, told, Came, same, stops, gateOf, toldGate, gated}
-use Rattle.ledger.specs.declared.Session.{Session}
+use Rattle.ledger.specs.Answers.{Said, only, said, told, Came, stops, gateOf, toldGate, gated}
 use Rattle.ledger.specs.declared.Ledger.{Ledger}
 use Rattle.ledger.specs.declared.Answer.{Answer}
 use Rattle.ledger.specs.declared.Answer.the-variants.{Forbidden, Done, NotKept, AlreadyClosed, Full, Stale, Breaks, NotALedger, StartRefused, Counted, Outside, NoRow, StillPending}

@@ -9,7 +9,7 @@ pub mod Taking
 pub mod Keyed
 pub mod Rises
 pub mod Sounds
-pub mod Views
+pub mod HeldRows
 pub mod Changes
 pub mod Keeps
 pub mod Once

@@ -6,7 +6,6 @@ use native.Mathlib.Numerals.{add-one}
 use native.Mathlib.Omega.{arith}
 use lib.ListN.{length, take, getD, set, length-set, length-map, List·getD-map}
 use lib.Seq.{take-all, take-suc, take-suc-set}
-use Rattle.row.specs.Rows.{unusedRow}
 use Rattle.row.specs.declared.Row.{Row}
 use Rattle.ledger.specs.Steps.{find, aliasOf}
 use Rattle.ledger.specs.Runs.{itself}

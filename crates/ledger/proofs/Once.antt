@@ -5,7 +5,7 @@ use mathlib.Core.Path.{_≡_, refl, sym, ap, _∙_}
 use mathlib.Core.List.{List}
 use lib.Dec.{eqb}
 use Rattle.integer.specs.Answer.{pick, Answer as AnswerOf, whole, refused, Nothing}
-use Rattle.ledger.specs.Answers.{ruleNumber, Said, only, said, Came, told}
+use Rattle.ledger.specs.Answers.{ruleNumber, Said, said, Came, told}
 use Rattle.ledger.specs.declared.Rule.{Rule}
 use Rattle.ledger.specs.declared.Rule.the-variants.{R1, R2, R3, R4, R5, R6, R7}
 use Rattle.ledger.specs.declared.Answer.{Answer}

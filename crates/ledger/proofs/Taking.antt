@@ -31,7 +31,7 @@ use Rattle.ledger.specs.declared.Ledger.{Ledger}
 use Rattle.ledger.specs.declared.Found.{Found}
 use Rattle.ledger.specs.declared.Found.the-variants.{At, Missing}
 use Rattle.ledger.proofs.Finds.{isFound, has-found}
-use Rattle.ledger.proofs.Views.{same-row}
+use Rattle.ledger.proofs.HeldRows.{same-row}
 
 -- ---- an arrival
 

@@ -9,8 +9,6 @@ use Rattle.field.specs.Outcome.{both}
 use Rattle.field.specs.declared.Arrival.{Arrival}
 use Rattle.subscription.specs.declared.Subscribe.{Subscribe}
 use Rattle.subscription.specs.declared.SubscribeOk.{SubscribeOk}
-use Rattle.subscription.specs.declared.SubscribeError.{SubscribeError}
-use Rattle.subscription.specs.declared.SubscribeDone.{SubscribeDone}
 use Rattle.subscription.specs.declared.SubscriptionMessage.{SubscriptionMessage}
 use Rattle.subscription.specs.declared.SubscriptionMessage.the-variants.{SubscribeUpdate as ASubscribeUpdate, Subscribe as ASubscribe, SubscribeOk as ASubscribeOk, SubscribeError as ASubscribeError, Unsubscribe as AUnsubscribe, SubscribeDone as ASubscribeDone, MaxSubscribeId as AMaxSubscribeId, SubscribesBlocked as ASubscribesBlocked}
 use Rattle.message.specs.Sound.{soundOf}
@@ -26,7 +24,6 @@ use Rattle.ledger.specs.Ledgers.{mostRows, held, hasAlias, emptyLedger}
 use Rattle.ledger.specs.Answers.{Came, only, same, done, isOwn, breaks, gated}
 use Rattle.ledger.specs.Senders.{sender}
 use Rattle.ledger.specs.declared.Part.{Part}
-use Rattle.ledger.specs.declared.Rule.{Rule}
 use Rattle.ledger.specs.declared.Rule.the-variants.{R1, R2, R3, R4, R5, R6, R7}
 use Rattle.ledger.specs.declared.Ledger.{Ledger}
 use Rattle.ledger.specs.declared.Key.{Key}
@@ -98,6 +95,10 @@ freed l i = withRows l (take i (l .rows) ++ (drop (suc i) (l .rows) ++ unusedRow
 
 -- ---- SUBSCRIBE
 
+-- "a pending row", "its range not known yet for filter 2 and as asked for 3 and 4"
+abbrev pub newRow : Subscribe → Row
+newRow m = pendingRow (m .id) (m .alias) (askedOf (m .filter))
+
 -- "SUBSCRIBE (sent by the subscriber). R2: ID not above the highest accepted, if any. R3: ID not below the maximum. R4:
 -- alias held by any row. Then 11. Else a pending row is added last, its range not known yet for filter 2 and as asked
 -- for 3 and 4, and the ID becomes the highest."
@@ -107,8 +108,7 @@ subscribeStep l m =
     pick (ltb (m .id) (l .next)) (breaks l own R2)
     (pick (leb (l .maximum) (m .id)) (breaks l own R3)
     (pick (hasAlias (m .alias) (held l)) (breaks l own R4)
-    (pick (leb (l .capacity) (l .used)) (same l 11)
-    (done (added l (pendingRow (m .id) (m .alias) (askedOf (m .filter))))))))
+    (pick (leb (l .capacity) (l .used)) (same l 11) (done (added l (newRow m))))))
 
 -- ---- SUBSCRIBE_OK, SUBSCRIBE_ERROR, SUBSCRIBE_DONE (publisher), UNSUBSCRIBE (subscriber)
 

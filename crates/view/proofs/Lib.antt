@@ -4,3 +4,4 @@ pub mod ArraysFollow
 pub mod Guards
 pub mod CountedRows
 pub mod EitherOrder
+pub mod Theorems

@@ -11,15 +11,14 @@ use Rattle.subscription.specs.declared.Subscribe.{Subscribe}
 use Rattle.subscription.specs.declared.SubscriptionMessage.{SubscriptionMessage}
 use Rattle.subscription.specs.declared.SubscriptionMessage.the-variants.{SubscribeUpdate as ASubscribeUpdate, Subscribe as ASubscribe, SubscribeOk as ASubscribeOk, SubscribeError as ASubscribeError, Unsubscribe as AUnsubscribe, SubscribeDone as ASubscribeDone, MaxSubscribeId as AMaxSubscribeId, SubscribesBlocked as ASubscribesBlocked}
 use Rattle.message.specs.declared.Message.the-variants.{Subscription, Fetch, Announce, Session}
-use Rattle.row.specs.Ranges.{askedOf}
-use Rattle.row.specs.Rows.{pendingRow, arriveOf, openOf, mayEnd}
+use Rattle.row.specs.Rows.{arriveOf, openOf, mayEnd}
 use Rattle.row.specs.declared.Row.{Row}
 use Rattle.row.specs.declared.Ending.{Ending}
 use Rattle.row.specs.declared.Ending.the-variants.{SubscribeError as Erring, SubscribeDone as Ended, Unsubscribe as Leaving}
 use Rattle.ledger.specs.Answers.{Said, only, ruleNumber, isOwn}
 use Rattle.ledger.specs.Ledgers.{hasAlias, isOpen}
 use Rattle.ledger.specs.Senders.{sender}
-use Rattle.ledger.specs.Steps.{idOf, aliasOf}
+use Rattle.ledger.specs.Steps.{idOf, aliasOf, newRow}
 use Rattle.ledger.specs.declared.Part.{Part}
 use Rattle.ledger.specs.declared.Part.the-variants.{Publisher}
 use Rattle.ledger.specs.declared.Rule.{Rule}
@@ -58,9 +57,6 @@ abbrev pub unchanged : View → ℕ → Seen
 unchanged v number = record { says = only number; next = v }
 
 -- ---- SUBSCRIBE
-
-abbrev pub newRow : Subscribe → Row
-newRow m = pendingRow (m .id) (m .alias) (askedOf (m .filter))
 
 -- "the ID becomes the highest"
 abbrev pub withHighest : Standing → ℕ → Standing

@@ -51,17 +51,17 @@ module _ (l : Ledger) where
   same-row i = ap (λ (rs : List Row). withRows l rs (l .used) (l .next)) (sym (set-getD (l .rows) i unusedRow))
 
   -- the row at a place in use, by what it is found by
-  pub view-changed : (key : Row → ℕ) (n : ℕ) (i : ℕ) → IsFirst key n (held l) i → (f : Row → Row) → held (changed l i (f (rowAt l i))) ≡ alterBy key n f (held l)
-  view-changed key n i e f =
+  pub held-changed-by : (key : Row → ℕ) (n : ℕ) (i : ℕ) → IsFirst key n (held l) i → (f : Row → Row) → held (changed l i (f (rowAt l i))) ≡ alterBy key n f (held l)
+  held-changed-by key n i e f =
       let h : i < l .used = first-used key n l e in
       held-changed i (f (rowAt l i)) h
       ∙ ap (λ (r : Row). set (held l) i (f r)) (sym (held-at i unusedRow h))
       ∙ alter-found key n e f unusedRow
 
   -- a row added last
-  pub view-added : (r : Row) → l .used < length (l .rows) → held (added l r) ≡ held l ++ (r ∷ [])
+  pub held-added : (r : Row) → l .used < length (l .rows) → held (added l r) ≡ held l ++ (r ∷ [])
   unfolding held added
-  view-added r h = rw (add-one (l .used)) (take-suc-set (l .rows) (l .used) r h)
+  held-added r h = rw (add-one (l .used)) (take-suc-set (l .rows) (l .used) r h)
 
   -- a row taken out
   held-freed : (i : ℕ) → i < l .used → l .used ≤ length (l .rows) → held (freed l i) ≡ take i (held l) ++ drop (suc i) (held l)
@@ -71,5 +71,5 @@ module _ (l : Ledger) where
       take-gone (l .used - 1) (l .rows) (unusedRow ∷ []) i (omega arith) (omega arith)
       ∙ ap (λ (n : ℕ). take i (take n (l .rows)) ++ drop (suc i) (take n (l .rows))) up
 
-  pub view-freed : (key : Row → ℕ) (n : ℕ) (i : ℕ) → IsFirst key n (held l) i → l .used ≤ length (l .rows) → held (freed l i) ≡ removeBy key n (held l)
-  view-freed key n i e k = held-freed i (first-used key n l e) k ∙ remove-found key n e
+  pub held-freed-by : (key : Row → ℕ) (n : ℕ) (i : ℕ) → IsFirst key n (held l) i → l .used ≤ length (l .rows) → held (freed l i) ≡ removeBy key n (held l)
+  held-freed-by key n i e k = held-freed i (first-used key n l e) k ∙ remove-found key n e
