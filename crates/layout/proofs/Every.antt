@@ -4,14 +4,14 @@ use mathlib.Core.Path.{_≡_, refl}
 use mathlib.Core.Bool.{true, false}
 use mathlib.Core.List.{List, [], _∷_}
 use lib.ListN.{getD}
-use Rattle.field.specs.Fields.{Form, integer, byte, bytes, list, track}
+use Rattle.field.specs.Fields.{integer, byte, bytes, list, track}
 use Rattle.field.specs.Outcome.{whole}
 use Rattle.field.specs.declared.Span.{Span}
 use Rattle.field.specs.declared.Entries.{Entries}
 use Rattle.field.specs.declared.Track.{Track}
 use Rattle.field.specs.declared.Piece.{Piece}
 use Rattle.field.specs.declared.Piece.the-variants.{Number, Byte, Bytes, List as Listing, Track as Tracked}
-use Rattle.field.proofs.Pieces.{FieldAt, a-number, a-byte, some-bytes, a-list, a-track}
+use Rattle.field.proofs.Pieces.{a-number, a-byte, some-bytes, a-list, a-track}
 use Rattle.layout.specs.Layout.{Layout, done, forbidden, field, when, scan}
 use Rattle.layout.proofs.Scanned.{Scanned, at-end, one-more, taken, left, scanned}
 

@@ -29,9 +29,9 @@ abbrev upFrom : ℕ → ℕ → List ℕ → List ℕ
 upFrom n zero rest = rest
 upFrom n (suc k) rest = n ∷ upFrom (suc n) k rest
 
-abbrev pub Compared : ℕ → Type 0
-Compared n = Missed (Unit {0}) (upFrom 0x2 25 (0x40 ∷ 0x41 ∷ [])) n
+abbrev compared : List ℕ
+compared = upFrom 0x2 25 (0x40 ∷ 0x41 ∷ [])
 
-pub type-missed : (n : ℕ) → Compared n → refused 2 ≡ typeOf n
+pub type-missed : (n : ℕ) → Missed (Unit {0}) compared n → refused 2 ≡ typeOf n
 unfolding messages
-type-missed n m = type-none n (unknown-missed (upFrom 0x2 25 (0x40 ∷ 0x41 ∷ [])) refl n m)
+type-missed n m = type-none n (unknown-missed compared refl n m)

@@ -43,98 +43,52 @@ use Rattle.message.proofs.Once.{answer-back}
 abbrev Says : Row → Type 0
 Says r = Every (r .layout) (λ ps. saidOf (messageOf (ofRow r ps)) ≡ ofRow r ps)
 
--- this holds of every row of the table,
-abbrev All : (Row → Type 0) → List Row → Type 0
-All P [] = Unit {0}
-All P (r ∷ rs) = P r × All P rs
+-- something holds of every row of a list
+data All (P : Row → Type 0) : List Row → Type 0 where
+  no-more : All P []
+  _and_ : {r : Row} {rs : List Row} → P r → All P rs → All P (r ∷ rs)
 
+infixr 5 _and_
+-- this does of every row of the table,
 all-say : All Says messages
 unfolding messages rowIn rowOf familyOf messageOf subscriptionRow fetchRow announceRow sessionRow
-all-say = (
-  session-says session.ClientSetup,
-  (
-    session-says session.ServerSetup,
-    (
-      session-says session.GoAway,
-      (
-        subscription-says subscription.MaxSubscribeId,
-        (
-          subscription-says subscription.SubscribesBlocked,
-          (
-            subscription-says subscription.Subscribe,
-            (
-              subscription-says subscription.SubscribeOk,
-              (
-                subscription-says subscription.SubscribeError,
-                (
-                  subscription-says subscription.Unsubscribe,
-                  (
-                    subscription-says subscription.SubscribeUpdate,
-                    (
-                      subscription-says subscription.SubscribeDone,
-                      (
-                        fetch-says fetch.Fetch,
-                        (
-                          fetch-says fetch.FetchOk,
-                          (
-                            fetch-says fetch.FetchError,
-                            (
-                              fetch-says fetch.FetchCancel,
-                              (
-                                fetch-says fetch.TrackStatusRequest,
-                                (
-                                  fetch-says fetch.TrackStatus,
-                                  (
-                                    announce-says (Asked asking.Announce),
-                                    (
-                                      announce-says (Named naming.AnnounceOk),
-                                      (
-                                        announce-says (Refused refusing.AnnounceError),
-                                        (
-                                          announce-says (Named naming.Unannounce),
-                                          (
-                                            announce-says (Refused refusing.AnnounceCancel),
-                                            (
-                                              announce-says (Asked asking.SubscribeAnnounces),
-                                              (
-                                                announce-says (Named naming.SubscribeAnnouncesOk),
-                                                (
-                                                  announce-says (Refused refusing.SubscribeAnnouncesError),
-                                                  (announce-says (Named naming.UnsubscribeAnnounces), tt),
-                                                ),
-                                              ),
-                                            ),
-                                          ),
-                                        ),
-                                      ),
-                                    ),
-                                  ),
-                                ),
-                              ),
-                            ),
-                          ),
-                        ),
-                      ),
-                    ),
-                  ),
-                ),
-              ),
-            ),
-          ),
-        ),
-      ),
-    ),
-  ),
-)
+all-say =
+    session-says session.ClientSetup
+    and session-says session.ServerSetup
+    and session-says session.GoAway
+    and subscription-says subscription.MaxSubscribeId
+    and subscription-says subscription.SubscribesBlocked
+    and subscription-says subscription.Subscribe
+    and subscription-says subscription.SubscribeOk
+    and subscription-says subscription.SubscribeError
+    and subscription-says subscription.Unsubscribe
+    and subscription-says subscription.SubscribeUpdate
+    and subscription-says subscription.SubscribeDone
+    and fetch-says fetch.Fetch
+    and fetch-says fetch.FetchOk
+    and fetch-says fetch.FetchError
+    and fetch-says fetch.FetchCancel
+    and fetch-says fetch.TrackStatusRequest
+    and fetch-says fetch.TrackStatus
+    and announce-says (Asked asking.Announce)
+    and announce-says (Named naming.AnnounceOk)
+    and announce-says (Refused refusing.AnnounceError)
+    and announce-says (Named naming.Unannounce)
+    and announce-says (Refused refusing.AnnounceCancel)
+    and announce-says (Asked asking.SubscribeAnnounces)
+    and announce-says (Named naming.SubscribeAnnouncesOk)
+    and announce-says (Refused refusing.SubscribeAnnouncesError)
+    and announce-says (Named naming.UnsubscribeAnnounces)
+    and no-more
 
 -- and so of the one in which a type stands
 row-is : (P : Row → Type 0) (rows : List Row) (type : ℕ) → All P rows → {r : Row} → rowIn rows type ≡ listed r → (r .number ≡ type) × P r
 unfolding rowIn
-row-is P [] type all {r} h = absurd (let z : _≡_ {A = ℕ} 0 1 = cc in omega arith)
-row-is P (q ∷ qs) type all {r} h =
+row-is P [] type no-more {r} h = absurd (let z : _≡_ {A = ℕ} 0 1 = cc in omega arith)
+row-is P (q ∷ qs) type (holds and all) {r} h =
     pick-by (λ (l : Listed). l ≡ listed r → (r .number ≡ type) × P r) (eqb type (q .number))
-    (λ e k. let same : r ≡ q = cc in rw same (sym (eqb-true type (q .number) e), all .0))
-    (λ e k. row-is P qs type (all .1) k)
+    (λ e k. let same : r ≡ q = cc in rw same (sym (eqb-true type (q .number) e), holds))
+    (λ e k. row-is P qs type all k)
     h
 
 -- nothing is read of one that stands in none

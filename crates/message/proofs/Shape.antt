@@ -8,7 +8,7 @@ use Rattle.field.specs.Value.{mean}
 use Rattle.field.specs.declared.Entries.{Entries}
 use Rattle.field.specs.declared.Kind.the-variants.{Parameters}
 use Rattle.field.specs.declared.Piece.the-variants.{List as Listing}
-use Rattle.layout.specs.Layout.{done, place, failure, parameters}
+use Rattle.layout.specs.Layout.{place, failure, parameters}
 use Rattle.layout.specs.Allowed.{allowed}
 use Rattle.layout.specs.Permitted.{code, permitted}
 use Rattle.layout.specs.Typed.{Typed}

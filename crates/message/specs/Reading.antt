@@ -26,13 +26,14 @@ abbrev pub filledBy : ℕ → Outcome Typed → Answer Typed
 filledBy end (whole m last) = guard (eqb last end) (refused 4) (answered m end)
 filledBy end (no fault) = refused (number 4 fault)
 
--- the body of a message of a type, from an offset on, when its Length is known, which may be up to a limit
+-- the body of a message, from an offset on, when its type and its Length are known; it may take up to a limit
 unfoldable pub bodyUpTo : ℕ → List ℕ → ℕ → ℕ → ℕ → Answer Typed
 bodyUpTo limit s type size at =
     guard (leb size limit) (refused 3)
     (guard (leb size (length s - at)) (refused 1)
     (filledBy (at + size) (typed type (scan (layoutOf type) (take (at + size) s) at))))
 
+-- and the message, at the front of bytes
 unfoldable pub readUpTo : ℕ → List ℕ → Answer Typed
 readUpTo limit s =
     onFound (numberAt s 0)

@@ -1,8 +1,6 @@
 -- A message by what it is known to be, where the number of its type was looked up. Assumes nothing.
 use Prim.Native.Nat.{ℕ}
-use mathlib.Core.Path.{_≡_, sym, ap, _∙_}
-use mathlib.Core.List.{List}
-use Rattle.field.specs.declared.Piece.{Piece}
+use mathlib.Core.Path.{_≡_, sym, _∙_}
 use Rattle.layout.specs.Typed.{Typed}
 
 -- what is made of that number and of its fields is made of the message

@@ -3,8 +3,8 @@
 -- 004. A namespace prefix has the form and the sizes of a namespace.
 use Rattle.field.specs.Fields.{list}
 use Rattle.field.specs.declared.Kind.the-variants.{Namespace}
-use Rattle.layout.specs.Layout.{Layout, done, field, failure, parameters}
+use Rattle.layout.specs.Layout.{Layout, field}
 
--- Track Namespace, and what follows it
+-- Track Namespace, and what follows it: nothing, Parameters, or Error Code and Reason Phrase
 unfoldable pub named : Layout → Layout
 named next = field (list Namespace) λ _. next
