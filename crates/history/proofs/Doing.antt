@@ -16,7 +16,7 @@ use Rattle.ledger.specs.Steps.{idOf, aliasOf, newRow}
 use Rattle.ledger.specs.declared.Ledger.{Ledger}
 use Rattle.ledger.specs.declared.Rule.{Rule}
 use Rattle.ledger.proofs.Facts.{parts}
-use Rattle.view.specs.Keys.{Change, now, put, turn}
+use Rattle.ledger.specs.Keys.{Change, now, put, turn}
 use Rattle.view.specs.Views.{View, Seen, viewOf}
 use Rattle.view.specs.Events.{Event, message, malformed, arrival, comes}
 use Rattle.view.specs.Steps.{broken, replied}
@@ -24,7 +24,7 @@ use Rattle.view.proofs.ArraysFollow.{seen-by}
 use Rattle.history.specs.Lists.{Each}
 use Rattle.history.specs.Deeds.{Deed, nothing, deedIn}
 use Rattle.history.specs.Ledgers.{nextBy, maximumBy}
-use Rattle.history.proofs.Aliases.{has-not}
+use Rattle.ledger.proofs.Rises.{has-not}
 use Rattle.history.proofs.Moves.{Quiet, not-a-ledger, quiet, withRows, counting, Turns, opens, frees, Moves, stayed, broke, turned, taken, raised, moves}
 use Rattle.history.proofs.Telling.{made, every, new}
 

@@ -1,7 +1,6 @@
 pub mod Keeping
 pub mod Neighbours
 pub mod AnyOrder
-pub mod Aliases
 pub mod Moves
 pub mod Closing
 pub mod Telling

@@ -30,7 +30,7 @@ use Rattle.ledger.specs.declared.Part.{Part}
 use Rattle.ledger.specs.declared.Part.the-variants.{Subscriber, Publisher}
 use Rattle.ledger.specs.declared.Rule.{Rule}
 use Rattle.ledger.specs.declared.Rule.the-variants.{R1, R2, R3, R4, R5, R6, R7}
-use Rattle.view.specs.Keys.{Looked, none, one, look, found, Change, gone, now, turn}
+use Rattle.ledger.specs.Keys.{Looked, none, one, look, found, Change, gone, now, turn}
 use Rattle.view.specs.Views.{View, Seen, viewOf, seenOf}
 use Rattle.view.specs.Events.{Event, message, malformed, arrival, comes, isSound}
 use Rattle.view.specs.Steps.{Reply, answer, broken, saidBy, closing, replied, unchanged, withHighest, subscribeSeen, RowStep, named, noRow, okAt, endAt, byId, withMaximum, maximumSeen, arriveAt, subscriptionSeen, eventSeen, viewStep}

@@ -21,18 +21,18 @@ use Rattle.ledger.specs.declared.Ledger.{Ledger}
 use Rattle.ledger.specs.declared.Rule.{Rule}
 use Rattle.ledger.proofs.Facts.{parts, ledger-used}
 use Rattle.ledger.proofs.Parts.{held-long}
-use Rattle.view.specs.Keys.{Change, turn}
+use Rattle.ledger.specs.Keys.{Change, turn}
 use Rattle.view.specs.Views.{View, Seen, viewOf}
 use Rattle.view.specs.Events.{Event, message, comes, isSound}
 use Rattle.view.specs.Steps.{broken, replied, subscribeSeen, viewStep}
-use Rattle.view.proofs.Turns.{Known}
+use Rattle.ledger.proofs.Keyed.{Known}
 use Rattle.view.proofs.ArraysFollow.{arrays-follow, no-ledger}
 use Rattle.view.proofs.Guards.{passed}
 use Rattle.history.specs.Events.{run, told}
 use Rattle.history.specs.Deeds.{Deed, deedIn}
 use Rattle.history.specs.Takings.{NoneTaken}
 use Rattle.history.proofs.Keeping.{run-keeps}
-use Rattle.history.proofs.Aliases.{has-turn}
+use Rattle.ledger.proofs.Rises.{has-turn}
 use Rattle.history.proofs.Moves.{withRows, counting, Turns, opens, frees, Moves, stayed, broke, counted, turned, taken, raised, ledger-moves}
 
 -- nothing but the rows in use stands against a SUBSCRIBE

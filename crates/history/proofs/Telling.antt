@@ -21,7 +21,7 @@ use Rattle.row.specs.declared.State.the-variants.{Pending, Active}
 use Rattle.row.specs.declared.Greatest.{Greatest}
 use Rattle.row.specs.declared.Greatest.the-variants.{Nowhere, At}
 use Rattle.ledger.specs.Steps.{newRow}
-use Rattle.view.specs.Keys.{Change, gone, now, put}
+use Rattle.ledger.specs.Keys.{Change, gone, now, put}
 use Rattle.history.specs.Events.{Told}
 use Rattle.history.specs.Deeds.{Deed, asked, opened, ended, raised, counted, nothing, deedOf}
 use Rattle.history.specs.Rows.{ends, opens, counts, isEnded, given, stateOf, settled, greatestOf, rowOf, adds, rowsOf}

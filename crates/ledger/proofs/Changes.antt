@@ -12,6 +12,7 @@ use Rattle.integer.specs.Integer.{greatest}
 use Rattle.row.specs.Places.{small}
 use Rattle.row.specs.Rows.{unusedRow, isRow}
 use Rattle.row.specs.declared.Row.{Row}
+use Rattle.ledger.specs.Keys.{gone, now}
 use Rattle.ledger.specs.Ledgers.{held, hasAlias, allUnused}
 use Rattle.ledger.specs.Answers.{closedBy}
 use Rattle.ledger.specs.Steps.{rowAt, changed, added, freed, withMaximum}
@@ -20,7 +21,7 @@ use Rattle.ledger.specs.declared.Ledger.{Ledger}
 use Rattle.ledger.proofs.Parts.{rest-next}
 use Rattle.ledger.proofs.Finds.{IsFirst, first-used}
 use Rattle.ledger.proofs.Facts.{IsLedger}
-use Rattle.ledger.proofs.Rises.{rising-alter, distinct-alter, rising-last, distinct-last, rising-remove, distinct-remove, unused-last, unused-rest}
+use Rattle.ledger.proofs.Rises.{rising-turn, distinct-turn, rising-last, distinct-last, unused-last, unused-rest}
 use Rattle.ledger.proofs.HeldRows.{drop-gone, held-changed-by, held-added, held-freed-by}
 
 -- without one element and with another, a list is as long
@@ -47,8 +48,8 @@ module _ (l : Ledger) (w : IsLedger l) where
       record {
         long = length-set (l .rows) i (f (rowAt l i)) ∙ w .long;
         within = w .within;
-        rises = rw rows (rising-alter key n f id is 0 (l .next) (held l) (w .rises));
-        apart = rw rows (distinct-alter key n f alias (held l) ∙ w .apart);
+        rises = rw rows (rising-turn key n (λ r. now (f r)) (λ r. (id r, is r)) 0 (l .next) (held l) (w .rises));
+        apart = rw rows (distinct-turn key n (λ r. now (f r)) alias (held l) (w .apart));
         rest = rw (drop-set-lt (l .used) (l .rows) i (f (rowAt l i)) (first-used key n l e)) (w .rest);
       }
 
@@ -88,8 +89,8 @@ module _ (l : Ledger) (w : IsLedger l) where
       record {
         long = gone-long (l .rows) unusedRow i (omega (arith, within-places)) ∙ w .long;
         within = record { some = b .some; few = b .few; room = omega (arith, b .room); least = b .least; most = b .most };
-        rises = rw rows (rising-remove key n 0 (l .next) (held l) (w .rises));
-        apart = rw rows (distinct-remove key n (held l) (w .apart));
+        rises = rw rows (rising-turn key n (λ _. gone) (λ _. tt) 0 (l .next) (held l) (w .rises));
+        apart = rw rows (distinct-turn key n (λ _. gone) (λ _. tt) (held l) (w .apart));
         rest = rw behind (unused-last (drop (l .used) (l .rows)) (w .rest));
       }
 

@@ -8,11 +8,12 @@ use lib.ListN.{length, take, drop, getD, set}
 use lib.Seq.{take-append-le, drop-append-le, take-set-lt, take-suc-set, getD-take, set-getD}
 use Rattle.row.specs.Rows.{unusedRow}
 use Rattle.row.specs.declared.Row.{Row}
+use Rattle.ledger.specs.Keys.{gone, now, turn}
 use Rattle.ledger.specs.Ledgers.{held}
 use Rattle.ledger.specs.Steps.{rowAt, withRows, changed, added, freed}
 use Rattle.ledger.specs.declared.Ledger.{Ledger}
 use Rattle.ledger.proofs.Finds.{IsFirst, first-used}
-use Rattle.ledger.proofs.Keyed.{alterBy, removeBy, alter-found, remove-found}
+use Rattle.ledger.proofs.Keyed.{changed-there, gone-there}
 
 -- ---- lists without an element
 
@@ -51,12 +52,12 @@ module _ (l : Ledger) where
   same-row i = ap (λ (rs : List Row). withRows l rs (l .used) (l .next)) (sym (set-getD (l .rows) i unusedRow))
 
   -- the row at a place in use, by what it is found by
-  pub held-changed-by : (key : Row → ℕ) (n : ℕ) (i : ℕ) → IsFirst key n (held l) i → (f : Row → Row) → held (changed l i (f (rowAt l i))) ≡ alterBy key n f (held l)
+  pub held-changed-by : (key : Row → ℕ) (n : ℕ) (i : ℕ) → IsFirst key n (held l) i → (f : Row → Row) → held (changed l i (f (rowAt l i))) ≡ turn key n (λ r. now (f r)) (held l)
   held-changed-by key n i e f =
       let h : i < l .used = first-used key n l e in
       held-changed i (f (rowAt l i)) h
       ∙ ap (λ (r : Row). set (held l) i (f r)) (sym (held-at i unusedRow h))
-      ∙ alter-found key n e f unusedRow
+      ∙ changed-there key n e f unusedRow
 
   -- a row added last
   pub held-added : (r : Row) → l .used < length (l .rows) → held (added l r) ≡ held l ++ (r ∷ [])
@@ -71,5 +72,5 @@ module _ (l : Ledger) where
       take-gone (l .used - 1) (l .rows) (unusedRow ∷ []) i (omega arith) (omega arith)
       ∙ ap (λ (n : ℕ). take i (take n (l .rows)) ++ drop (suc i) (take n (l .rows))) up
 
-  pub held-freed-by : (key : Row → ℕ) (n : ℕ) (i : ℕ) → IsFirst key n (held l) i → l .used ≤ length (l .rows) → held (freed l i) ≡ removeBy key n (held l)
-  held-freed-by key n i e k = held-freed i (first-used key n l e) k ∙ remove-found key n e
+  pub held-freed-by : (key : Row → ℕ) (n : ℕ) (i : ℕ) → IsFirst key n (held l) i → l .used ≤ length (l .rows) → held (freed l i) ≡ turn key n (λ _. gone) (held l)
+  held-freed-by key n i e k = held-freed i (first-used key n l e) k ∙ gone-there key n e

@@ -8,13 +8,14 @@ use borrow.Author.Tests.{leb-true, ltb-true, le-leb, lt-ltb, eqb-false, ne-eqb, 
 use lib.Dec.{leb, ltb, eqb}
 use Rattle.integer.specs.Answer.{pick}
 use Rattle.integer.proofs.Cases.{pick-by}
-use Rattle.field.specs.Outcome.{both}
 use Rattle.measure.proofs.Tests.{both-first, both-second}
 use Rattle.row.specs.Rows.{unusedRow, isRow, isUnused, isPending, isNowhere}
 use Rattle.row.specs.Ranges.{isKnown}
 use Rattle.row.specs.declared.Row.{Row}
+use Rattle.ledger.specs.Keys.{Change, gone, now, put, turn}
+use Rattle.ledger.specs.Steps.{aliasOf}
 use Rattle.ledger.specs.Ledgers.{rising, hasAlias, distinct, allUnused}
-use Rattle.ledger.proofs.Keyed.{editBy, alterBy, removeBy}
+use Rattle.ledger.proofs.Keyed.{Known}
 
 -- ---- rows that rise, by their parts
 
@@ -50,37 +51,76 @@ rise-lower low′ low next (r ∷ rs) h e =
     let w = first low next r rs e in
     all low′ next r rs (record { above = omega (arith, w .above); below = w .below; is = w .is; more = w .more })
 
--- ---- a row is changed, and keeps its ID and alias
+-- ---- an alias that no row has
 
-module _ (key : Row → ℕ) (n : ℕ) (f : Row → Row) where
-  pub rising-alter : ((r : Row) → f r .id ≡ r .id) → ((r : Row) → isRow r ≡ true → isRow (f r) ≡ true) → (low next : ℕ) (rs : List Row) → rising low next rs ≡ true → rising low next (alterBy key n f rs) ≡ true
-  unfolding rising editBy
-  rising-alter same is low next [] e = e
-  rising-alter same is low next (r ∷ rs) e =
-      let w = first low next r rs e in
-      pick-by (λ (xs : List Row). rising low next xs ≡ true) (eqb (key r) n)
-      (λ _. rw (is r (w .is), same r, le-leb low (r .id) (w .above), lt-ltb (r .id) next (w .below), w .more))
-      (λ _. all low next r (alterBy key n f rs) (record {
+pub has-not : (alias : ℕ) (r : Row) (rs : List Row) → hasAlias alias (r ∷ rs) ≡ false → (eqb (r .alias) alias ≡ false) × (hasAlias alias rs ≡ false)
+unfolding hasAlias
+has-not alias r rs e = neither (eqb (r .alias) alias) (hasAlias alias rs) e
+  where
+    neither : (b c : Bool) → pick b true c ≡ false → (b ≡ false) × (c ≡ false)
+    neither true true e = (e, e)
+    neither true false e = (e, refl)
+    neither false c e = (refl, e)
+
+-- ---- a row is turned
+
+-- it goes, or it is a row that keeps its ID
+abbrev pub StillRow : Row → Change Row → Type 0
+StillRow r gone = Unit {0}
+StillRow r (now next) = (next .id ≡ r .id) × (isRow r ≡ true → isRow next ≡ true)
+
+module _ (key : Row → ℕ) (n : ℕ) (f : Row → Change Row) where
+  pub rising-turn : ((r : Row) → StillRow r (f r)) → (low next : ℕ) (rs : List Row) → rising low next rs ≡ true → rising low next (turn key n f rs) ≡ true
+  unfolding rising turn
+  rising-turn still low next [] e = e
+  rising-turn still low next (r ∷ rs) e =
+      pick-by (λ (xs : List Row). rising low next xs ≡ true) (eqb (key r) n) (λ _. there (f r) (still r))
+      (λ _. all low next r (turn key n f rs) (record {
         above = w .above;
         below = w .below;
         is = w .is;
-        more = rising-alter same is (r .id + 1) next rs (w .more);
+        more = rising-turn still (r .id + 1) next rs (w .more);
       }))
+    where
+      w : First low next r rs
+      w = first low next r rs e
 
-  module _ (same : (r : Row) → f r .alias ≡ r .alias) where
-    pub has-alter : (alias : ℕ) (rs : List Row) → hasAlias alias (alterBy key n f rs) ≡ hasAlias alias rs
-    unfolding hasAlias editBy
-    has-alter alias [] = refl
-    has-alter alias (r ∷ rs) =
-        pick-by (λ (xs : List Row). hasAlias alias xs ≡ pick (eqb (r .alias) alias) true (hasAlias alias rs)) (eqb (key r) n)
-        (λ _. rw (same r)) (λ _. rw (has-alter alias rs))
+      there : (c : Change Row) → StillRow r c → rising low next (put c rs) ≡ true
+      there gone s = rise-lower low (r .id + 1) next rs (omega (arith, w .above)) (w .more)
+      there (now x) s = rw (s .1 (w .is), s .0, le-leb low (r .id) (w .above), lt-ltb (r .id) next (w .below), w .more)
 
-    pub distinct-alter : (rs : List Row) → distinct (alterBy key n f rs) ≡ distinct rs
-    unfolding distinct editBy
-    distinct-alter [] = refl
-    distinct-alter (r ∷ rs) =
-        pick-by (λ (xs : List Row). distinct xs ≡ both (not (hasAlias (r .alias) rs)) (distinct rs)) (eqb (key r) n)
-        (λ _. rw (same r)) (λ _. rw (has-alter (r .alias) rs, distinct-alter rs))
+  -- where aliases are kept, an alias that no row has is still free,
+  module _ (keeps : (r : Row) → Known aliasOf r (f r)) where
+    pub has-turn : (alias : ℕ) (rs : List Row) → hasAlias alias rs ≡ false → hasAlias alias (turn key n f rs) ≡ false
+    unfolding hasAlias turn
+    has-turn alias [] e = refl
+    has-turn alias (r ∷ rs) e =
+        pick-by (λ (xs : List Row). hasAlias alias xs ≡ false) (eqb (key r) n) (λ _. there (f r) (keeps r)) (λ _. rw (h .0) (has-turn alias rs (h .1)))
+      where
+        h : (eqb (r .alias) alias ≡ false) × (hasAlias alias rs ≡ false)
+        h = has-not alias r rs e
+
+        there : (c : Change Row) → Known aliasOf r c → hasAlias alias (put c rs) ≡ false
+        there gone k = h .1
+        there (now x) k = rw (k, h .0, h .1)
+
+    -- and they are distinct
+    pub distinct-turn : (rs : List Row) → distinct rs ≡ true → distinct (turn key n f rs) ≡ true
+    unfolding distinct turn
+    distinct-turn [] d = d
+    distinct-turn (r ∷ rs) d =
+        pick-by (λ (xs : List Row). distinct xs ≡ true) (eqb (key r) n) (λ _. there (f r) (keeps r))
+        (λ _. rw (has-turn (r .alias) rs fresh, distinct-turn rs more))
+      where
+        more : distinct rs ≡ true
+        more = both-second (not (hasAlias (r .alias) rs)) (distinct rs) d
+
+        fresh : hasAlias (r .alias) rs ≡ false
+        fresh = not-true (hasAlias (r .alias) rs) (both-first (not (hasAlias (r .alias) rs)) (distinct rs) d)
+
+        there : (c : Change Row) → Known aliasOf r c → distinct (put c rs) ≡ true
+        there gone k = more
+        there (now x) k = rw (k, fresh, more)
 
 -- ---- a row is added last
 
@@ -96,12 +136,6 @@ rising-last low next (x ∷ rs) r e h k is =
       more = rising-last (x .id + 1) next rs r (w .more) (omega (arith, w .below)) k is;
     })
 
--- neither of two holds
-neither : (b c : Bool) → pick b true c ≡ false → (b ≡ false) × (c ≡ false)
-neither true true e = (e, e)
-neither true false e = (e, refl)
-neither false c e = (refl, e)
-
 has-last : (alias : ℕ) (rs : List Row) (r : Row) → (r .alias ≡ alias → ⊥) → hasAlias alias (rs ++ (r ∷ [])) ≡ hasAlias alias rs
 unfolding hasAlias
 has-last alias [] r h = rw (ne-eqb (r .alias) alias h)
@@ -111,44 +145,10 @@ pub distinct-last : (rs : List Row) (r : Row) → distinct rs ≡ true → hasAl
 unfolding distinct hasAlias
 distinct-last [] r d h = refl
 distinct-last (x ∷ rs) r d h =
-    let s = neither (eqb (x .alias) (r .alias)) (hasAlias (r .alias) rs) h in
+    let s = has-not (r .alias) x rs h in
     let other : r .alias ≡ x .alias → ⊥ = λ e. eqb-false (x .alias) (r .alias) (s .0) (sym e) in
     let p = not (hasAlias (x .alias) rs) in
     rw (has-last (x .alias) rs r other, both-first p (distinct rs) d, distinct-last rs r (both-second p (distinct rs) d) (s .1))
-
--- ---- a row is taken out
-
-module _ (key : Row → ℕ) (n : ℕ) where
-  pub rising-remove : (low next : ℕ) (rs : List Row) → rising low next rs ≡ true → rising low next (removeBy key n rs) ≡ true
-  unfolding editBy
-  rising-remove low next [] e = e
-  rising-remove low next (r ∷ rs) e =
-      let w = first low next r rs e in
-      pick-by (λ (xs : List Row). rising low next xs ≡ true) (eqb (key r) n)
-      (λ _. rise-lower low (r .id + 1) next rs (omega (arith, w .above)) (w .more))
-      (λ _. all low next r (removeBy key n rs) (record {
-        above = w .above;
-        below = w .below;
-        is = w .is;
-        more = rising-remove (r .id + 1) next rs (w .more);
-      }))
-
-  pub has-remove : (alias : ℕ) (rs : List Row) → hasAlias alias rs ≡ false → hasAlias alias (removeBy key n rs) ≡ false
-  unfolding hasAlias editBy
-  has-remove alias [] h = h
-  has-remove alias (r ∷ rs) h =
-      let s = neither (eqb (r .alias) alias) (hasAlias alias rs) h in
-      pick-by (λ (xs : List Row). hasAlias alias xs ≡ false) (eqb (key r) n) (λ _. s .1) (λ _. rw (s .0) (has-remove alias rs (s .1)))
-
-  pub distinct-remove : (rs : List Row) → distinct rs ≡ true → distinct (removeBy key n rs) ≡ true
-  unfolding distinct editBy
-  distinct-remove [] d = d
-  distinct-remove (r ∷ rs) d =
-      let p = not (hasAlias (r .alias) rs) in
-      let fresh : hasAlias (r .alias) rs ≡ false = not-true (hasAlias (r .alias) rs) (both-first p (distinct rs) d) in
-      pick-by (λ (xs : List Row). distinct xs ≡ true) (eqb (key r) n)
-      (λ _. both-second p (distinct rs) d)
-      (λ _. rw (has-remove (r .alias) rs fresh, distinct-remove rs (both-second p (distinct rs) d)))
 
 -- ---- unused rows
 

@@ -3,3 +3,4 @@ pub mod Answers
 pub mod Senders
 pub mod Steps
 pub mod Runs
+pub mod Keys

@@ -31,12 +31,12 @@ use Rattle.ledger.proofs.Finds.{HasNone, IsFirst, on-place, first-used}
 use Rattle.ledger.proofs.Parts.{held-long}
 use Rattle.ledger.proofs.HeldRows.{held-at, held-changed-by, held-added, held-freed-by}
 use Rattle.ledger.proofs.Changes.{within-places, within-room}
-use Rattle.view.specs.Keys.{Looked, one, look, found, Change, gone, now, turn}
+use Rattle.ledger.specs.Keys.{Looked, one, look, found, Change, gone, now, turn}
 use Rattle.view.specs.Views.{View, Seen, standingOf, viewOf, seenOf}
 use Rattle.view.specs.Events.{Event, message, malformed, arrival, comes, isSound}
 use Rattle.view.specs.Steps.{Reply, answer, broken, saidBy, closing, replied, unchanged, withHighest, subscribeSeen, RowStep, named, noRow, breaksR6, okAt, endAt, byId, maximumSeen, arriveAt, byAlias, subscriptionSeen, eventSeen, viewStep}
 use Rattle.view.proofs.SameLedger.{same-ledger}
-use Rattle.view.proofs.Turns.{look-none, look-at, alter-turns, remove-turns, turn-found, turn-same}
+use Rattle.view.proofs.Turns.{look-none, look-at, turn-found, turn-same}
 
 -- ---- a call, behind its guards
 
@@ -112,7 +112,7 @@ module _ (l : Ledger) where
   unfolding turned changed
   changed-follows key n i e f number own =
       ap (λ (rs : List Row). record { says = only number; next = record { standing = standingOf l; rows = rs } })
-      (held-changed-by l key n i e f ∙ alter-turns key n f (held l))
+      (held-changed-by l key n i e f)
 
   -- an arrival
   arrived-follows : (a : Arrival) (i : ℕ) → IsFirst aliasOf (a .alias) (held l) i → let at = arriveOf (rowAt l i) (a .place) in seenOf (record { says = only (at .number); next = changed l i (at .row) }) ≡ byAlias (viewOf l) (a .alias) (arriveAt (a .place))
@@ -170,7 +170,7 @@ module _ (l : Ledger) where
     unfolding turned freed
     freed-follows id i e own =
         ap (λ (rs : List Row). record { says = only 8; next = record { standing = standingOf l; rows = rs } })
-        (held-freed-by l idOf id i e (within-places l (parts l w)) ∙ remove-turns idOf id (held l))
+        (held-freed-by l idOf id i e (within-places l (parts l w)))
 
     -- what ends a subscription
     end-by : (ending : Ending) (r : Row) {b : Bool} → mayEnd ending (r .state) ≡ b → endAt ending r ≡ pick b (record { reply = answer 8; row = gone }) (breaksR6 r)

@@ -23,13 +23,14 @@ use Rattle.ledger.specs.Ledgers.{isOpen}
 use Rattle.ledger.specs.Steps.{idOf, aliasOf}
 use Rattle.ledger.specs.declared.Part.{Part}
 use Rattle.ledger.specs.declared.Part.the-variants.{Subscriber, Publisher}
-use Rattle.view.specs.Keys.{Looked, none, one, look, found, Change, now, turn}
+use Rattle.ledger.specs.Keys.{Looked, none, one, look, found, Change, now, turn}
+use Rattle.ledger.proofs.Keyed.{Known}
 use Rattle.view.specs.Views.{Standing, View, Seen}
 use Rattle.view.specs.Events.{Event, message, arrival, isSound}
 use Rattle.view.specs.Steps.{Reply, answer, broken, saidBy, closing, unchanged, RowStep, named, noRow, okAt, endAt, byId, arriveAt, eventSeen, viewStep}
 use Rattle.view.specs.Orders.{Names, ok, error, finished, left, updated, NotKept, blocked, fetch, announce, session, Apart, different, first-not-kept, second-not-kept, SeenInEitherOrder}
 use Rattle.view.proofs.Guards.{passed, forbidden, closed-stays, open-before}
-use Rattle.view.proofs.Turns.{Known, look-other, turn-other, found-turned, turn-twice}
+use Rattle.view.proofs.Turns.{look-other, turn-other, found-turned, turn-twice}
 use Rattle.view.proofs.CountedRows.{number-after, after-either}
 
 -- ---- where one changes nothing

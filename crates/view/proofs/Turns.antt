@@ -1,5 +1,4 @@
--- The laws of `look` and `turn`, over any element: by place they are what is found, changed and taken out there; two turns may
--- change places. Assumes nothing.
+-- The laws of `look` and `turn`, over any element: what they depend on, and that two turns may change places. Assumes nothing.
 use Prim.Native.Nat.{ℕ}
 use mathlib.Core.Path.{_≡_, refl, sym, ap, _∙_}
 use mathlib.Core.Bool.{Bool, true, false}
@@ -9,8 +8,8 @@ use lib.Dec.{eqb}
 use lib.ListN.{getD}
 use Rattle.integer.specs.Answer.{pick}
 use Rattle.ledger.proofs.Finds.{HasNone, end, other, IsFirst, here, later}
-use Rattle.ledger.proofs.Keyed.{editBy, alterBy, removeBy}
-use Rattle.view.specs.Keys.{Looked, none, one, look, found, Change, gone, now, put, turn}
+use Rattle.ledger.proofs.Keyed.{Known}
+use Rattle.ledger.specs.Keys.{Looked, none, one, look, found, Change, gone, now, put, turn}
 
 module _ {A : Type 0} (key : A → ℕ) (n : ℕ) where
   -- ---- by key and by place
@@ -24,17 +23,6 @@ module _ {A : Type 0} (key : A → ℕ) (n : ℕ) where
   unfolding look
   look-at (here e) d = rw e
   look-at (later e h) d = rw e (look-at h d)
-
-  -- to turn one into another is to change it there, and to let it go is to take it out
-  pub alter-turns : (f : A → A) (xs : List A) → alterBy key n f xs ≡ turn key n (λ x. now (f x)) xs
-  unfolding editBy turn
-  alter-turns f [] = refl
-  alter-turns f (x ∷ xs) = ap (λ t. pick (eqb (key x) n) (f x ∷ xs) (x ∷ t)) (alter-turns f xs)
-
-  pub remove-turns : (xs : List A) → removeBy key n xs ≡ turn key n (λ _. gone) xs
-  unfolding editBy turn
-  remove-turns [] = refl
-  remove-turns (x ∷ xs) = ap (λ t. pick (eqb (key x) n) xs (x ∷ t)) (remove-turns xs)
 
   -- ---- what a turn depends on
 
@@ -61,11 +49,6 @@ module _ {A : Type 0} (key : A → ℕ) (n : ℕ) where
   turn-same f xs e = turn-found f now xs e ∙ turn-now xs
 
 -- ---- two turns
-
--- a change keeps the number that elements are known by
-abbrev pub Known : {A : Type 0} → (A → ℕ) → A → Change A → Type 0
-Known key x gone = Unit {0}
-Known key x (now next) = key next ≡ key x
 
 -- what is put in the place of one is not the one that has another number
 module _ {A : Type 0} (key : A → ℕ) (m n : ℕ) (other : m ≡ n → ⊥) (x : A) (here : key x ≡ n) where

@@ -24,7 +24,7 @@ use Rattle.ledger.specs.declared.Part.the-variants.{Publisher}
 use Rattle.ledger.specs.declared.Rule.{Rule}
 use Rattle.ledger.specs.declared.Rule.the-variants.{R1, R2, R3, R4, R5, R6, R7}
 use Rattle.ledger.specs.declared.Session.the-variants.{Closed}
-use Rattle.view.specs.Keys.{look, found, Change, gone, now, turn}
+use Rattle.ledger.specs.Keys.{look, found, Change, gone, now, turn}
 use Rattle.view.specs.Views.{Standing, View, Seen}
 use Rattle.view.specs.Events.{Event, message, malformed, arrival, isSound}
 
