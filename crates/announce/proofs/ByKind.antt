@@ -10,7 +10,7 @@ use Rattle.layout.specs.Typed.{led, typed}
 use Rattle.layout.proofs.Family.{behind-no, behind-whole}
 use Rattle.layout.proofs.Steps.{To, Stops}
 use Rattle.types.specs.Announces.{named}
-use Rattle.announce.specs.Kinds.{rowOf, numberOf, layoutOf, rest}
+use Rattle.announce.specs.Kinds.{typeRow, numberOf, layoutOf, rest}
 use Rattle.announce.specs.declared.kinds.Naming.the-variants.{AnnounceOk, Unannounce, SubscribeAnnouncesOk, UnsubscribeAnnounces}
 use Rattle.announce.specs.declared.kinds.Asking.the-variants.{Announce, SubscribeAnnounces}
 use Rattle.announce.specs.declared.kinds.Refusing.the-variants.{AnnounceError, AnnounceCancel, SubscribeAnnouncesError}
@@ -19,7 +19,7 @@ use Rattle.announce.specs.declared.kinds.AnnounceKind.the-variants.{Name
 
 -- its layout: a namespace, and what follows it
 pub layout-is : (kind : AnnounceKind) → layoutOf kind ≡ named (rest kind)
-unfolding rowOf rest
+unfolding typeRow rest
 layout-is (Asked Announce) = refl
 layout-is (Named AnnounceOk) = refl
 layout-is (Refused AnnounceError) = refl

@@ -3,13 +3,13 @@ use Prim.Native.Nat.{ℕ}
 use mathlib.Core.Path.{_≡_, refl}
 use mathlib.Core.List.{List}
 use lib.Dec.{eqb}
-use Rattle.integer.specs.Answer.{pick}
+use Rattle.common.specs.Choice.{pick}
 use Rattle.field.specs.declared.Piece.{Piece}
-use Rattle.layout.specs.Parts.{entriesIn, failureIn}
+use Rattle.layout.proofs.Parts.{entriesIn, failureIn}
 use Rattle.layout.specs.Typed.{Typed}
 use Rattle.layout.specs.Layout.{failure, parameters}
 use Rattle.layout.proofs.Every.{Every}
-use Rattle.types.specs.Table.{ofRow, ANNOUNCE, «ANNOUNCE_OK», «ANNOUNCE_ERROR», UNANNOUNCE, «ANNOUNCE_CANCEL», «SUBSCRIBE_ANNOUNCES», «SUBSCRIBE_ANNOUNCES_OK», «SUBSCRIBE_ANNOUNCES_ERROR»}
+use Rattle.types.specs.Table.{typedAs, ANNOUNCE, «ANNOUNCE_OK», «ANNOUNCE_ERROR», UNANNOUNCE, «ANNOUNCE_CANCEL», «SUBSCRIBE_ANNOUNCES», «SUBSCRIBE_ANNOUNCES_OK», «SUBSCRIBE_ANNOUNCES_ERROR»}
 use Rattle.types.specs.Announces.{named}
 use Rattle.announce.specs.declared.kinds.Naming.the-variants.{AnnounceOk, Unannounce, SubscribeAnnouncesOk, UnsubscribeAnnounces}
 use Rattle.announce.specs.declared.kinds.Asking.the-variants.{Announce, SubscribeAnnounces}
@@ -18,8 +18,8 @@ use Rattle.announce.specs.declared.kinds.AnnounceKind.{AnnounceKind}
 use Rattle.announce.specs.declared.kinds.AnnounceKind.the-variants.{Named, Asked, Refused}
 use Rattle.announce.specs.declared.AnnounceMessage.{AnnounceMessage}
 use Rattle.announce.specs.declared.AnnounceMessage.the-variants.{Named as ANamed, Asked as AnAsked, Refused as ARefused}
-use Rattle.announce.specs.Kinds.{rowOf}
-use Rattle.announce.specs.Told.{saidOf}
+use Rattle.announce.specs.Kinds.{typeRow}
+use Rattle.announce.specs.Told.{typedOf}
 
 -- the kind that a number stands for
 unfoldable pub kindOf : ℕ → AnnounceKind
@@ -42,8 +42,8 @@ unfoldable pub messageOf : Typed → AnnounceMessage
 messageOf t = messageBy (kindOf (t .type)) (t .pieces)
 
 -- whatever fields the layout of a kind reads, the message that is made of them says them
-pub made-says : (k : AnnounceKind) → Every (rowOf k .layout) (λ ps. saidOf (messageOf (ofRow (rowOf k) ps)) ≡ ofRow (rowOf k) ps)
-unfolding rowOf kindOf messageOf named failure parameters
+pub made-says : (k : AnnounceKind) → Every (typeRow k .layout) (λ ps. typedOf (messageOf (typedAs (typeRow k) ps)) ≡ typedAs (typeRow k) ps)
+unfolding typeRow kindOf messageOf named failure parameters
 made-says (Named AnnounceOk) = λ n. refl
 made-says (Named Unannounce) = λ n. refl
 made-says (Named SubscribeAnnouncesOk) = λ n. refl

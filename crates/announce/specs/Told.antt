@@ -6,8 +6,8 @@ use Rattle.field.specs.declared.Entries.{Entries}
 use Rattle.field.specs.declared.Piece.{Piece}
 use Rattle.field.specs.declared.Piece.the-variants.{Number, Bytes, List as Listing}
 use Rattle.layout.specs.Typed.{Typed}
-use Rattle.types.specs.Table.{ofRow}
-use Rattle.announce.specs.Kinds.{rowOf}
+use Rattle.types.specs.Table.{typedAs}
+use Rattle.announce.specs.Kinds.{typeRow}
 use Rattle.announce.specs.declared.Announce.{Announce}
 use Rattle.announce.specs.declared.Refusal.{Refusal}
 use Rattle.announce.specs.declared.kinds.AnnounceKind.the-variants.{Named, Asked, Refused}
@@ -25,11 +25,11 @@ askedPieces m = Listing Namespace (m .namespace) ∷ Listing Parameters (m .para
 abbrev pub refusedPieces : Refusal → List Piece
 refusedPieces m = Listing Namespace (m .namespace) ∷ Number (m .failure .code) ∷ Bytes (m .failure .reason) ∷ []
 
-abbrev pub saidOf : AnnounceMessage → Typed
-saidOf (ANamed k n) = ofRow (rowOf (Named k)) (namedPieces n)
-saidOf (AnAsked k m) = ofRow (rowOf (Asked k)) (askedPieces m)
-saidOf (ARefused k m) = ofRow (rowOf (Refused k)) (refusedPieces m)
+abbrev pub typedOf : AnnounceMessage → Typed
+typedOf (ANamed k n) = typedAs (typeRow (Named k)) (namedPieces n)
+typedOf (AnAsked k m) = typedAs (typeRow (Asked k)) (askedPieces m)
+typedOf (ARefused k m) = typedAs (typeRow (Refused k)) (refusedPieces m)
 
 abbrev pub told : AnnounceRead → Outcome Typed
-told (Whole m end) = whole (saidOf m) end
+told (Whole m end) = whole (typedOf m) end
 told (No fault) = no fault

@@ -2,7 +2,7 @@
 ghost use mathlib.Core.Path.{_≡_};
 ghost use Rattle.measure.specs.Fields.{placed};
 ghost use Rattle.announce.specs.Kinds.{numberOf};
-ghost use Rattle.announce.specs.Told.{saidOf};
+ghost use Rattle.announce.specs.Told.{typedOf};
 use crate::AnnounceMessage;
 use crate::kinds::AnnounceKind;
 use crate::kinds::Asking;
@@ -15,7 +15,7 @@ use measure::places;
 
 // The number of its type.
 pub fn number(m: AnnounceMessage) -> u64
-    ensures { λ r. ⌜ r ≡ saidOf m .type ⌝ }
+    ensures { λ r. ⌜ r ≡ typedOf m .type ⌝ }
 {
     match m {
         AnnounceMessage::Named(k, _) => number_of(AnnounceKind::Named(k)),
@@ -25,7 +25,7 @@ pub fn number(m: AnnounceMessage) -> u64
 }
 
 pub fn fields(m: AnnounceMessage) -> Fields
-    ensures { λ r. ⌜ r ≡ placed (saidOf m) ⌝ }
+    ensures { λ r. ⌜ r ≡ placed (typedOf m) ⌝ }
 {
     let kind = number(m);
     match m {

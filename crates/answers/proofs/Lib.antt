@@ -1,6 +1,6 @@
-pub mod Taken
-pub mod Alike
-pub mod Left
-pub mod Added
-pub mod Along
-pub mod Once
+pub mod FieldTaken
+pub mod FedAlike
+pub mod TextLeft
+pub mod TextAdded
+pub mod WholeText
+pub mod OneAnswer

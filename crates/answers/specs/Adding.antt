@@ -4,8 +4,9 @@ use mathlib.Core.Path.{_≡_}
 use mathlib.Core.List.{List, _++_}
 use lib.ListN.{length, take, drop}
 use lib.Dec.{leb}
-use Rattle.integer.specs.Answer.{guard, Answer, refused, Nothing, wrote}
-use Rattle.integer.specs.Integer.{over}
+use Rattle.common.specs.Choice.{guard}
+use Rattle.common.specs.Answer.{Answer, refused, Nothing, wrote}
+use Rattle.common.specs.Buffer.{over}
 
 -- what a pass does with text behind so many bytes of it: it says whether both take so many bytes at most; and in a buffer of so many
 -- bytes the text then stands there

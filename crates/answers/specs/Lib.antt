@@ -1,2 +1,2 @@
-pub mod Telling
+pub mod Answers
 pub mod Adding

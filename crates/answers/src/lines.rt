@@ -1,11 +1,11 @@
 // The line of a field.
 ghost use mathlib.Core.Path.{_≡_};
 ghost use Rattle.text.specs.Lines.{placed};
-ghost use Rattle.answers.specs.Telling.{offsetLine, malformedLine, lineBy, faultItems, endItems, takenAt};
-use crate::Told;
-use run::Event;
-use run::Progress;
-use run::Stage;
+ghost use Rattle.answers.specs.Answers.{offsetLine, malformedLine, lineBy, faultItems, endItems, takenAt};
+use crate::FieldLine;
+use replay::Event;
+use replay::Progress;
+use replay::Stage;
 use text::Item;
 use text::Line;
 use text::Word;
@@ -48,12 +48,12 @@ fn line(offset: u64, e: Event, number: u8, rule: u8) -> Line
 }
 
 // The field at an offset is taken.
-pub fn tell(p: Progress, s: &[u8], at: usize) -> Told
+pub fn tell(p: Progress, s: &[u8], at: usize) -> FieldLine
     ensures { λ r. ⌜ r ≡ takenAt p (now (s .entry)) at ⌝ }
 {
     let offset = p.offset;
     let FieldRead::Whole(f) = trace::field_at(s, at) else {
-        return Told {
+        return FieldLine {
             line: text::of0(),
             progress: p,
             used: at,
@@ -61,10 +61,10 @@ pub fn tell(p: Progress, s: &[u8], at: usize) -> Told
     };
     let start = f.start;
     let end = f.end;
-    let stepped = p.step(run::event_of(f.tag, &s[start..end]), end - at);
+    let stepped = p.step(replay::event_of(f.tag, &s[start..end]), end - at);
     let event = stepped.event;
     let progress = stepped.progress;
-    Told {
+    FieldLine {
         line: line(offset, event, stepped.number, stepped.rule),
         progress,
         used: end,

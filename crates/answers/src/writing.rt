@@ -1,8 +1,8 @@
 // The answers of a whole trace, put at the front of what is lent.
 ghost use Prim.Native.Nat.{_≤_};
-ghost use Rattle.integer.specs.Answer.{Leaves};
-ghost use Rattle.text.specs.Lines.{itemsOf, lineOf, putOf, saying};
-ghost use Rattle.answers.specs.Telling.{answersOf};
+ghost use Rattle.common.specs.Answer.{Leaves};
+ghost use Rattle.text.specs.Lines.{itemsOf, lineOf, putText, toldPutting};
+ghost use Rattle.answers.specs.Answers.{answersOf};
 ghost use Rattle.answers.specs.Adding.{Adds};
 use crate::lines::tell;
 use crate::lines::tell_end;
@@ -12,7 +12,7 @@ use text::Putting;
 // A line behind at bytes of text, if both take room bytes at most. Where out has no room for it, it is only counted.
 fn add(out: &mut [u8], at: usize, line: Line, room: usize) -> Putting
     requires { ⌜ at ≤ room ⌝ }
-    ensures { λ r. ⌜ Adds (lineOf (itemsOf line)) at room (now (out .entry)) (saying r) (now (out .exit)) ⌝ }
+    ensures { λ r. ⌜ Adds (lineOf (itemsOf line)) at room (now (out .entry)) (toldPutting r) (now (out .exit)) ⌝ }
 {
     let n = text::measure(line);
     if room - at < n {
@@ -29,9 +29,9 @@ fn add(out: &mut [u8], at: usize, line: Line, room: usize) -> Putting
 // The line of each field and the end's, one behind the other, if they take room bytes at most. Where out has no room, they are only
 // counted.
 fn pass(s: &[u8], out: &mut [u8], room: usize) -> Putting
-    ensures { λ r. ⌜ Adds (answersOf (now (s .entry))) 0 room (now (out .entry)) (saying r) (now (out .exit)) ⌝ }
+    ensures { λ r. ⌜ Adds (answersOf (now (s .entry))) 0 room (now (out .entry)) (toldPutting r) (now (out .exit)) ⌝ }
 {
-    let mut progress = run::begin();
+    let mut progress = replay::begin();
     let mut used: usize = 0;
     let mut at: usize = 0;
     loop {
@@ -52,7 +52,7 @@ fn pass(s: &[u8], out: &mut [u8], room: usize) -> Putting
 
 // 7 where out is too short, and then nothing is written: in the first pass there is no room for any line, and they are only counted.
 pub fn of_trace(s: &[u8], out: &mut [u8]) -> Putting
-    ensures { λ r. ⌜ Leaves (putOf (answersOf (now (s .entry))) (now (out .entry))) (saying r) (now (out .exit)) ⌝ }
+    ensures { λ r. ⌜ Leaves (putText (answersOf (now (s .entry))) (now (out .entry))) (toldPutting r) (now (out .exit)) ⌝ }
 {
     let room = out.len();
     let Putting::Done(_) = pass(s, &mut out[..0], room) else {

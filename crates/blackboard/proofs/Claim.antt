@@ -6,13 +6,13 @@ use Rattle.field.specs.Entries.{numberAt, textAt, numberedAt, entryAt, mostOf, 
 use Rattle.field.specs.Fields.{fieldAt, placeAt}
 use Rattle.layout.specs.Layout.{scan, place, parameters}
 use Rattle.types.specs.Fetches.{fetchCancel}
-use Rattle.types.specs.Table.{messages, rowIn, rowOf, known, layoutOf}
+use Rattle.types.specs.Table.{messages, typeRowIn, typeRowOf, known, layoutOf}
 use Rattle.message.specs.Reading.{bodyUpTo, readUpTo}
 use Rattle.message.specs.Writing.{allowedOf, writeUpTo}
 use Rattle.layout.specs.Allowed.{allowed}
 use Rattle.measure.specs.Judging.{right, sized}
 use Rattle.measure.specs.Measuring.{rightAll, sizedAll, encodeAll}
-use Rattle.shortest.specs.Writing.{writtenOf, frame}
+use Rattle.encode.specs.Writing.{writtenOf, frame}
 use Rattle.field.specs.Value.{mean, encField, encode}
 use Rattle.measure.specs.Small.{smallSpan, smallList, smallPiece, smallAll}
 use Rattle.field.specs.Rules.{askable, givable}
@@ -23,24 +23,24 @@ use Rattle.message.proofs.OneReading.{readingOf}
 use Rattle.message.specs.Sound.{soundOf}
 use Rattle.row.specs.Places.{before, small, smallPlace}
 use Rattle.row.specs.Ranges.{inRange, isKnown, smallRange, settledOf}
-use Rattle.row.specs.Rows.{agree, suits, isRow, isPending, isNowhere, isUnused, greater, risen, countedRow, arriveOf, openOf}
+use Rattle.row.specs.Rows.{countAgrees, suits, isRow, isPending, isNowhere, isUnused, greater, risen, countedRow, arriveOf, openOf}
 use Rattle.ledger.specs.Ledgers.{held, rising, hasAlias, distinct, allUnused, bounded, isLedger}
 use Rattle.ledger.specs.Answers.{breaks, stops, gateOf, gated}
 use Rattle.ledger.specs.Steps.{startOf, find, changed, added, subscribeStep, okStep, arrivalStep, smallArrival, takeOf, arrivalOf}
-use Rattle.trace.specs.Fields.{tagOf, valueOf, sizeOf as fieldSize, isWhole}
+use Rattle.trace.specs.Fields.{tagOf, valueOf, fieldSize as fieldSize, isWhole}
 use Rattle.trace.specs.Feeding.{feedByte, feed}
 use Rattle.types.specs.Letters.{letters}
 use Rattle.text.specs.Decimals.{decimalIn, decimalOf}
 use Rattle.text.specs.Words.{wordOf}
 use Rattle.text.specs.Lines.{itemOf, endedOf, isNone, lineOf}
-use Rattle.run.specs.Events.{startedBy, controlBy, arrivedBy, eventOf}
-use Rattle.run.specs.Progressing.{offsetOf, stepOf, step, fed, endOf, runOf}
+use Rattle.replay.specs.Events.{startedBy, controlBy, arrivedBy, eventOf}
+use Rattle.replay.specs.Progressing.{offsetOf, stepOf, step, fed, finishOf, replayOf}
 use Rattle.report.specs.Report.{rowsText, ledgerText, textOf, reportOf}
-use Rattle.integer.specs.Integer.{wide, room, tag, sizeOf, spell, bytesOf, encOf, readOf, putOf, writeOf}
+use Rattle.integer.specs.Integer.{wide, room, tag, sizeOf, spell, bytesOf, encOf, readOf, putForm, writeOf}
 use Rattle.blackboard.specs.Table.{Line, answersTo, found, stated, lines}
 
 computed : map found lines ≡ map stated lines
-unfolding found stated lines wide room tag sizeOf spell bytesOf readOf putOf writeOf numberAt fieldAt scan fetchCancel messages rowIn rowOf known layoutOf bodyUpTo readUpTo writeUpTo allowed allowedOf right sized rightAll sizedAll encodeAll encode encField mean writtenOf frame encOf answersTo smallSpan smallList smallPiece smallAll askable soundOf small smallPlace isKnown smallRange agree suits isRow isPending isNowhere isUnused held rising hasAlias distinct allUnused bounded isLedger breaks stops gateOf gated startOf added subscribeStep takeOf textAt numberedAt entryAt mostOf entriesAt few listAt placeAt place parameters givable filter delivery subscribe content subscribeOk subscriptionOf familyOf madeOf answerOf readingOf before inRange settledOf greater risen countedRow arriveOf openOf find changed okStep arrivalStep smallArrival arrivalOf tagOf valueOf fieldSize isWhole feedByte feed letters decimalIn decimalOf wordOf itemOf endedOf isNone lineOf startedBy controlBy arrivedBy eventOf offsetOf stepOf step fed endOf runOf rowsText ledgerText textOf reportOf
+unfolding found stated lines wide room tag sizeOf spell bytesOf readOf putForm writeOf numberAt fieldAt scan fetchCancel messages typeRowIn typeRowOf known layoutOf bodyUpTo readUpTo writeUpTo allowed allowedOf right sized rightAll sizedAll encodeAll encode encField mean writtenOf frame encOf answersTo smallSpan smallList smallPiece smallAll askable soundOf small smallPlace isKnown smallRange countAgrees suits isRow isPending isNowhere isUnused held rising hasAlias distinct allUnused bounded isLedger breaks stops gateOf gated startOf added subscribeStep takeOf textAt numberedAt entryAt mostOf entriesAt few listAt placeAt place parameters givable filter delivery subscribe content subscribeOk subscriptionOf familyOf madeOf answerOf readingOf before inRange settledOf greater risen countedRow arriveOf openOf find changed okStep arrivalStep smallArrival arrivalOf tagOf valueOf fieldSize isWhole feedByte feed letters decimalIn decimalOf wordOf itemOf endedOf isNone lineOf startedBy controlBy arrivedBy eventOf offsetOf stepOf step fed finishOf replayOf rowsText ledgerText textOf reportOf
 computed = refl
 
 -- two functions that map a list alike agree at each of its members

@@ -1,7 +1,7 @@
 -- The lines of document 01 that are marked P, and no others, as one table.
 use Prim.Native.Nat.{ℕ}
 use mathlib.Core.List.{List, [], _∷_}
-use Rattle.integer.specs.Answer.{Answer, whole, refused, wrote, Written}
+use Rattle.common.specs.Answer.{Answer, whole, refused, wrote, Written}
 use Rattle.field.specs.declared.Piece.the-variants.{Number}
 use Rattle.layout.specs.Typed.{Typed}
 use Rattle.message.specs.Reading.{readOf as messageOf}
@@ -12,7 +12,7 @@ use Rattle.fetch.specs.declared.FetchMessage.the-variants.{FetchCancel}
 use Rattle.field.specs.Value.{nowhere}
 use Rattle.subscription.specs.declared.Filter.the-variants.{Latest}
 use Rattle.subscription.specs.declared.SubscriptionMessage.the-variants.{Subscribe}
-use Rattle.ledger.specs.Answers.{Said, only}
+use Rattle.ledger.specs.Answers.{Verdict, noRule}
 use Rattle.ledger.specs.Steps.{startOf, takeOf}
 use Rattle.ledger.specs.declared.Ledger.{Ledger}
 use Rattle.ledger.specs.declared.Part.the-variants.{Subscriber}
@@ -31,7 +31,7 @@ pub data Line : Type 0 where
   -- a control message whose parts point into bytes is written into a buffer, which then holds this
   sends : List ℕ → Message → List ℕ → Written → Line
   -- a subscriber's ledger with so many rows and a maximum takes messages
-  takes : ℕ → ℕ → List Message → List Said → Line
+  takes : ℕ → ℕ → List Message → List Verdict → Line
   -- a trace is reported
   reports : List ℕ → List ℕ → Line
 
@@ -39,11 +39,11 @@ pub data Result : Type 0 where
   read : Answer ℕ → Result
   write : Written → Result
   receive : Answer Typed → Result
-  answer : List Said → Result
+  answer : List Verdict → Result
   report : List ℕ → Result
 
 -- what each message is answered, one after the other
-unfoldable pub answersTo : Ledger → List Message → List Said
+unfoldable pub answersTo : Ledger → List Message → List Verdict
 answersTo l [] = []
 answersTo l (m ∷ ms) = takeOf l m .says ∷ answersTo (takeOf l m .next) ms
 
@@ -119,7 +119,7 @@ lines =
     ∷ receives (0x17 ∷ 0x7F ∷ 0xFF ∷ []) (refused 1)
     ∷ receives (0x17 ∷ 0x80 ∷ 0x00 ∷ 0x40 ∷ 0x00 ∷ []) (refused 3)
     -- P11 maximum 10: ID 9 done, ID 10 R3
-    ∷ takes 64 10 (subscribing 9 1 ∷ subscribing 10 2 ∷ []) (only 8 ∷ record { number = 13; rule = 3 } ∷ [])
+    ∷ takes 64 10 (subscribing 9 1 ∷ subscribing 10 2 ∷ []) (noRule 8 ∷ record { number = 13; rule = 3 } ∷ [])
     -- P12 the report's history gives its row
     ∷ reports history (letters "open 1\nID ALIAS STATE GROUP OBJECT COUNT\n3 7 active 65536 0 2\n")
     ∷ []

@@ -1,3 +1,3 @@
-pub mod Numbers
-pub mod Shown
-pub mod Holding
+pub mod IntegerCalls
+pub mod TraceCalls
+pub mod LedgerCalls

@@ -2,17 +2,18 @@
 use Prim.Native.Nat.{ℕ}
 use mathlib.Core.List.{List, [], _∷_}
 use lib.Dec.{leb}
-use Rattle.integer.specs.Answer.{guard, Answer, whole, refused}
+use Rattle.common.specs.Choice.{guard}
+use Rattle.common.specs.Answer.{Answer, whole, refused}
 use Rattle.integer.specs.Integer.{greatest, sizeOf, encOf, readOf}
 use Rattle.rewrite.specs.Rewriting.{Doing, putting, refusing}
 
 -- info[0]: the number; info[1]: the bytes used. No bytes are put, and no buffer is lent for them
-abbrev pub telling : Answer ℕ → List ℕ → Doing
-telling (whole n used) info = putting [] (n ∷ used ∷ []) [] info
-telling (refused number) info = refusing number [] info
+abbrev pub readCall : Answer ℕ → List ℕ → Doing
+readCall (whole n used) info = putting [] (n ∷ used ∷ []) [] info
+readCall (refused number) info = refusing number [] info
 
 unfoldable pub integerRead : List ℕ → List ℕ → Doing
-integerRead s info = telling (readOf s) info
+integerRead s info = readCall (readOf s) info
 
 -- info[0]: the bytes written. 5 where the number is too great, then 7
 unfoldable pub integerWritten : ℕ → List ℕ → List ℕ → Doing

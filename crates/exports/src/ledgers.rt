@@ -1,10 +1,10 @@
 // A ledger, which the caller holds as numbers (the crate packed says which). What is no ledger answers 14, and stays as it is.
 ghost use mathlib.Core.Path.{_≡_};
 ghost use mathlib.Core.List.{[]};
-ghost use Rattle.integer.specs.Answer.{number};
+ghost use Rattle.common.specs.Answer.{number};
 ghost use Rattle.message.specs.Reading.{told};
 ghost use Rattle.rewrite.specs.Rewriting.{Does};
-ghost use Rattle.exports.specs.Ledgers.{started, malformedIn, arrivalIn, messageIn, arrivalsIn};
+ghost use Rattle.exports.specs.Ledgers.{startCall, malformedCall, arrivalCall, messageCall, arrivalsCall};
 use field::Arrival;
 use field::Place;
 use ledger::Filled;
@@ -14,7 +14,7 @@ use message::Reading;
 // A new ledger, with no row in use. The part is 0 for the subscriber's end and 1 for the publisher's.
 #[no_mangle]
 pub extern "C" fn moq_ledger_start(part: u64, rows: u64, maximum: u64, numbers: &mut [u64]) -> u64
-    ensures { λ r. ⌜ Does (started part rows maximum (now (numbers .entry))) r (now (numbers .exit)) [] ⌝ }
+    ensures { λ r. ⌜ Does (startCall part rows maximum (now (numbers .entry))) r (now (numbers .exit)) [] ⌝ }
 {
     if part > 1 {
         return 5;
@@ -30,10 +30,10 @@ pub extern "C" fn moq_ledger_start(part: u64, rows: u64, maximum: u64, numbers: 
     if said != 8 {
         return said;
     }
-    if numbers.len() < packed::SIZE {
+    if numbers.len() < ledger_numbers::SIZE {
         return 7;
     }
-    packed::keep(numbers, t.ledger);
+    ledger_numbers::keep(numbers, t.ledger);
     8
 }
 
@@ -41,13 +41,13 @@ pub extern "C" fn moq_ledger_start(part: u64, rows: u64, maximum: u64, numbers: 
 // the ledger; every other reading ends here.
 #[no_mangle]
 pub extern "C" fn moq_ledger_take(s: &[u8], numbers: &mut [u64], info: &mut [u64]) -> u64
-    ensures { λ r. ⌜ Does (messageIn (now (s .entry)) (now (numbers .entry)) (now (info .entry))) r (now (numbers .exit)) (now (info .exit)) ⌝ }
+    ensures { λ r. ⌜ Does (messageCall (now (s .entry)) (now (numbers .entry)) (now (info .entry))) r (now (numbers .exit)) (now (info .exit)) ⌝ }
 {
     let reading = message::read(s);
     let Reading::Whole(m, used) = reading else {
         return refusal(reading);
     };
-    let l = packed::unpack(numbers);
+    let l = ledger_numbers::unpack(numbers);
     let t = l.take(m);
     let answer = t.answer;
     let said = ledger::number(answer) as u64;
@@ -59,7 +59,7 @@ pub extern "C" fn moq_ledger_take(s: &[u8], numbers: &mut [u64], info: &mut [u64
     }
     info[0] = used as u64;
     info[1] = ledger::broken(answer) as u64;
-    packed::keep(numbers, t.ledger);
+    ledger_numbers::keep(numbers, t.ledger);
     said
 }
 
@@ -81,12 +81,12 @@ fn refusal(reading: Reading) -> u64
 // Bytes of the peer's that are no message.
 #[no_mangle]
 pub extern "C" fn moq_ledger_malformed(numbers: &mut [u64]) -> u64
-    ensures { λ r. ⌜ Does (malformedIn (now (numbers .entry))) r (now (numbers .exit)) [] ⌝ }
+    ensures { λ r. ⌜ Does (malformedCall (now (numbers .entry))) r (now (numbers .exit)) [] ⌝ }
 {
-    let l = packed::unpack(numbers);
+    let l = ledger_numbers::unpack(numbers);
     let t = l.malformed();
     let answer = t.answer;
-    packed::keep(numbers, t.ledger);
+    ledger_numbers::keep(numbers, t.ledger);
     ledger::number(answer) as u64
 }
 
@@ -98,25 +98,25 @@ pub extern "C" fn moq_ledger_arrival(
     object: u64,
     numbers: &mut [u64],
 ) -> u64
-    ensures { λ r. ⌜ Does (arrivalIn (record { alias = alias; place = record { group = group; object = object } }) (now (numbers .entry))) r (now (numbers .exit)) [] ⌝ }
+    ensures { λ r. ⌜ Does (arrivalCall (record { alias = alias; place = record { group = group; object = object } }) (now (numbers .entry))) r (now (numbers .exit)) [] ⌝ }
 {
     let place = Place { group, object };
-    let l = packed::unpack(numbers);
+    let l = ledger_numbers::unpack(numbers);
     let t = l.arrival(Arrival { alias, place });
     let answer = t.answer;
-    packed::keep(numbers, t.ledger);
+    ledger_numbers::keep(numbers, t.ledger);
     ledger::number(answer) as u64
 }
 
 // A run of arrivals, three numbers each: 01's number of each at the front of `answers`.
 #[no_mangle]
 pub extern "C" fn moq_ledger_arrivals(run: &[u64], numbers: &mut [u64], answers: &mut [u8]) -> u64
-    ensures { λ r. ⌜ Does (arrivalsIn (now (run .entry)) (now (numbers .entry)) (now (answers .entry))) r (now (numbers .exit)) (now (answers .exit)) ⌝ }
+    ensures { λ r. ⌜ Does (arrivalsCall (now (run .entry)) (now (numbers .entry)) (now (answers .entry))) r (now (numbers .exit)) (now (answers .exit)) ⌝ }
 {
-    let l = packed::unpack(numbers);
+    let l = ledger_numbers::unpack(numbers);
     let t = l.arrivals(run, answers);
     let answer = t.answer;
-    packed::keep(numbers, t.ledger);
+    ledger_numbers::keep(numbers, t.ledger);
     match answer {
         Filled::Done(_) => 0,
         Filled::NotALedger => 14,

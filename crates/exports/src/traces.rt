@@ -1,7 +1,7 @@
 // Traces: the text of a whole trace at the front of `out`, and into `info` its length.
 ghost use Rattle.rewrite.specs.Rewriting.{Does};
 ghost use Rattle.report.specs.Report.{reportOf};
-ghost use Rattle.answers.specs.Telling.{answersOf};
+ghost use Rattle.answers.specs.Answers.{answersOf};
 ghost use Rattle.exports.specs.Texts.{textPut};
 use text::Putting;
 

@@ -10,10 +10,10 @@ use Rattle.field.specs.declared.Piece.the-variants.{Number, List as Listing}
 use Rattle.layout.specs.Layout.{place, parameters}
 use Rattle.layout.specs.Allowed.{allowed}
 use Rattle.layout.proofs.Allowed.{test-alone}
-use Rattle.types.specs.Rules.{isStatus, mayHold}
+use Rattle.types.specs.Rules.{isTrackStatus, mayHold}
 use Rattle.types.specs.Fetches.{standalone, joining, range, fetch, fetchOk, largest, trackStatus}
-use Rattle.fetch.specs.Kinds.{rowOf, layoutOf, kindOf}
-use Rattle.fetch.specs.Told.{joiningType, rangePieces, statusPieces, saidOf}
+use Rattle.fetch.specs.Kinds.{typeRow, layoutOf, kindOf}
+use Rattle.fetch.specs.Told.{joiningType, rangePieces, statusPieces, typedOf}
 use Rattle.fetch.specs.declared.Range.{Range}
 use Rattle.fetch.specs.declared.Range.the-variants.{Standalone, Joining}
 use Rattle.fetch.specs.declared.Fetch.{Fetch}
@@ -24,7 +24,7 @@ use Rattle.fetch.specs.declared.FetchMessage.the-variants.{Fetch as AFet
 
 -- ---- TRACK_STATUS: its status is judged, and then each number of its largest place
 
-module _ (x : TrackStatus) {a : Bool} (first : a ≡ isStatus (x .status)) where
+module _ (x : TrackStatus) {a : Bool} (first : a ≡ isTrackStatus (x .status)) where
   pub status-no : not a ≡ true → false ≡ allowed trackStatus (statusPieces x)
   unfolding allowed trackStatus
   status-no h = rw (← first, not-true a h)
@@ -53,13 +53,13 @@ range-any (Joining j) e = by-type (j .absolute)
 
 -- what its layout allows
 abbrev pub judged : FetchMessage → Bool
-judged m = allowed (layoutOf (kindOf m)) (saidOf m .pieces)
+judged m = allowed (layoutOf (kindOf m)) (typedOf m .pieces)
 
 pub fetch-is : {m : FetchMessage} {x : Fetch} {a : Bool} → m ≡ AFetch x → a ≡ askable (x .order) → a ≡ judged m
-unfolding allowed fetch rowOf
+unfolding allowed fetch typeRow
 fetch-is {x = x} which h = rw (which, range-any (x .range) (x .parameters), test-alone (askable (x .order))) h
 
 -- and so in a FETCH_OK
 pub ok-is : {m : FetchMessage} {x : FetchOk} {a : Bool} → m ≡ AFetchOk x → a ≡ givable (x .order) → a ≡ judged m
-unfolding allowed place parameters fetchOk rowOf
+unfolding allowed place parameters fetchOk typeRow
 ok-is {x = x} which h = rw (which, test-alone (givable (x .order))) h

@@ -3,20 +3,20 @@ use mathlib.Core.Path.{_≡_, refl}
 use mathlib.Core.List.{List}
 use borrow.Author.Tests.{eqb-true}
 use lib.Dec.{eqb}
-use Rattle.integer.specs.Answer.{pick}
+use Rattle.common.specs.Choice.{pick}
 use Rattle.field.specs.declared.Piece.{Piece}
-use Rattle.layout.specs.Parts.{numberIn, entriesIn, trackIn, placeIn, failureIn}
+use Rattle.layout.proofs.Parts.{numberIn, entriesIn, trackIn, placeIn, failureIn}
 use Rattle.layout.specs.Typed.{Typed}
 use Rattle.layout.specs.Layout.{place, failure, parameters}
 use Rattle.layout.proofs.Every.{Every}
-use Rattle.types.specs.Table.{ofRow, FETCH, «FETCH_OK», «FETCH_ERROR», «FETCH_CANCEL», «TRACK_STATUS_REQUEST»}
+use Rattle.types.specs.Table.{typedAs, FETCH, «FETCH_OK», «FETCH_ERROR», «FETCH_CANCEL», «TRACK_STATUS_REQUEST»}
 use Rattle.types.specs.Fetches.{standalone, joining, range, fetch, fetchOk, fetchError, fetchCancel, trackStatusRequest, largest, trackStatus}
 use Rattle.fetch.specs.declared.Range.the-variants.{Standalone, Joining}
 use Rattle.fetch.specs.declared.Fetch.{Fetch}
 use Rattle.fetch.specs.declared.FetchMessage.{FetchMessage}
 use Rattle.fetch.specs.declared.FetchMessage.the-variants.{Fetch as AFetch, FetchOk as AFetchOk, FetchError as AFetchError, FetchCancel as AFetchCancel, TrackStatusRequest as ATrackStatusRequest, TrackStatus as ATrackStatus}
-use Rattle.fetch.specs.Kinds.{rowOf}
-use Rattle.fetch.specs.Told.{saidOf}
+use Rattle.fetch.specs.Kinds.{typeRow}
+use Rattle.fetch.specs.Told.{typedOf}
 use Rattle.fetch.specs.declared.kinds.FetchKind.{FetchKind}
 use Rattle.fetch.specs.declared.kinds.FetchKind.the-variants as kinds
 
@@ -44,8 +44,8 @@ messageOf t =
     (ATrackStatus (record { track = trackIn ps 0; status = numberIn ps 1; largest = placeIn ps 2 }))))))
 
 -- whatever fields the layout of a kind reads, the message that is made of them says them
-pub made-says : (k : FetchKind) → Every (rowOf k .layout) (λ ps. saidOf (messageOf (ofRow (rowOf k) ps)) ≡ ofRow (rowOf k) ps)
-unfolding rowOf fetchOf messageOf place failure parameters standalone joining range fetch fetchOk fetchError fetchCancel trackStatusRequest largest trackStatus
+pub made-says : (k : FetchKind) → Every (typeRow k .layout) (λ ps. typedOf (messageOf (typedAs (typeRow k) ps)) ≡ typedAs (typeRow k) ps)
+unfolding typeRow fetchOf messageOf place failure parameters standalone joining range fetch fetchOk fetchError fetchCancel trackStatusRequest largest trackStatus
 made-says kinds.Fetch =
     λ id priority order. (
       (λ may type. (

@@ -1,26 +1,26 @@
 -- The kinds of message, and the row of the table that each stands in.
 use Prim.Native.Nat.{ℕ}
 use Rattle.layout.specs.Layout.{Layout}
-use Rattle.types.specs.Table.{Row, FETCH, «FETCH_OK», «FETCH_ERROR», «FETCH_CANCEL», «TRACK_STATUS_REQUEST», «TRACK_STATUS»}
+use Rattle.types.specs.Table.{TypeRow, FETCH, «FETCH_OK», «FETCH_ERROR», «FETCH_CANCEL», «TRACK_STATUS_REQUEST», «TRACK_STATUS»}
 use Rattle.fetch.specs.declared.kinds.FetchKind.{FetchKind}
 use Rattle.fetch.specs.declared.kinds.FetchKind.the-variants.{Fetch, FetchOk, FetchError, FetchCancel, TrackStatusRequest, TrackStatus}
 use Rattle.fetch.specs.declared.FetchMessage.{FetchMessage}
 use Rattle.fetch.specs.declared.FetchMessage.the-variants.{Fetch as AFetch, FetchOk as AFetchOk, FetchError as AFetchError, FetchCancel as AFetchCancel, TrackStatusRequest as ATrackStatusRequest, TrackStatus as ATrackStatus}
 
-unfoldable pub rowOf : FetchKind → Row
-rowOf Fetch = FETCH
-rowOf FetchOk = «FETCH_OK»
-rowOf FetchError = «FETCH_ERROR»
-rowOf FetchCancel = «FETCH_CANCEL»
-rowOf TrackStatusRequest = «TRACK_STATUS_REQUEST»
-rowOf TrackStatus = «TRACK_STATUS»
+unfoldable pub typeRow : FetchKind → TypeRow
+typeRow Fetch = FETCH
+typeRow FetchOk = «FETCH_OK»
+typeRow FetchError = «FETCH_ERROR»
+typeRow FetchCancel = «FETCH_CANCEL»
+typeRow TrackStatusRequest = «TRACK_STATUS_REQUEST»
+typeRow TrackStatus = «TRACK_STATUS»
 
 -- its number, and the layout of its body
 abbrev pub numberOf : FetchKind → ℕ
-numberOf kind = rowOf kind .number
+numberOf kind = typeRow kind .number
 
 abbrev pub layoutOf : FetchKind → Layout
-layoutOf kind = rowOf kind .layout
+layoutOf kind = typeRow kind .layout
 
 -- the kind that a message is of
 abbrev pub kindOf : FetchMessage → FetchKind

@@ -12,10 +12,10 @@ rangeName (Standalone r) = r .track .name
 rangeName (Joining j) = nowhere
 
 -- so do the request for a track's status, and the answer to it
-abbrev pub nameOf : FetchMessage → Span
-nameOf (Fetch m) = rangeName (m .range)
-nameOf (FetchOk m) = nowhere
-nameOf (FetchError m) = nowhere
-nameOf (FetchCancel id) = nowhere
-nameOf (TrackStatusRequest t) = t .name
-nameOf (TrackStatus m) = m .track .name
+abbrev pub nameSpan : FetchMessage → Span
+nameSpan (Fetch m) = rangeName (m .range)
+nameSpan (FetchOk m) = nowhere
+nameSpan (FetchError m) = nowhere
+nameSpan (FetchCancel id) = nowhere
+nameSpan (TrackStatusRequest t) = t .name
+nameSpan (TrackStatus m) = m .track .name

@@ -2,13 +2,13 @@
 use Prim.Native.Nat.{ℕ}
 use mathlib.Core.List.{List, [], _∷_, _++_}
 use mathlib.Core.Bool.{Bool}
-use Rattle.integer.specs.Answer.{pick}
+use Rattle.common.specs.Choice.{pick}
 use Rattle.field.specs.Outcome.{Outcome, whole, no}
 use Rattle.field.specs.declared.Kind.the-variants.{Parameters}
 use Rattle.field.specs.declared.Piece.{Piece}
 use Rattle.field.specs.declared.Piece.the-variants.{Number, Byte, Bytes, List as Listing, Track as Tracked}
 use Rattle.layout.specs.Typed.{Typed}
-use Rattle.types.specs.Table.{ofRow, FETCH, «FETCH_OK», «FETCH_ERROR», «FETCH_CANCEL», «TRACK_STATUS_REQUEST», «TRACK_STATUS»}
+use Rattle.types.specs.Table.{typedAs, FETCH, «FETCH_OK», «FETCH_ERROR», «FETCH_CANCEL», «TRACK_STATUS_REQUEST», «TRACK_STATUS»}
 use Rattle.fetch.specs.declared.parameters.Head.{Head}
 use Rattle.fetch.specs.declared.parameters.Front.{Front}
 use Rattle.fetch.specs.declared.parameters.Front.the-variants.{Fetch as FrontOfFetch, FetchOk as FrontOfOk}
@@ -54,22 +54,22 @@ abbrev pub statusPieces : TrackStatus → List Piece
 statusPieces m =
     Tracked (m .track) ∷ Number (m .status) ∷ Number (m .largest .group) ∷ Number (m .largest .object) ∷ []
 
-abbrev pub saidOf : FetchMessage → Typed
-saidOf (AFetch m) = ofRow FETCH (fetchPieces m)
-saidOf (AFetchOk m) = ofRow «FETCH_OK» (okPieces m)
-saidOf (AFetchError m) = ofRow «FETCH_ERROR» (errorPieces m)
-saidOf (AFetchCancel id) = ofRow «FETCH_CANCEL» (Number id ∷ [])
-saidOf (ATrackStatusRequest t) = ofRow «TRACK_STATUS_REQUEST» (Tracked t ∷ [])
-saidOf (ATrackStatus m) = ofRow «TRACK_STATUS» (statusPieces m)
+abbrev pub typedOf : FetchMessage → Typed
+typedOf (AFetch m) = typedAs FETCH (fetchPieces m)
+typedOf (AFetchOk m) = typedAs «FETCH_OK» (okPieces m)
+typedOf (AFetchError m) = typedAs «FETCH_ERROR» (errorPieces m)
+typedOf (AFetchCancel id) = typedAs «FETCH_CANCEL» (Number id ∷ [])
+typedOf (ATrackStatusRequest t) = typedAs «TRACK_STATUS_REQUEST» (Tracked t ∷ [])
+typedOf (ATrackStatus m) = typedAs «TRACK_STATUS» (statusPieces m)
 
 abbrev pub told : FetchRead → Outcome Typed
-told (Whole m end) = whole (saidOf m) end
+told (Whole m end) = whole (typedOf m) end
 told (No fault) = no fault
 
 -- ---- what a reader hands on: what stands before the parameters
 
 abbrev pub frontOf : Front → Typed
-frontOf (FrontOfFetch head range) = ofRow FETCH (headPieces head ++ rangePieces range)
+frontOf (FrontOfFetch head range) = typedAs FETCH (headPieces head ++ rangePieces range)
 frontOf (FrontOfOk id order endOfTrack largest) =
-    ofRow «FETCH_OK»
+    typedAs «FETCH_OK»
     (Number id ∷ Byte order ∷ Byte endOfTrack ∷ Number (largest .group) ∷ Number (largest .object) ∷ [])

@@ -1,13 +1,13 @@
 // The track that a message names, by its name.
 ghost use mathlib.Core.Path.{_≡_};
-ghost use Rattle.fetch.specs.Names.{nameOf};
+ghost use Rattle.fetch.specs.Names.{nameSpan};
 use crate::FetchMessage;
 use crate::Range;
 use field::Span;
 
 // Where the name of the message's track stands in the bytes that it was read from; an empty part where it has none.
 pub fn name_of(m: FetchMessage) -> Span
-    ensures { λ r. ⌜ r ≡ nameOf m ⌝ }
+    ensures { λ r. ⌜ r ≡ nameSpan m ⌝ }
 {
     match m {
         FetchMessage::Fetch(f) => {

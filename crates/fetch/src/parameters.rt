@@ -5,7 +5,7 @@ ghost use Rattle.field.specs.declared.Kind.the-variants.{Parameters};
 ghost use Rattle.field.specs.declared.Piece.the-variants.{List as Listing};
 ghost use Rattle.layout.specs.Layout.{scan, parameters};
 ghost use Rattle.layout.specs.Typed.{led, typed};
-ghost use Rattle.fetch.specs.Told.{frontOf, saidOf, told};
+ghost use Rattle.fetch.specs.Told.{frontOf, typedOf, told};
 use crate::Fetch;
 use crate::FetchMessage;
 use crate::FetchOk;
@@ -44,7 +44,7 @@ pub fn read_parameters(s: &[u8], at: usize, front: Front) -> FetchRead
 
 // The message, with its parameters.
 fn complete(front: Front, parameters: Entries) -> FetchMessage
-    ensures { λ r. ⌜ saidOf r ≡ record { type = frontOf front .type; pieces = frontOf front .pieces ++ Listing Parameters parameters ∷ [] } ⌝ }
+    ensures { λ r. ⌜ typedOf r ≡ record { type = frontOf front .type; pieces = frontOf front .pieces ++ Listing Parameters parameters ∷ [] } ⌝ }
 {
     match front {
         Front::Fetch(head, range) => FetchMessage::Fetch(Fetch {

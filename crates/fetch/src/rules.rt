@@ -1,9 +1,9 @@
 // Which values a TRACK_STATUS may hold.
 ghost use mathlib.Core.Path.{_≡_};
-ghost use Rattle.types.specs.Rules.{isStatus, mayHold};
+ghost use Rattle.types.specs.Rules.{isTrackStatus, mayHold};
 
 pub fn is_status(status: u64) -> bool
-    ensures { λ r. ⌜ r ≡ isStatus status ⌝ }
+    ensures { λ r. ⌜ r ≡ isTrackStatus status ⌝ }
 {
     status <= 4
 }

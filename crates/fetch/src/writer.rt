@@ -4,7 +4,7 @@ ghost use Rattle.layout.specs.Allowed.{allowed};
 ghost use Rattle.measure.specs.Fields.{placed};
 ghost use Rattle.types.specs.Fetches.{trackStatus};
 ghost use Rattle.fetch.specs.Kinds.{layoutOf, kindOf};
-ghost use Rattle.fetch.specs.Told.{joiningType, fetchPieces, statusPieces, saidOf};
+ghost use Rattle.fetch.specs.Told.{joiningType, fetchPieces, statusPieces, typedOf};
 use crate::Fetch;
 use crate::FetchMessage;
 use crate::Range;
@@ -18,7 +18,7 @@ use measure::places;
 
 // The number of its type.
 pub fn number(m: FetchMessage) -> u64
-    ensures { λ r. ⌜ r ≡ saidOf m .type ⌝ }
+    ensures { λ r. ⌜ r ≡ typedOf m .type ⌝ }
 {
     match m {
         FetchMessage::Fetch(_) => 0x16,
@@ -31,7 +31,7 @@ pub fn number(m: FetchMessage) -> u64
 }
 
 pub fn fields(m: FetchMessage) -> Fields
-    ensures { λ r. ⌜ r ≡ placed (saidOf m) ⌝ }
+    ensures { λ r. ⌜ r ≡ placed (typedOf m) ⌝ }
 {
     let kind = number(m);
     match m {
@@ -128,7 +128,7 @@ fn joining_type(absolute: bool) -> u64
 
 // Whether a message holds no value that its layout forbids.
 pub fn is_allowed(m: FetchMessage) -> bool
-    ensures { λ r. ⌜ r ≡ allowed (layoutOf (kindOf m)) (saidOf m .pieces) ⌝ }
+    ensures { λ r. ⌜ r ≡ allowed (layoutOf (kindOf m)) (typedOf m .pieces) ⌝ }
 {
     match m {
         FetchMessage::Fetch(x) => field::is_askable(x.order),

@@ -8,7 +8,7 @@ use native.Mathlib.Omega.{arith}
 use lib.ListN.{length, drop}
 use mir.Syntax.{w64}
 use mir.Val.{Fits}
-use Rattle.integer.specs.Answer.{pick}
+use Rattle.common.specs.Choice.{pick}
 use Rattle.integer.specs.Integer.{readOf, told, greatest}
 use Rattle.integer.specs.declared.Reading.{Reading}
 use Rattle.integer.specs.declared.Reading.the-variants.{Whole, More}

@@ -13,7 +13,7 @@ use Rattle.integer.specs.Integer.{encOf, greatest}
 use Rattle.integer.proofs.Laws.{round-trip}
 use Rattle.field.specs.Outcome.{whole}
 use Rattle.field.specs.Entries.{size, numberAt, textAt, numberedAt, entryAt, mostOf, entriesAt, few, Listed, listAt}
-use Rattle.field.specs.Fields.{Form, integer, byte, bytes, list, track, fieldAt}
+use Rattle.field.specs.Fields.{FieldForm, integer, byte, bytes, list, track, fieldAt}
 use Rattle.field.specs.Value.{part, Item, item, itemsOf, total, Value, number, octet, text, items, fullName, contents, mean, encText, encItem, encItems, encList, encField}
 use Rattle.field.specs.declared.Span.{Span}
 use Rattle.field.specs.declared.Entry.{Entry}
@@ -221,7 +221,7 @@ list-items kind s {is} h f = items-back kind s (h .all-fit) (behind (encOf (leng
 -- ---- a field: so for each form
 
 -- a field stands at an offset: it is read there up to its end, and means the value
-pub record FieldBack (form : Form) (s : List ℕ) (at : ℕ) (v : Value) : Type 0 where
+pub record FieldBack (form : FieldForm) (s : List ℕ) (at : ℕ) (v : Value) : Type 0 where
   pub found : Piece
   pub reads : fieldAt form s at ≡ whole found (at + length (encField v))
   pub means : mean s found ≡ v

@@ -7,13 +7,14 @@ use native.Mathlib.Omega.{arith}
 use lib.ListN.{length, getD, drop, replicate, length-append, length-drop, length-replicate, replicate-append-replicate}
 use lib.Dec.{leb}
 use borrow.Author.Tests.{le-leb, lt-ltb}
-use Rattle.integer.specs.Answer.{Answer, whole as answered, refused, pick}
+use Rattle.common.specs.Answer.{Answer, whole as answered, refused}
+use Rattle.common.specs.Choice.{pick}
 use Rattle.integer.specs.Integer.{readOf, onRead, greatest}
 use Rattle.integer.proofs.Widths.{wide-form}
 use Rattle.integer.proofs.Front.{cut-is}
 use Rattle.field.specs.Outcome.{Outcome, whole, no, andThen}
 use Rattle.field.specs.Entries.{size, numberAt, textAt, numberedAt, entryAt, mostOf, entriesAt, few, listAt}
-use Rattle.field.specs.Fields.{Form, integer, byte, bytes, list, track, fieldAt}
+use Rattle.field.specs.Fields.{FieldForm, integer, byte, bytes, list, track, fieldAt}
 use Rattle.field.specs.declared.Fault.{Fault}
 use Rattle.field.specs.declared.Fault.the-variants.{Cut, Oversize}
 use Rattle.field.specs.declared.Kind.{Kind}
@@ -116,7 +117,7 @@ list-decided kind at =
     (refused-decided oversize s))
 
 -- a field
-pub field-decided : (form : Form) (at : ℕ) (s : List ℕ) → Decided (λ u. fieldAt form u at) s
+pub field-decided : (form : FieldForm) (at : ℕ) (s : List ℕ) → Decided (λ u. fieldAt form u at) s
 unfolding fieldAt
 field-decided integer at =
     then-decided (λ s t. number-stays s t at) (number-decided at) (λ n end. found-decided)

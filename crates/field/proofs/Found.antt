@@ -5,11 +5,11 @@ use mathlib.Core.List.{List}
 use native.Mathlib.Omega.{arith}
 use lib.ListN.{length, drop}
 use borrow.Author.Tests.{le-leb, lt-leb}
-use Rattle.integer.specs.Answer.{Answer, whole as answered, refused}
+use Rattle.common.specs.Answer.{Answer, whole as answered, refused}
+use Rattle.common.proofs.Cases.{pick-le}
 use Rattle.integer.specs.Integer.{readOf, onRead, encOf, greatest}
-use Rattle.integer.proofs.Cases.{pick-le}
 use Rattle.integer.proofs.Laws.{bounds, shortest}
-use Rattle.integer.proofs.Parts.{reach}
+use Rattle.integer.proofs.Offsets.{reach}
 use Rattle.field.specs.Outcome.{Outcome, whole, no, andThen}
 use Rattle.field.specs.Entries.{size, numberAt, textAt, numberedAt, entryAt}
 use Rattle.field.specs.Value.{itemSize}

@@ -6,9 +6,10 @@ use native.Mathlib.Numerals.{add-one}
 use native.Mathlib.Omega.{arith}
 use lib.ListN.{length, getD, drop, length-append, take-append-drop}
 use lib.Seq.{drop-drop, drop-cons}
+use Rattle.common.specs.Octets.{Octets}
+use Rattle.common.proofs.Octets.{octets-drop}
 use Rattle.integer.specs.Integer.{encOf}
-use Rattle.integer.specs.Octets.{Octets}
-use Rattle.integer.proofs.Only.{only, octets-drop}
+use Rattle.integer.proofs.Only.{only}
 use Rattle.field.specs.Outcome.{whole}
 use Rattle.field.specs.Entries.{size, numberAt, textAt, entryAt}
 use Rattle.field.specs.Value.{part, item, encText, encItem}

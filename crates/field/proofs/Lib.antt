@@ -5,7 +5,7 @@ pub mod Answers
 pub mod Together
 pub mod Walks
 pub mod Lists
-pub mod Once
+pub mod OneAnswer
 pub mod Pieces
 pub mod Back
 pub mod Least

@@ -7,11 +7,11 @@ use native.Mathlib.Omega.{arith}
 use lib.ListN.{length, getD}
 use lib.Dec.{ltb}
 use borrow.Author.Tests.{ltb-true}
+use Rattle.common.proofs.Cases.{pick-by}
 use Rattle.integer.specs.Integer.{greatest}
-use Rattle.integer.proofs.Cases.{pick-by}
 use Rattle.field.specs.Outcome.{whole}
 use Rattle.field.specs.Entries.{numberAt, textAt, entryAt, mostOf, entriesAt, few, Listed, listAt}
-use Rattle.field.specs.Fields.{Form, integer, byte, bytes, list, track, fieldAt}
+use Rattle.field.specs.Fields.{FieldForm, integer, byte, bytes, list, track, fieldAt}
 use Rattle.field.specs.Value.{item, itemsOf}
 use Rattle.field.specs.declared.Span.{Span}
 use Rattle.field.specs.declared.Entry.{Entry}
@@ -53,7 +53,7 @@ list-at kind s at {l} {end} h =
 -- ---- a field of any form
 
 -- what each form is found as
-pub data FieldAt (s : List ℕ) (at : ℕ) : Form → Piece → ℕ → Type 0 where
+pub data FieldAt (s : List ℕ) (at : ℕ) : FieldForm → Piece → ℕ → Type 0 where
   a-number : {n end : ℕ} → numberAt s at ≡ whole n end → FieldAt s at integer (Number n) end
   a-byte : at < length s → FieldAt s at byte (Byte (getD s at 0)) (at + 1)
   some-bytes : {p : Span} {end : ℕ} → textAt greatest s at ≡ whole p end → FieldAt s at bytes (Bytes p) end
@@ -61,7 +61,7 @@ pub data FieldAt (s : List ℕ) (at : ℕ) : Form → Piece → ℕ → Type 0 w
   a-track : {l : Listed} {next : ℕ} {name : Span} {end : ℕ} → listAt Namespace s at ≡ whole l next → textAt (mostOf true Namespace (l .held)) s next ≡ whole name end → FieldAt s at track (Tracked (record { namespace = l .entries; name = name })) end
 
 -- every field that was found is one of these
-pub field-at : (form : Form) (s : List ℕ) (at : ℕ) {p : Piece} {end : ℕ} → fieldAt form s at ≡ whole p end → FieldAt s at form p end
+pub field-at : (form : FieldForm) (s : List ℕ) (at : ℕ) {p : Piece} {end : ℕ} → fieldAt form s at ≡ whole p end → FieldAt s at form p end
 unfolding fieldAt
 field-at integer s at h = let t = steps (numberAt s at) _ h in as-told (FieldAt s at integer) (a-number (t .first)) (t .then)
 field-at byte s at {p} {end} h =

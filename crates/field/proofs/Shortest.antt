@@ -10,7 +10,7 @@ use lib.ListN.{length}
 use Rattle.integer.specs.Integer.{greatest}
 use Rattle.field.specs.Outcome.{whole}
 use Rattle.field.specs.Entries.{size, entryAt, mostOf, entriesAt, Listed, listAt}
-use Rattle.field.specs.Fields.{Form}
+use Rattle.field.specs.Fields.{FieldForm}
 use Rattle.field.specs.Value.{Item, itemsOf, total, contents, mean, encItems, encList, encField}
 use Rattle.field.specs.declared.Kind.{Kind}
 use Rattle.field.specs.declared.Kind.the-variants.{Namespace}
@@ -94,7 +94,7 @@ pub record Fits (s : List ℕ) (at : ℕ) (p : Piece) (end : ℕ) : Type 0 where
   pub within : end ≤ length s
 
 -- every field that was found fits
-pub field-fits : {s : List ℕ} {at : ℕ} {form : Form} {p : Piece} {end : ℕ} → FieldAt s at form p end → Fits s at p end
+pub field-fits : {s : List ℕ} {at : ℕ} {form : FieldForm} {p : Piece} {end : ℕ} → FieldAt s at form p end → Fits s at p end
 unfolding mean encField
 field-fits {s} {at} (a-number e) = record { least = least-number s at e; within = number-at s at e .within }
 field-fits {s} {at} (a-byte e) = record { least = least-byte s at e; within = omega arith }

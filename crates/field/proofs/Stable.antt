@@ -9,13 +9,14 @@ use lib.ListN.{length, drop, length-append, length-drop, List·getD-append}
 use lib.Seq.{take-append-le, drop-append-le}
 use lib.Dec.{leb, ltb}
 use borrow.Author.Tests.{le-leb, leb-true, lt-ltb, ltb-true}
-use Rattle.integer.specs.Answer.{Answer, whole as answered, refused, pick}
+use Rattle.common.specs.Answer.{Answer, whole as answered, refused}
+use Rattle.common.specs.Choice.{pick}
 use Rattle.integer.specs.Integer.{readOf, greatest}
 use Rattle.integer.proofs.Laws.{stable}
-use Rattle.integer.proofs.Parts.{reach}
+use Rattle.integer.proofs.Offsets.{reach}
 use Rattle.field.specs.Outcome.{Outcome, whole, no, andThen}
 use Rattle.field.specs.Entries.{size, numberAt, textAt, numberedAt, entryAt, mostOf, entriesAt, few, Listed, listAt}
-use Rattle.field.specs.Fields.{Form, integer, byte, bytes, list, track, fieldAt}
+use Rattle.field.specs.Fields.{FieldForm, integer, byte, bytes, list, track, fieldAt}
 use Rattle.field.specs.Value.{part, itemsOf, contents, mean}
 use Rattle.field.specs.declared.Fault.{Fault}
 use Rattle.field.specs.declared.Fault.the-variants.{Cut}
@@ -122,7 +123,7 @@ module _ (s t : List ℕ) where
       (λ count first. stays-pick (few kind count) (stays-then (entries-stays true kind count 0 first) (λ held end. same)) same)
 
   -- a field
-  pub field-stays : (form : Form) (at : ℕ) → Stays (fieldAt form s at) (fieldAt form (s ++ t) at)
+  pub field-stays : (form : FieldForm) (at : ℕ) → Stays (fieldAt form s at) (fieldAt form (s ++ t) at)
   unfolding fieldAt
   field-stays integer at = stays-then (number-stays at) (λ n end. same)
   field-stays byte at =
@@ -162,7 +163,7 @@ module _ (s t : List ℕ) where
   contents-stay kind at {l} h = items-stay true kind (l .entries .count) 0 (l .entries .start) (list-at kind s at h .run)
 
   -- the value of a piece
-  pub mean-stays : {at : ℕ} {form : Form} {p : Piece} {end : ℕ} → FieldAt s at form p end → mean (s ++ t) p ≡ mean s p
+  pub mean-stays : {at : ℕ} {form : FieldForm} {p : Piece} {end : ℕ} → FieldAt s at form p end → mean (s ++ t) p ≡ mean s p
   unfolding mean
   mean-stays (a-number e) = refl
   mean-stays (a-byte e) = refl

@@ -6,9 +6,10 @@ use mathlib.Core.List.{List}
 use native.Mathlib.Omega.{arith}
 use lib.ListN.{length, drop}
 use lib.Dec.{leb}
-use Rattle.integer.specs.Answer.{Answer, whole as answered, refused, pick}
+use Rattle.common.specs.Answer.{Answer, whole as answered, refused}
+use Rattle.common.specs.Choice.{pick}
+use Rattle.common.proofs.Cases.{pick-le}
 use Rattle.integer.specs.Integer.{readOf, onRead, greatest}
-use Rattle.integer.proofs.Cases.{pick-le}
 use Rattle.field.specs.Outcome.{Outcome, whole, no, andThen}
 use Rattle.field.specs.Entries.{size, numberAt, textAt, numberedAt, entryAt}
 use Rattle.field.specs.Fields.{fieldAt, integer, bytes}

@@ -4,9 +4,9 @@ use mathlib.Core.List.{List}
 use mathlib.Core.Bool.{Bool, true, false}
 use lib.ListN.{length, drop}
 use lib.Dec.{leb}
-use Rattle.integer.specs.Answer.{guard}
+use Rattle.common.specs.Choice.{guard, both}
 use Rattle.integer.specs.Integer.{readOf, onRead, greatest}
-use Rattle.field.specs.Outcome.{Outcome, whole, no, andThen, both}
+use Rattle.field.specs.Outcome.{Outcome, whole, no, andThen}
 use Rattle.field.specs.declared.Fault.the-variants.{Cut, Oversize}
 use Rattle.field.specs.declared.Span.{Span}
 use Rattle.field.specs.declared.Entry.{Entry}

@@ -4,7 +4,7 @@ use mathlib.Core.List.{List}
 use mathlib.Core.Bool.{true}
 use lib.ListN.{length, getD}
 use lib.Dec.{ltb}
-use Rattle.integer.specs.Answer.{guard}
+use Rattle.common.specs.Choice.{guard}
 use Rattle.integer.specs.Integer.{greatest}
 use Rattle.field.specs.Outcome.{Outcome, whole, no, andThen}
 use Rattle.field.specs.Entries.{numberAt, textAt, mostOf, listAt}
@@ -16,14 +16,14 @@ use Rattle.field.specs.declared.Failure.{Failure}
 use Rattle.field.specs.declared.Piece.{Piece}
 use Rattle.field.specs.declared.Piece.the-variants.{Number, Byte, Bytes, List as Listing, Track as Tracked}
 
-pub data Form : Type 0 where
-  integer : Form
-  byte : Form
-  bytes : Form
-  list : Kind → Form
-  track : Form
+pub data FieldForm : Type 0 where
+  integer : FieldForm
+  byte : FieldForm
+  bytes : FieldForm
+  list : Kind → FieldForm
+  track : FieldForm
 
-unfoldable pub fieldAt : Form → List ℕ → ℕ → Outcome Piece
+unfoldable pub fieldAt : FieldForm → List ℕ → ℕ → Outcome Piece
 fieldAt integer s at = andThen (numberAt s at) λ n end. whole (Number n) end
 fieldAt byte s at = guard (ltb at (length s)) (no Cut) (whole (Byte (getD s at 0)) (at + 1))
 fieldAt bytes s at = andThen (textAt greatest s at) λ p end. whole (Bytes p) end

@@ -1,7 +1,6 @@
 -- What reading at an offset comes to: what was found and where it ends, or why it is refused.
 use Prim.Native.Nat.{ℕ}
-use mathlib.Core.Bool.{Bool, true, false}
-use Rattle.integer.specs.Answer.{Answer, whole as answered, refused}
+use Rattle.common.specs.Answer.{Answer, whole as answered, refused}
 use Rattle.field.specs.declared.Fault.{Fault}
 use Rattle.field.specs.declared.Fault.the-variants.{Cut, Forbidden, Oversize}
 
@@ -15,17 +14,12 @@ andThen (whole a end) next = next a end
 andThen (no fault) next = no fault
 
 -- document 01's number of a fault: a cut field is 4 in a body or a datagram, and 1 on a stream
-abbrev pub number : ℕ → Fault → ℕ
-number cut Cut = cut
-number cut Forbidden = 5
-number cut Oversize = 6
+abbrev pub faultNumber : ℕ → Fault → ℕ
+faultNumber cut Cut = cut
+faultNumber cut Forbidden = 5
+faultNumber cut Oversize = 6
 
 -- and the answer that an outcome is, by the answer for a cut field
 abbrev pub answer : {A : Type 0} → ℕ → Outcome A → Answer A
 answer cut (whole a end) = answered a end
-answer cut (no fault) = refused (number cut fault)
-
--- both of two tests
-abbrev pub both : Bool → Bool → Bool
-both true b = b
-both false b = false
+answer cut (no fault) = refused (faultNumber cut fault)

@@ -2,7 +2,7 @@
 use Prim.Native.Nat.{ℕ}
 use mathlib.Core.Bool.{Bool}
 use lib.Dec.{leb}
-use Rattle.field.specs.Outcome.{both}
+use Rattle.common.specs.Choice.{both}
 
 unfoldable pub askable : ℕ → Bool
 askable order = leb order 2

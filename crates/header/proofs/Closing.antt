@@ -5,7 +5,7 @@ use mathlib.Core.List.{List, [], _∷_}
 use mathlib.Core.Bool.{Bool, false, not}
 use lib.ListN.{length}
 use borrow.Author.Tests.{lt-ltb, le-ltb}
-use Rattle.integer.specs.Answer.{Answer, whole as answered, refused}
+use Rattle.common.specs.Answer.{Answer, whole as answered, refused}
 use Rattle.field.specs.Outcome.{Outcome, whole, answer}
 use Rattle.field.specs.Fields.{integer, fieldAt}
 use Rattle.field.specs.Told.{toldNumber}
@@ -17,33 +17,33 @@ use Rattle.field.specs.declared.Piece.the-variants.{Number}
 use Rattle.layout.specs.Layout.{scan}
 use Rattle.layout.specs.Typed.{Typed, led, typed}
 use Rattle.layout.proofs.Steps.{To, Stops, there, is-whole, is-no, number-then, kept}
-use Rattle.header.specs.Rules.{isStatus}
+use Rattle.header.specs.Rules.{isObjectStatus}
 use Rattle.header.specs.Layouts.{objectDatagram, status, datagramStatus, datagrams}
-use Rattle.header.specs.Told.{objectPieces, datagramSaid, toldObject}
-use Rattle.header.specs.Reading.{headedOf, closed, datagramOf}
+use Rattle.header.specs.Told.{objectPieces, datagramTyped, toldObject}
+use Rattle.header.specs.Reading.{headedOf, endedDatagram, datagramOf}
 use Rattle.header.specs.declared.ObjectDatagram.{ObjectDatagram}
 use Rattle.header.specs.declared.Datagram.the-variants.{Status}
 use Rattle.header.specs.declared.ObjectRead.{ObjectRead}
 use Rattle.header.specs.declared.ObjectRead.the-variants.{Whole as WholeObject, Cut as CutObject}
 use Rattle.header.proofs.Headed.{headed-is}
-use Rattle.header.proofs.Behind.{behind-whole, behind-no}
+use Rattle.header.proofs.LayoutsJoined.{behind-whole, behind-no}
 
 -- a datagram whose answer does not depend on what follows its header,
-pub is-open : (s : List ℕ) {a : Answer Typed} → a ≡ headedOf 4 datagrams s → a ≡ closed (length s) a → a ≡ datagramOf s
+pub is-open : (s : List ℕ) {a : Answer Typed} → a ≡ headedOf 4 datagrams s → a ≡ endedDatagram (length s) a → a ≡ datagramOf s
 unfolding datagramOf
-is-open s h e = e ∙ ap (closed (length s)) h
+is-open s h e = e ∙ ap (endedDatagram (length s)) h
 
 -- and one with a status, by its reader
-pub has-status : (s : List ℕ) {r : NumberRead} {n at : ℕ} {a : Answer Typed} → r ≡ WholeNumber n at → toldNumber r ≡ fieldAt integer s 0 → n ≡ 0x2 → a ≡ closed (length s) (answer 4 (typed 0x2 (scan datagramStatus s at))) → a ≡ datagramOf s
+pub has-status : (s : List ℕ) {r : NumberRead} {n at : ℕ} {a : Answer Typed} → r ≡ WholeNumber n at → toldNumber r ≡ fieldAt integer s 0 → n ≡ 0x2 → a ≡ endedDatagram (length s) (answer 4 (typed 0x2 (scan datagramStatus s at))) → a ≡ datagramOf s
 unfolding datagramOf datagrams
-has-status s read said is e = e ∙ ap (closed (length s)) (headed-is 4 datagrams s said read is refl refl)
+has-status s read said is e = e ∙ ap (endedDatagram (length s)) (headed-is 4 datagrams s said read is refl refl)
 
 module _ (s : List ℕ) (at : ℕ) where
   -- what a datagram with a status comes to, by its fields
   abbrev Closes : Answer Typed → Type 0
-  Closes a = a ≡ closed (length s) (answer 4 (typed 0x2 (scan datagramStatus s at)))
+  Closes a = a ≡ endedDatagram (length s) (answer 4 (typed 0x2 (scan datagramStatus s at)))
 
-  by-fields : {o : Outcome (List Piece)} {a : Answer Typed} → o ≡ scan datagramStatus s at → a ≡ closed (length s) (answer 4 (typed 0x2 o)) → Closes a
+  by-fields : {o : Outcome (List Piece)} {a : Answer Typed} → o ≡ scan datagramStatus s at → a ≡ endedDatagram (length s) (answer 4 (typed 0x2 o)) → Closes a
   by-fields h e = rw (← h) e
 
   module _ {r : ObjectRead} (said : toldObject r ≡ scan objectDatagram s at) where
@@ -66,7 +66,7 @@ module _ (s : List ℕ) (at : ℕ) where
       pub status-forbidden : Stops s status (d .extensions .end) Forbidden → Closes (refused 5)
       status-forbidden w = by-fields (ap (led (objectPieces d)) (is-no w) ∙ behind-object) refl
 
-      module _ {q : NumberRead} {n end : ℕ} (got : q ≡ WholeNumber n end) (here : toldNumber q ≡ fieldAt integer s (d .extensions .end)) {b : Bool} (judged : b ≡ isStatus n) (ok : not b ≡ false) where
+      module _ {q : NumberRead} {n end : ℕ} (got : q ≡ WholeNumber n end) (here : toldNumber q ≡ fieldAt integer s (d .extensions .end)) {b : Bool} (judged : b ≡ isObjectStatus n) (ok : not b ≡ false) where
         -- or it is one,
         status-is : led (objectPieces d) (whole (Number n ∷ []) end) ≡ scan datagramStatus s at
         unfolding status
@@ -77,5 +77,5 @@ module _ (s : List ℕ) (at : ℕ) where
         status-over h = by-fields status-is (rw (lt-ltb end (length s) h))
 
         -- or none does
-        pub status-last : length s ≤ end → Closes (answered (datagramSaid (Status d n)) end)
+        pub status-last : length s ≤ end → Closes (answered (datagramTyped (Status d n)) end)
         status-last h = by-fields status-is (rw (le-ltb end (length s) h))

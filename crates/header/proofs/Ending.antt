@@ -3,7 +3,7 @@
 use Prim.Native.Nat.{ℕ}
 use mathlib.Core.Path.{_≡_, sym, ap, _∙_}
 use mathlib.Core.List.{List, [], _∷_}
-use Rattle.integer.specs.Answer.{Answer, refused}
+use Rattle.common.specs.Answer.{Answer, refused}
 use Rattle.field.specs.Outcome.{answer}
 use Rattle.field.specs.Fields.{integer, bytes, fieldAt}
 use Rattle.field.specs.Told.{toldNumber, toldBytes}
@@ -24,7 +24,7 @@ use Rattle.header.specs.declared.Lead.{Lead}
 use Rattle.header.specs.declared.LeadRead.{LeadRead}
 use Rattle.header.specs.declared.LeadRead.the-variants.{Whole as WholeLead, Cut as CutLead}
 use Rattle.header.specs.declared.PayloadRead.{PayloadRead}
-use Rattle.header.proofs.Behind.{behind-whole, behind-no}
+use Rattle.header.proofs.LayoutsJoined.{behind-whole, behind-no}
 
 -- what both headers end in
 abbrev ending : Layout

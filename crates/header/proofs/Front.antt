@@ -3,7 +3,7 @@ use Prim.Native.Nat.{ℕ}
 use mathlib.Core.Path.{_≡_, refl, sym, ap, _∙_}
 use mathlib.Core.List.{List, _++_}
 use native.Mathlib.Omega.{arith}
-use Rattle.integer.specs.Answer.{Answer, whole as answered, refused}
+use Rattle.common.specs.Answer.{Answer, whole as answered, refused}
 use Rattle.field.specs.Outcome.{Outcome, whole, no, answer}
 use Rattle.field.specs.Entries.{numberAt}
 use Rattle.field.specs.Fields.{integer}

@@ -1,8 +1,8 @@
-pub mod Behind
+pub mod LayoutsJoined
 pub mod Headed
 pub mod Closing
 pub mod Ending
-pub mod Once
+pub mod OneAnswer
 pub mod Front
 pub mod More
 pub mod Steady

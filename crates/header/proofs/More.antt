@@ -3,8 +3,8 @@ use Prim.Native.Nat.{ℕ}
 use mathlib.Core.Path.{_≡_, refl, sym, ap, _∙_}
 use mathlib.Core.List.{List, _++_}
 use native.Mathlib.Omega.{arith}
-use Rattle.integer.specs.Answer.{Answer, refused}
-use Rattle.field.specs.Outcome.{Outcome, whole, no, number, answer}
+use Rattle.common.specs.Answer.{Answer, refused}
+use Rattle.field.specs.Outcome.{Outcome, whole, no, faultNumber, answer}
 use Rattle.field.specs.Entries.{numberAt}
 use Rattle.field.specs.Fields.{integer, fieldAt}
 use Rattle.field.specs.declared.Fault.{Fault}
@@ -20,7 +20,7 @@ use Rattle.header.proofs.Front.{apart, Judged, no-type, not-known, by-f
 
 -- ---- 1 is the answer for cut fields, and for no others
 
-only-cut : (fault : Fault) → number 1 fault ≡ 1 → fault ≡ Cut
+only-cut : (fault : Fault) → faultNumber 1 fault ≡ 1 → fault ≡ Cut
 only-cut Cut h = refl
 only-cut Forbidden h = absurd (omega arith)
 only-cut Oversize h = absurd (omega arith)

@@ -2,7 +2,7 @@
 use Prim.Native.Nat.{ℕ}
 use mathlib.Core.Path.{_≡_, sym, ap, _∙_}
 use mathlib.Core.List.{List, _++_}
-use Rattle.integer.specs.Answer.{Answer, whole as answered, refused}
+use Rattle.common.specs.Answer.{Answer, whole as answered, refused}
 use Rattle.field.specs.Outcome.{answer}
 use Rattle.layout.specs.Layout.{Layout, scan}
 use Rattle.header.specs.Layouts.{streams, subgroupObject, fetchObject}

@@ -7,7 +7,7 @@ use Rattle.header.specs.declared.DatagramRead.{DatagramRead}
 use Rattle.header.specs.declared.StreamRead.{StreamRead}
 use Rattle.header.specs.declared.SubgroupObjectRead.{SubgroupObjectRead}
 use Rattle.header.specs.declared.FetchObjectRead.{FetchObjectRead}
-use Rattle.header.proofs.Once as once
+use Rattle.header.proofs.OneAnswer as once
 use Rattle.header.proofs.Steady as steady
 
 -- 1. On a stream, bytes that follow change no answer but 1; and where 1 is answered, there are bytes that do.

@@ -1,10 +1,10 @@
 -- The layouts of data headers: section 9 of source document 004, figures 29 to 34. Payloads are not read.
 use Prim.Native.Nat.{ℕ}
 use lib.Dec.{eqb}
-use Rattle.integer.specs.Answer.{pick}
+use Rattle.common.specs.Choice.{pick}
 use Rattle.field.specs.Fields.{integer, byte, bytes}
 use Rattle.layout.specs.Layout.{Layout, done, forbidden, field, when, place}
-use Rattle.header.specs.Rules.{isStatus}
+use Rattle.header.specs.Rules.{isObjectStatus}
 
 -- a layout, and behind it another
 unfoldable pub behind : Layout → Layout → Layout
@@ -15,7 +15,7 @@ behind (when test k m) l = when test (behind k l) (behind m l)
 
 -- Object Status
 unfoldable pub status : Layout
-status = field integer λ status. when (isStatus status) done forbidden
+status = field integer λ status. when (isObjectStatus status) done forbidden
 
 -- ---- datagrams
 

@@ -4,8 +4,9 @@ use Prim.Native.Nat.{ℕ}
 use mathlib.Core.List.{List}
 use lib.ListN.{length}
 use lib.Dec.{eqb, ltb}
-use Rattle.integer.specs.Answer.{pick, Answer, whole as answered, refused}
-use Rattle.field.specs.Outcome.{answer, both}
+use Rattle.common.specs.Choice.{pick, both}
+use Rattle.common.specs.Answer.{Answer, whole as answered, refused}
+use Rattle.field.specs.Outcome.{answer}
 use Rattle.field.specs.Entries.{numberAt}
 use Rattle.field.specs.Value.{onFound}
 use Rattle.field.specs.declared.Piece.{Piece}
@@ -21,12 +22,12 @@ headedOf cut types s =
     (refused cut)
 
 -- a datagram of so many bytes: none follows a status, and what follows else is the payload
-abbrev pub closed : ℕ → Answer Typed → Answer Typed
-closed size (answered t used) = pick (both (eqb (t .type) 0x2) (ltb used size)) (refused 4) (answered t used)
-closed size (refused n) = refused n
+abbrev pub endedDatagram : ℕ → Answer Typed → Answer Typed
+endedDatagram size (answered t used) = pick (both (eqb (t .type) 0x2) (ltb used size)) (refused 4) (answered t used)
+endedDatagram size (refused n) = refused n
 
 unfoldable pub datagramOf : List ℕ → Answer Typed
-datagramOf s = closed (length s) (headedOf 4 datagrams s)
+datagramOf s = endedDatagram (length s) (headedOf 4 datagrams s)
 
 unfoldable pub streamOf : List ℕ → Answer Typed
 streamOf s = headedOf 1 streams s

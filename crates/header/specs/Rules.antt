@@ -3,8 +3,7 @@
 use Prim.Native.Nat.{ℕ}
 use mathlib.Core.Bool.{Bool, true}
 use lib.Dec.{leb}
-use Rattle.integer.specs.Answer.{pick}
-use Rattle.field.specs.Outcome.{both}
+use Rattle.common.specs.Choice.{pick, both}
 
-unfoldable pub isStatus : ℕ → Bool
-isStatus status = pick (leb status 0x1) true (both (leb 0x3 status) (leb status 0x4))
+unfoldable pub isObjectStatus : ℕ → Bool
+isObjectStatus status = pick (leb status 0x1) true (both (leb 0x3 status) (leb status 0x4))

@@ -2,7 +2,7 @@
 use Prim.Native.Nat.{ℕ}
 use mathlib.Core.Path.{_≡_}
 use mathlib.Core.List.{List, _++_}
-use Rattle.integer.specs.Answer.{Answer, whole as answered, refused}
+use Rattle.common.specs.Answer.{Answer, whole as answered, refused}
 
 -- On a stream bytes come one after the other:
 pub record Steady {B : Type 0} (readOf : List ℕ → Answer B) : Type 0 where

@@ -1,6 +1,6 @@
 -- Each header as its fields, in the order of its layout, with the number of its type where it has one; and what a reader answers.
 use mathlib.Core.List.{List, [], _∷_, _++_}
-use Rattle.integer.specs.Answer.{Answer, whole as answered, refused}
+use Rattle.common.specs.Answer.{Answer, whole as answered, refused}
 use Rattle.field.specs.Outcome.{Outcome, whole, no}
 use Rattle.field.specs.declared.Fault.the-variants.{Cut, Forbidden}
 use Rattle.field.specs.declared.Piece.{Piece}
@@ -36,16 +36,16 @@ abbrev pub objectPieces : ObjectDatagram → List Piece
 objectPieces d =
     Number (d .alias) ∷ Number (d .place .group) ∷ Number (d .place .object) ∷ Byte (d .priority) ∷ Bytes (d .extensions) ∷ []
 
-abbrev pub datagramSaid : Datagram → Typed
-datagramSaid (Object d) = record { type = 0x1; pieces = objectPieces d }
-datagramSaid (WithStatus d n) = record { type = 0x2; pieces = objectPieces d ++ Number n ∷ [] }
+abbrev pub datagramTyped : Datagram → Typed
+datagramTyped (Object d) = record { type = 0x1; pieces = objectPieces d }
+datagramTyped (WithStatus d n) = record { type = 0x2; pieces = objectPieces d ++ Number n ∷ [] }
 
 abbrev pub subgroupPieces : SubgroupHeader → List Piece
 subgroupPieces h = Number (h .alias) ∷ Number (h .group) ∷ Number (h .subgroup) ∷ Byte (h .priority) ∷ []
 
-abbrev pub streamSaid : StreamHeader → Typed
-streamSaid (Subgroup h) = record { type = 0x4; pieces = subgroupPieces h }
-streamSaid (Fetch id) = record { type = 0x5; pieces = Number id ∷ [] }
+abbrev pub streamTyped : StreamHeader → Typed
+streamTyped (Subgroup h) = record { type = 0x4; pieces = subgroupPieces h }
+streamTyped (Fetch id) = record { type = 0x5; pieces = Number id ∷ [] }
 
 -- the length of the payload; or a length of 0, and the status
 abbrev pub payloadPieces : Payload → List Piece
@@ -63,14 +63,14 @@ fetchObjectPieces o =
 
 -- "in a datagram, which is always whole, it answers 4"
 abbrev pub toldDatagram : DatagramRead → Answer Typed
-toldDatagram (WholeDatagram d used) = answered (datagramSaid d) used
+toldDatagram (WholeDatagram d used) = answered (datagramTyped d) used
 toldDatagram UnknownDatagram = refused 2
 toldDatagram CutDatagram = refused 4
 toldDatagram ForbiddenDatagram = refused 5
 
 -- "On a stream, a cut header answers 1"
 abbrev pub toldStream : StreamRead → Answer Typed
-toldStream (WholeStream h used) = answered (streamSaid h) used
+toldStream (WholeStream h used) = answered (streamTyped h) used
 toldStream MoreStream = refused 1
 toldStream UnknownStream = refused 2
 

@@ -6,7 +6,7 @@ ghost use Rattle.layout.specs.Typed.{typed};
 ghost use Rattle.field.specs.Outcome.{answer};
 ghost use Rattle.header.specs.Layouts.{objectDatagram, datagramStatus};
 ghost use Rattle.header.specs.Told.{toldObject, toldDatagram};
-ghost use Rattle.header.specs.Reading.{closed, datagramOf};
+ghost use Rattle.header.specs.Reading.{endedDatagram, datagramOf};
 use crate::Datagram;
 use crate::DatagramRead;
 use crate::ObjectDatagram;
@@ -63,7 +63,7 @@ fn read_object(s: &[u8], at: usize) -> ObjectRead
 
 // A datagram that has a status, and nothing behind it.
 fn read_status(s: &[u8], at: usize) -> DatagramRead
-    ensures { λ r. ⌜ toldDatagram r ≡ closed (length (now (s .entry))) (answer 4 (typed 0x2 (scan datagramStatus (now (s .entry)) at))) ⌝ }
+    ensures { λ r. ⌜ toldDatagram r ≡ endedDatagram (length (now (s .entry))) (answer 4 (typed 0x2 (scan datagramStatus (now (s .entry)) at))) ⌝ }
 {
     let ObjectRead::Whole(d) = read_object(s, at) else {
         return DatagramRead::Cut;

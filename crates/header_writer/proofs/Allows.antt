@@ -5,13 +5,13 @@ use mathlib.Core.Bool.{Bool, true, false}
 use native.Mathlib.Omega.{arith}
 use borrow.Author.Tests.{lt-ltb, ne-eqb}
 use lib.Dec.{eqb, ltb}
-use Rattle.integer.specs.Answer.{pick}
+use Rattle.common.specs.Choice.{pick}
 use Rattle.layout.specs.Layout.{place}
 use Rattle.layout.specs.Allowed.{allowed}
 use Rattle.layout.proofs.Allowed.{test-alone}
-use Rattle.header.specs.Rules.{isStatus}
+use Rattle.header.specs.Rules.{isObjectStatus}
 use Rattle.header.specs.Layouts.{behind, status, objectDatagram, datagramStatus, subgroupHeader, fetchHeader, payload, layoutOf, datagrams, streams}
-use Rattle.header.specs.Told.{datagramSaid, streamSaid, payloadPieces}
+use Rattle.header.specs.Told.{datagramTyped, streamTyped, payloadPieces}
 use Rattle.header.specs.declared.ObjectDatagram.{ObjectDatagram}
 use Rattle.header.specs.declared.Datagram.{Datagram}
 use Rattle.header.specs.declared.Datagram.the-variants.{Object, Status as WithStatus}
@@ -24,18 +24,18 @@ use Rattle.header.specs.declared.Payload.the-variants.{Length, Status}
 
 module _ {d : Datagram} {x : ObjectDatagram} where
   -- without a status holds nothing that could be forbidden,
-  pub object-any : d ≡ Object x → true ≡ allowed (layoutOf (datagrams (datagramSaid d .type))) (datagramSaid d .pieces)
+  pub object-any : d ≡ Object x → true ≡ allowed (layoutOf (datagrams (datagramTyped d .type))) (datagramTyped d .pieces)
   unfolding allowed datagrams place objectDatagram
   object-any e = rw e
 
   -- and with one is judged by it
-  pub by-status : {n : ℕ} {a : Bool} → d ≡ WithStatus x n → a ≡ isStatus n → a ≡ allowed (layoutOf (datagrams (datagramSaid d .type))) (datagramSaid d .pieces)
+  pub by-status : {n : ℕ} {a : Bool} → d ≡ WithStatus x n → a ≡ isObjectStatus n → a ≡ allowed (layoutOf (datagrams (datagramTyped d .type))) (datagramTyped d .pieces)
   unfolding allowed datagrams place behind objectDatagram datagramStatus status
-  by-status {n} e h = rw (e, test-alone (isStatus n)) h
+  by-status {n} e h = rw (e, test-alone (isObjectStatus n)) h
 
 -- ---- the header of a stream holds nothing that could be
 
-pub stream-allowed : (h : StreamHeader) → true ≡ allowed (layoutOf (streams (streamSaid h .type))) (streamSaid h .pieces)
+pub stream-allowed : (h : StreamHeader) → true ≡ allowed (layoutOf (streams (streamTyped h .type))) (streamTyped h .pieces)
 unfolding allowed streams subgroupHeader fetchHeader
 stream-allowed (Subgroup h) = refl
 stream-allowed (Fetch id) = refl
@@ -53,6 +53,6 @@ module _ {p : Payload} {n : ℕ} {a : Bool} where
   length-is e h = rw (e, not-zero n) h
 
   -- which is judged
-  pub status-is : p ≡ Status n → a ≡ isStatus n → a ≡ allowed payload (payloadPieces p)
+  pub status-is : p ≡ Status n → a ≡ isObjectStatus n → a ≡ allowed payload (payloadPieces p)
   unfolding allowed status payload
-  status-is e h = rw (e, test-alone (isStatus n)) h
+  status-is e h = rw (e, test-alone (isObjectStatus n)) h

@@ -7,8 +7,9 @@ use mathlib.Core.List.{List, _++_, map, append-assoc}
 use native.Mathlib.Omega.{arith}
 use lib.ListN.{length, take, drop, length-append}
 use lib.Seq.{take-append-seam}
-use Rattle.integer.specs.Answer.{wrote, refused}
-use Rattle.field.specs.Outcome.{whole, both}
+use Rattle.common.specs.Answer.{wrote, refused}
+use Rattle.common.specs.Choice.{both}
+use Rattle.field.specs.Outcome.{whole}
 use Rattle.field.specs.Value.{mean}
 use Rattle.field.specs.declared.Piece.{Piece}
 use Rattle.field.proofs.Back.{from-start}
@@ -19,11 +20,11 @@ use Rattle.layout.proofs.Allowed.{read-allowed}
 use Rattle.layout.proofs.Scanned.{scanned}
 use Rattle.layout.proofs.Shortest.{scanned-shortest}
 use Rattle.measure.specs.Measuring.{rightAll, sizedAll, encodeAll}
-use Rattle.shortest.proofs.Good.{all-good}
-use Rattle.shortest.proofs.Again.{scanned-right}
-use Rattle.shortest.proofs.Fitting.{fitting-permitted}
-use Rattle.shortest.proofs.Passed.{Wrote, was-written, Passes}
-use Rattle.shortest.proofs.Passed as passed
+use Rattle.encode.proofs.Good.{all-good}
+use Rattle.encode.proofs.Again.{scanned-right}
+use Rattle.encode.proofs.Fitting.{fitting-permitted}
+use Rattle.encode.proofs.Passed.{Wrote, was-written, Passes}
+use Rattle.encode.proofs.Passed as passed
 use Rattle.header_writer.specs.Writing.{headerWritten}
 use Rattle.header_writer.proofs.Shape.{Fits}
 

@@ -7,14 +7,14 @@ use native.Mathlib.Omega.{arith}
 use lib.ListN.{length}
 use lib.Dec.{eqb, ltb}
 use borrow.Author.Tests.{ne-eqb, le-ltb}
-use Rattle.integer.specs.Answer.{Answer, whole as answered, refused}
-use Rattle.integer.proofs.Cases.{pick-by}
-use Rattle.field.specs.Outcome.{both}
+use Rattle.common.specs.Answer.{Answer, whole as answered, refused}
+use Rattle.common.proofs.Cases.{pick-by}
+use Rattle.common.specs.Choice.{both}
+use Rattle.common.proofs.Tests.{both-false}
 use Rattle.layout.specs.Typed.{Typed}
-use Rattle.measure.proofs.Tests.{both-false}
 use Rattle.header.specs.Layouts.{datagrams}
-use Rattle.header.specs.Reading.{headedOf, closed, datagramOf}
-use Rattle.header.specs.Told.{datagramSaid}
+use Rattle.header.specs.Reading.{headedOf, endedDatagram, datagramOf}
+use Rattle.header.specs.Told.{datagramTyped}
 use Rattle.header_writer.specs.Codecs.{takesPayload}
 use Rattle.header.specs.declared.Datagram.{Datagram}
 use Rattle.header.specs.declared.Datagram.the-variants.{Object, Status}
@@ -32,7 +32,7 @@ module _ (s : List ℕ) {t : Typed} {used : ℕ} where
   none-follows end h = rw (h, le-ltb used (length s) end, both-false (eqb (t .type) 0x2))
 
   -- and a whole datagram has such a header
-  opened : (size : ℕ) (a : Answer Typed) → closed size a ≡ answered t used → a ≡ answered t used
+  opened : (size : ℕ) (a : Answer Typed) → endedDatagram size a ≡ answered t used → a ≡ answered t used
   opened size (answered u end) h =
       pick-by (λ (r : Answer Typed). r ≡ answered t used → answered u end ≡ answered t used) (both (eqb (u .type) 0x2) (ltb end size))
       (λ _ e. absurd (apart e))
@@ -45,6 +45,6 @@ module _ (s : List ℕ) {t : Typed} {used : ℕ} where
   is-headed = opened (length s) (headedOf 4 datagrams s)
 
 -- so what may follow a datagram leaves it whole
-pub may-follow : (d : Datagram) (s rest : List ℕ) {t : Typed} {used : ℕ} → t .type ≡ datagramSaid d .type → (takesPayload d ≡ false → rest ≡ []) → length s ≤ used → headedOf 4 datagrams (s ++ rest) ≡ answered t used → datagramOf (s ++ rest) ≡ answered t used
+pub may-follow : (d : Datagram) (s rest : List ℕ) {t : Typed} {used : ℕ} → t .type ≡ datagramTyped d .type → (takesPayload d ≡ false → rest ≡ []) → length s ≤ used → headedOf 4 datagrams (s ++ rest) ≡ answered t used → datagramOf (s ++ rest) ≡ answered t used
 may-follow (Object d) s rest e f end = not-closed (s ++ rest) (λ k. let z : _≡_ {A = ℕ} 1 2 = cc in omega arith)
 may-follow (Status d n) s rest e f end = none-follows (s ++ rest) (rw (f refl, append-nil s) end)

@@ -6,7 +6,7 @@ use mathlib.Core.List.{List, [], _++_}
 use native.Mathlib.Omega.{arith}
 use lib.ListN.{length, take}
 use lib.Dec.{lit≤}
-use Rattle.integer.specs.Answer.{Answer, whole as answered, refused}
+use Rattle.common.specs.Answer.{Answer, whole as answered, refused}
 use Rattle.integer.specs.Integer.{encOf}
 use Rattle.field.specs.Outcome.{answer}
 use Rattle.field.specs.declared.Piece.{Piece}
@@ -15,11 +15,11 @@ use Rattle.layout.specs.Typed.{Typed}
 use Rattle.measure.specs.Measuring.{sizedAll}
 use Rattle.header.specs.Layouts as layouts
 use Rattle.header.specs.Layouts.{Named, layoutOf, datagrams, streams}
-use Rattle.header.specs.Told.{datagramSaid, streamSaid, subgroupObjectPieces, fetchObjectPieces}
+use Rattle.header.specs.Told.{datagramTyped, streamTyped, subgroupObjectPieces, fetchObjectPieces}
 use Rattle.header.specs.Reading.{headedOf, datagramOf, streamOf, subgroupObjectOf, fetchObjectOf}
 use Rattle.header_writer.specs.Writing.{headerWritten, datagramWritten, subgroupObjectWritten, fetchObjectWritten}
 use Rattle.header_writer.specs.Laws.{Kept, Shortest}
-use Rattle.header_writer.specs.Codecs.{takesPayload, datagram, stream, untyped, subgroupObject, fetchObject}
+use Rattle.header_writer.specs.Codecs.{takesPayload, datagramCodec, streamCodec, untyped, subgroupObjectCodec, fetchObjectCodec}
 use Rattle.header_writer.proofs.Shape.{Fits, Shaped, datagram-shape, stream-shape, subgroup-object-shape, fetch-object-shape}
 use Rattle.header_writer.proofs.Writes.{Writable, datagram-writable, stream-writable, stream-any, subgroup-object-sized, fetch-object-sized}
 use Rattle.header.proofs.Front.{was-whole}
@@ -31,7 +31,7 @@ use Rattle.header_writer.proofs.Shortest.{Form, shortest, bare-form, ty
 -- ---- headers without a type
 
 module _ {A : Type 0} (l : Layout) (said : A → List Piece) (shape : (s : List ℕ) (a : A) → Fits l s (said a)) (sizes : (s : List ℕ) (a : A) → sizedAll s (said a) ≡ true) where
-  bare-kept : Kept (record { said = said; typed = untyped; readOf = λ s. answer 1 (scan l s 0); writeOf = λ s a before. headerWritten l [] s (said a) before; takesMore = λ _. true })
+  bare-kept : Kept (record { told = said; typed = untyped; readOf = λ s. answer 1 (scan l s 0); writeOf = λ s a before. headerWritten l [] s (said a) before; takesMore = λ _. true })
   bare-kept =
       record {
         reads-back = λ s a before rest says _.
@@ -42,11 +42,11 @@ module _ {A : Type 0} (l : Layout) (said : A → List Piece) (shape : (s : List 
         written-again = λ s a before read. fields.written-again l [] s (said a) (shape s a) before (was-whole (scan l s 0) read) (lit≤ tt);
       }
 
-pub subgroup-object-kept : Kept subgroupObject
+pub subgroup-object-kept : Kept subgroupObjectCodec
 unfolding subgroupObjectOf subgroupObjectWritten
 subgroup-object-kept = bare-kept layouts.subgroupObject subgroupObjectPieces subgroup-object-shape subgroup-object-sized
 
-pub fetch-object-kept : Kept fetchObject
+pub fetch-object-kept : Kept fetchObjectCodec
 unfolding fetchObjectOf fetchObjectWritten
 fetch-object-kept = bare-kept layouts.fetchObject fetchObjectPieces fetch-object-shape fetch-object-sized
 
@@ -59,7 +59,7 @@ module _ {A : Type 0} (cut : ℕ) (types : ℕ → Named) (said : A → Typed) (
     reads : (a : A) (s rest : List ℕ) {t : Typed} {used : ℕ} → t .type ≡ said a .type → (takesMore a ≡ false → rest ≡ []) → length s ≤ used → headedOf cut types (s ++ rest) ≡ answered t used → readOf (s ++ rest) ≡ answered t used
 
   module _ (takesMore : A → Bool) (readOf : List ℕ → Answer Typed) (r : Reader takesMore readOf) where
-    typed-kept : Kept (record { said = said; typed = λ t. t; readOf = readOf; writeOf = λ s a before. headerWritten (layoutOf (types (said a .type))) (encOf (said a .type)) s (said a .pieces) before; takesMore = takesMore })
+    typed-kept : Kept (record { told = said; typed = λ t. t; readOf = readOf; writeOf = λ s a before. headerWritten (layoutOf (types (said a .type))) (encOf (said a .type)) s (said a .pieces) before; takesMore = takesMore })
     typed-kept =
         record {
           reads-back = λ s a before rest {n} says follows.
@@ -71,20 +71,20 @@ module _ {A : Type 0} (cut : ℕ) (types : ℕ → Named) (said : A → Typed) (
           written-again = λ s a before read. typed-written-again cut types s (shape s a) before (r .heads s read);
         }
 
-pub datagram-kept : Kept datagram
+pub datagram-kept : Kept datagramCodec
 unfolding datagramWritten
 datagram-kept =
-    typed-kept 4 datagrams datagramSaid datagram-shape datagram-writable takesPayload datagramOf
+    typed-kept 4 datagrams datagramTyped datagram-shape datagram-writable takesPayload datagramOf
     (record { heads = λ s h. is-headed s h; reads = λ d s rest e f end h. may-follow d s rest e f end h })
 
 -- that of a stream is written the same over any bytes
-stream-over : Kept (record { said = streamSaid; typed = λ t. t; readOf = streamOf; writeOf = λ s h before. headerWritten (layoutOf (streams (streamSaid h .type))) (encOf (streamSaid h .type)) s (streamSaid h .pieces) before; takesMore = λ _. true })
+stream-over : Kept (record { told = streamTyped; typed = λ t. t; readOf = streamOf; writeOf = λ s h before. headerWritten (layoutOf (streams (streamTyped h .type))) (encOf (streamTyped h .type)) s (streamTyped h .pieces) before; takesMore = λ _. true })
 unfolding streamOf
 stream-over =
-    typed-kept 1 streams streamSaid stream-shape stream-writable (λ _. true) streamOf
+    typed-kept 1 streams streamTyped stream-shape stream-writable (λ _. true) streamOf
     (record { heads = λ s h. h; reads = λ a s rest e f end h. h })
 
-pub stream-kept : Kept stream
+pub stream-kept : Kept streamCodec
 stream-kept =
     record {
       reads-back = λ s h before rest says f.
@@ -97,16 +97,16 @@ stream-kept =
 
 -- ---- the only shortest form
 
-pub datagram-shortest : Shortest datagram
+pub datagram-shortest : Shortest datagramCodec
 unfolding datagramWritten
 datagram-shortest =
-    shortest datagram (typed-form 4 datagrams datagramSaid takesPayload datagramOf (λ s t used h. is-headed s h))
+    shortest datagramCodec (typed-form 4 datagrams datagramTyped takesPayload datagramOf (λ s t used h. is-headed s h))
 
 -- that of a stream, whatever bytes it is written over
-stream-form : Form stream
+stream-form : Form streamCodec
 unfolding streamOf
 stream-form =
-    let f = typed-form 1 streams streamSaid (λ _. true) streamOf (λ s t used h. h) in
+    let f = typed-form 1 streams streamTyped (λ _. true) streamOf (λ s t used h. h) in
     record {
       form = f .form;
       written = λ s h before says. rw (stream-any s h before) (f .written s h before (rw (stream-any s h before) at says));
@@ -114,14 +114,14 @@ stream-form =
       alike = f .alike;
     }
 
-pub stream-shortest : Shortest stream
-stream-shortest = shortest stream stream-form
+pub stream-shortest : Shortest streamCodec
+stream-shortest = shortest streamCodec stream-form
 
-pub subgroup-object-shortest : Shortest subgroupObject
+pub subgroup-object-shortest : Shortest subgroupObjectCodec
 unfolding subgroupObjectOf subgroupObjectWritten
 subgroup-object-shortest =
-    shortest subgroupObject (bare-form layouts.subgroupObject subgroupObjectPieces)
+    shortest subgroupObjectCodec (bare-form layouts.subgroupObject subgroupObjectPieces)
 
-pub fetch-object-shortest : Shortest fetchObject
+pub fetch-object-shortest : Shortest fetchObjectCodec
 unfolding fetchObjectOf fetchObjectWritten
-fetch-object-shortest = shortest fetchObject (bare-form layouts.fetchObject fetchObjectPieces)
+fetch-object-shortest = shortest fetchObjectCodec (bare-form layouts.fetchObject fetchObjectPieces)

@@ -7,7 +7,7 @@ use native.Mathlib.Nat.{zero-add}
 use native.Mathlib.Omega.{arith}
 use lib.ListN.{length, take, length-append}
 use borrow.Author.Tests.{leb-true}
-use Rattle.integer.specs.Answer.{whole as answered, refused, wrote, Written}
+use Rattle.common.specs.Answer.{whole as answered, refused, wrote, Written}
 use Rattle.integer.specs.Integer.{greatest, encOf}
 use Rattle.field.specs.Outcome.{whole}
 use Rattle.field.specs.Value.{mean, encode}

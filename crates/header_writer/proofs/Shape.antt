@@ -8,9 +8,9 @@ use Rattle.layout.specs.Layout.{Layout, place}
 use Rattle.layout.specs.Allowed.{allowed}
 use Rattle.layout.specs.Permitted.{code}
 use Rattle.layout.specs.Typed.{Typed}
-use Rattle.shortest.proofs.Fitting.{fitting}
+use Rattle.encode.proofs.Fitting.{fitting}
 use Rattle.header.specs.Layouts.{behind, status, objectDatagram, datagramStatus, subgroupHeader, fetchHeader, payload, subgroupObject, fetchObject, Named, known, layoutOf, datagrams, streams}
-use Rattle.header.specs.Told.{datagramSaid, streamSaid, payloadPieces, subgroupObjectPieces, fetchObjectPieces}
+use Rattle.header.specs.Told.{datagramTyped, streamTyped, payloadPieces, subgroupObjectPieces, fetchObjectPieces}
 use Rattle.header.specs.declared.Datagram.{Datagram}
 use Rattle.header.specs.declared.Datagram.the-variants.{Object, Status as WithStatus}
 use Rattle.header.specs.declared.StreamHeader.{StreamHeader}
@@ -31,12 +31,12 @@ pub record Shaped (types : ℕ → Named) (s : List ℕ) (t : Typed) : Type 0 wh
   pub fits : Fits (layoutOf (types (t .type))) s (t .pieces)
 
 module _ (s : List ℕ) where
-  pub datagram-shape : (d : Datagram) → Shaped datagrams s (datagramSaid d)
+  pub datagram-shape : (d : Datagram) → Shaped datagrams s (datagramTyped d)
   unfolding fitting code mean allowed datagrams place behind objectDatagram datagramStatus status
   datagram-shape (Object d) = record { named = refl; fits = refl }
   datagram-shape (WithStatus d n) = record { named = refl; fits = refl }
 
-  pub stream-shape : (h : StreamHeader) → Shaped streams s (streamSaid h)
+  pub stream-shape : (h : StreamHeader) → Shaped streams s (streamTyped h)
   unfolding fitting code mean allowed streams subgroupHeader fetchHeader
   stream-shape (Subgroup h) = record { named = refl; fits = refl }
   stream-shape (Fetch id) = record { named = refl; fits = refl }

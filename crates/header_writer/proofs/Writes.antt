@@ -5,7 +5,7 @@ use mathlib.Core.List.{List, [], _∷_}
 use mathlib.Core.Bool.{Bool, true, false, not}
 use borrow.Author.Tests.{not-true, not-false}
 use lib.Dec.{leb}
-use Rattle.integer.specs.Answer.{Answer, refused, Nothing, Leaves}
+use Rattle.common.specs.Answer.{Answer, refused, Nothing, Leaves}
 use Rattle.integer.specs.Integer.{encOf, greatest}
 use Rattle.field.specs.Value.{mean, encField, encode}
 use Rattle.field.specs.declared.Piece.{Piece}
@@ -15,9 +15,9 @@ use Rattle.layout.specs.Allowed.{allowed}
 use Rattle.layout.specs.Typed.{Typed}
 use Rattle.measure.specs.Judging.{right, sized}
 use Rattle.measure.specs.Measuring.{rightAll, sizedAll, encodeAll}
-use Rattle.shortest.specs.Writing.{writtenOf, bareOf}
+use Rattle.encode.specs.Writing.{writtenOf, bareOf}
 use Rattle.header.specs.Layouts.{layoutOf, datagrams, streams, payload, subgroupObject, fetchObject}
-use Rattle.header.specs.Told.{datagramSaid, streamSaid, payloadPieces, subgroupObjectPieces, fetchObjectPieces}
+use Rattle.header.specs.Told.{datagramTyped, streamTyped, payloadPieces, subgroupObjectPieces, fetchObjectPieces}
 use Rattle.header_writer.specs.Writing.{headerWritten, datagramWritten, streamWritten, subgroupObjectWritten, fetchObjectWritten}
 use Rattle.header.specs.declared.Datagram.{Datagram}
 use Rattle.header.specs.declared.Datagram.the-variants.{Object, Status as WithStatus}
@@ -35,12 +35,12 @@ abbrev pub Writable : List ℕ → Typed → Type 0
 Writable s t = (leb (t .type) greatest ≡ true) × (sizedAll s (t .pieces) ≡ true)
 
 module _ (s : List ℕ) where
-  pub datagram-writable : (d : Datagram) → Writable s (datagramSaid d)
+  pub datagram-writable : (d : Datagram) → Writable s (datagramTyped d)
   unfolding sizedAll sized
   datagram-writable (Object d) = (refl, refl)
   datagram-writable (WithStatus d n) = (refl, refl)
 
-  pub stream-writable : (h : StreamHeader) → Writable s (streamSaid h)
+  pub stream-writable : (h : StreamHeader) → Writable s (streamTyped h)
   unfolding sizedAll sized
   stream-writable (Subgroup h) = (refl, refl)
   stream-writable (Fetch id) = (refl, refl)
@@ -60,7 +60,7 @@ module _ (s : List ℕ) where
 
 -- ---- the header of a stream points into no bytes, so it is the same over any
 
-pub stream-any : (s : List ℕ) (h : StreamHeader) (before : List ℕ) → streamWritten h before ≡ headerWritten (layoutOf (streams (streamSaid h .type))) (encOf (streamSaid h .type)) s (streamSaid h .pieces) before
+pub stream-any : (s : List ℕ) (h : StreamHeader) (before : List ℕ) → streamWritten h before ≡ headerWritten (layoutOf (streams (streamTyped h .type))) (encOf (streamTyped h .type)) s (streamTyped h .pieces) before
 unfolding streamWritten headerWritten rightAll right encodeAll mean
 stream-any s (Subgroup h) before = refl
 stream-any s (Fetch id) before = refl
@@ -89,18 +89,18 @@ abbrev pub numbered : Typed → List Piece
 numbered t = Number (t .type) ∷ t .pieces
 
 -- a datagram,
-pub datagram-written : (s : List ℕ) (d : Datagram) (before : List ℕ) {a : Bool} {said : Answer Nothing} {after : List ℕ} → a ≡ allowed (layoutOf (datagrams (datagramSaid d .type))) (datagramSaid d .pieces) → not a ≡ false → Leaves (bareOf s (numbered (datagramSaid d)) before) said after → Leaves (datagramWritten s d before) said after
+pub datagram-written : (s : List ℕ) (d : Datagram) (before : List ℕ) {a : Bool} {said : Answer Nothing} {after : List ℕ} → a ≡ allowed (layoutOf (datagrams (datagramTyped d .type))) (datagramTyped d .pieces) → not a ≡ false → Leaves (bareOf s (numbered (datagramTyped d)) before) said after → Leaves (datagramWritten s d before) said after
 unfolding datagramWritten
 datagram-written s d before judged h l =
     let w = datagram-writable s d in
-    behind-type s before (layoutOf (datagrams (datagramSaid d .type))) (datagramSaid d .pieces) judged h (w .1) (datagramSaid d .type) (w .0) l
+    behind-type s before (layoutOf (datagrams (datagramTyped d .type))) (datagramTyped d .pieces) judged h (w .1) (datagramTyped d .type) (w .0) l
 
 -- the header of a stream, which holds nothing that could be forbidden,
-pub stream-written : (h : StreamHeader) (before : List ℕ) {said : Answer Nothing} {after : List ℕ} → Leaves (bareOf [] (numbered (streamSaid h)) before) said after → Leaves (streamWritten h before) said after
+pub stream-written : (h : StreamHeader) (before : List ℕ) {said : Answer Nothing} {after : List ℕ} → Leaves (bareOf [] (numbered (streamTyped h)) before) said after → Leaves (streamWritten h before) said after
 unfolding streamWritten
 stream-written h before l =
     let w = stream-writable [] h in
-    behind-type [] before (layoutOf (streams (streamSaid h .type))) (streamSaid h .pieces) (stream-allowed h) refl (w .1) (streamSaid h .type) (w .0) l
+    behind-type [] before (layoutOf (streams (streamTyped h .type))) (streamTyped h .pieces) (stream-allowed h) refl (w .1) (streamTyped h .type) (w .0) l
 
 -- and the headers of objects, which have no type
 pub subgroup-object-written : (s : List ℕ) (o : SubgroupObject) (before : List ℕ) {a : Bool} {said : Answer Nothing} {after : List ℕ} → a ≡ allowed payload (payloadPieces (o .payload)) → not a ≡ false → Leaves (bareOf s (subgroupObjectPieces o) before) said after → Leaves (subgroupObjectWritten s o before) said after

@@ -3,7 +3,7 @@ use mathlib.Core.List.{List}
 use mathlib.Core.Bool.{Bool, true, false}
 use Rattle.field.specs.declared.Piece.{Piece}
 use Rattle.layout.specs.Typed.{Typed}
-use Rattle.header.specs.Told.{datagramSaid, streamSaid, subgroupObjectPieces, fetchObjectPieces}
+use Rattle.header.specs.Told.{datagramTyped, streamTyped, subgroupObjectPieces, fetchObjectPieces}
 use Rattle.header.specs.Reading.{datagramOf, streamOf, subgroupObjectOf, fetchObjectOf}
 use Rattle.header_writer.specs.Writing.{datagramWritten, streamWritten, subgroupObjectWritten, fetchObjectWritten}
 use Rattle.header_writer.specs.Laws.{Codec}
@@ -18,19 +18,19 @@ abbrev pub takesPayload : Datagram → Bool
 takesPayload (Object d) = true
 takesPayload (Status d n) = false
 
-abbrev pub datagram : Codec Datagram Typed
-datagram = record { said = datagramSaid; typed = λ t. t; readOf = datagramOf; writeOf = datagramWritten; takesMore = takesPayload }
+abbrev pub datagramCodec : Codec Datagram Typed
+datagramCodec = record { told = datagramTyped; typed = λ t. t; readOf = datagramOf; writeOf = datagramWritten; takesMore = takesPayload }
 
 -- the header of a stream points into no bytes
-abbrev pub stream : Codec StreamHeader Typed
-stream = record { said = streamSaid; typed = λ t. t; readOf = streamOf; writeOf = λ s h before. streamWritten h before; takesMore = λ _. true }
+abbrev pub streamCodec : Codec StreamHeader Typed
+streamCodec = record { told = streamTyped; typed = λ t. t; readOf = streamOf; writeOf = λ s h before. streamWritten h before; takesMore = λ _. true }
 
 -- the header of an object has no type: 0 stands in its place
 abbrev pub untyped : List Piece → Typed
 untyped ps = record { type = 0; pieces = ps }
 
-abbrev pub subgroupObject : Codec SubgroupObject (List Piece)
-subgroupObject = record { said = subgroupObjectPieces; typed = untyped; readOf = subgroupObjectOf; writeOf = subgroupObjectWritten; takesMore = λ _. true }
+abbrev pub subgroupObjectCodec : Codec SubgroupObject (List Piece)
+subgroupObjectCodec = record { told = subgroupObjectPieces; typed = untyped; readOf = subgroupObjectOf; writeOf = subgroupObjectWritten; takesMore = λ _. true }
 
-abbrev pub fetchObject : Codec FetchObject (List Piece)
-fetchObject = record { said = fetchObjectPieces; typed = untyped; readOf = fetchObjectOf; writeOf = fetchObjectWritten; takesMore = λ _. true }
+abbrev pub fetchObjectCodec : Codec FetchObject (List Piece)
+fetchObjectCodec = record { told = fetchObjectPieces; typed = untyped; readOf = fetchObjectOf; writeOf = fetchObjectWritten; takesMore = λ _. true }

@@ -2,16 +2,16 @@
 use Prim.Native.Nat.{ℕ}
 use mathlib.Core.List.{List, [], _++_}
 use mathlib.Core.Bool.{true}
-use Rattle.integer.specs.Answer.{Written}
+use Rattle.common.specs.Answer.{Written}
+use Rattle.common.specs.Choice.{both}
 use Rattle.integer.specs.Integer.{encOf}
-use Rattle.field.specs.Outcome.{both}
 use Rattle.field.specs.declared.Piece.{Piece}
 use Rattle.layout.specs.Layout.{Layout}
 use Rattle.layout.specs.Allowed.{allowed}
 use Rattle.measure.specs.Measuring.{rightAll, encodeAll}
-use Rattle.shortest.specs.Writing.{writtenOf}
+use Rattle.encode.specs.Writing.{writtenOf}
 use Rattle.header.specs.Layouts.{layoutOf, datagrams, streams, subgroupObject, fetchObject}
-use Rattle.header.specs.Told.{datagramSaid, streamSaid, subgroupObjectPieces, fetchObjectPieces}
+use Rattle.header.specs.Told.{datagramTyped, streamTyped, subgroupObjectPieces, fetchObjectPieces}
 use Rattle.header.specs.declared.Datagram.{Datagram}
 use Rattle.header.specs.declared.StreamHeader.{StreamHeader}
 use Rattle.header.specs.declared.SubgroupObject.{SubgroupObject}
@@ -25,13 +25,13 @@ headerWritten l front s ps before =
 -- a datagram, behind its type
 unfoldable pub datagramWritten : List ℕ → Datagram → List ℕ → Written
 datagramWritten s d before =
-    let t = datagramSaid d in
+    let t = datagramTyped d in
     headerWritten (layoutOf (datagrams (t .type))) (encOf (t .type)) s (t .pieces) before
 
 -- the header of a stream, which points into no bytes
 unfoldable pub streamWritten : StreamHeader → List ℕ → Written
 streamWritten h before =
-    let t = streamSaid h in
+    let t = streamTyped h in
     headerWritten (layoutOf (streams (t .type))) (encOf (t .type)) [] (t .pieces) before
 
 -- the header of an object, which has no type

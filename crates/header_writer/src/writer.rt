@@ -1,11 +1,12 @@
 // A header is written as its shortest form: 5, then 7, each over the whole header; a refusal writes nothing.
 ghost use mathlib.Core.Path.{_≡_};
-ghost use Rattle.integer.specs.Answer.{Leaves};
+ghost use Rattle.common.specs.Answer.{Leaves};
 ghost use Rattle.layout.specs.Allowed.{allowed};
-ghost use Rattle.shortest.specs.Writing.{answering};
+ghost use Rattle.encode.specs.Writing.{toldWriting};
 ghost use Rattle.header.specs.Layouts.{layoutOf, datagrams, payload};
-ghost use Rattle.header.specs.Told.{datagramSaid, payloadPieces};
+ghost use Rattle.header.specs.Told.{datagramTyped, payloadPieces};
 ghost use Rattle.header_writer.specs.Writing.{datagramWritten, streamWritten, subgroupObjectWritten, fetchObjectWritten};
+use encode::Writing;
 use header::Datagram;
 use header::FetchObject;
 use header::Payload;
@@ -13,11 +14,10 @@ use header::StreamHeader;
 use header::SubgroupObject;
 use header::is_status;
 use measure::Middle;
-use shortest::Writing;
 
 // bytes is what the extension headers point into.
 pub fn write_datagram(out: &mut [u8], bytes: &[u8], d: Datagram) -> Writing
-    ensures { λ r. ⌜ Leaves (datagramWritten (now (bytes .entry)) d (now (out .entry))) (answering r) (now (out .exit)) ⌝ }
+    ensures { λ r. ⌜ Leaves (datagramWritten (now (bytes .entry)) d (now (out .entry))) (toldWriting r) (now (out .exit)) ⌝ }
 {
     if !is_datagram_allowed(d) {
         return Writing::Forbidden;
@@ -29,29 +29,29 @@ pub fn write_datagram(out: &mut [u8], bytes: &[u8], d: Datagram) -> Writing
             let extensions = x.extensions;
             let front = [0x1, x.alias, place.group, place.object];
             let middle = Middle::Both(x.priority, extensions);
-            shortest::write_header(out, bytes, &front, middle, &none)
+            encode::write_header(out, bytes, &front, middle, &none)
         }
         Datagram::Status(x, status) => {
             let place = x.place;
             let extensions = x.extensions;
             let front = [0x2, x.alias, place.group, place.object];
             let middle = Middle::Both(x.priority, extensions);
-            shortest::write_header(out, bytes, &front, middle, &[status])
+            encode::write_header(out, bytes, &front, middle, &[status])
         }
     }
 }
 
 // The header of a stream points into no bytes.
 pub fn write_stream(out: &mut [u8], h: StreamHeader) -> Writing
-    ensures { λ r. ⌜ Leaves (streamWritten h (now (out .entry))) (answering r) (now (out .exit)) ⌝ }
+    ensures { λ r. ⌜ Leaves (streamWritten h (now (out .entry))) (toldWriting r) (now (out .exit)) ⌝ }
 {
     let none: [u64; 0] = [];
     match h {
         StreamHeader::Subgroup(x) => {
             let front = [0x4, x.alias, x.group, x.subgroup];
-            shortest::write_header(out, b"", &front, Middle::Byte(x.priority), &none)
+            encode::write_header(out, b"", &front, Middle::Byte(x.priority), &none)
         }
-        StreamHeader::Fetch(id) => shortest::write_header(
+        StreamHeader::Fetch(id) => encode::write_header(
             out,
             b"",
             &[0x5, id],
@@ -62,7 +62,7 @@ pub fn write_stream(out: &mut [u8], h: StreamHeader) -> Writing
 }
 
 pub fn write_subgroup_object(out: &mut [u8], bytes: &[u8], o: SubgroupObject) -> Writing
-    ensures { λ r. ⌜ Leaves (subgroupObjectWritten (now (bytes .entry)) o (now (out .entry))) (answering r) (now (out .exit)) ⌝ }
+    ensures { λ r. ⌜ Leaves (subgroupObjectWritten (now (bytes .entry)) o (now (out .entry))) (toldWriting r) (now (out .exit)) ⌝ }
 {
     let payload = o.payload;
     if !is_payload_allowed(payload) {
@@ -72,13 +72,13 @@ pub fn write_subgroup_object(out: &mut [u8], bytes: &[u8], o: SubgroupObject) ->
     let extensions = o.extensions;
     let middle = Middle::Bytes(extensions);
     match payload {
-        Payload::Length(length) => shortest::write_header(out, bytes, &front, middle, &[length]),
-        Payload::Status(status) => shortest::write_header(out, bytes, &front, middle, &[0, status]),
+        Payload::Length(length) => encode::write_header(out, bytes, &front, middle, &[length]),
+        Payload::Status(status) => encode::write_header(out, bytes, &front, middle, &[0, status]),
     }
 }
 
 pub fn write_fetch_object(out: &mut [u8], bytes: &[u8], o: FetchObject) -> Writing
-    ensures { λ r. ⌜ Leaves (fetchObjectWritten (now (bytes .entry)) o (now (out .entry))) (answering r) (now (out .exit)) ⌝ }
+    ensures { λ r. ⌜ Leaves (fetchObjectWritten (now (bytes .entry)) o (now (out .entry))) (toldWriting r) (now (out .exit)) ⌝ }
 {
     let payload = o.payload;
     if !is_payload_allowed(payload) {
@@ -88,14 +88,14 @@ pub fn write_fetch_object(out: &mut [u8], bytes: &[u8], o: FetchObject) -> Writi
     let extensions = o.extensions;
     let middle = Middle::Both(o.priority, extensions);
     match payload {
-        Payload::Length(length) => shortest::write_header(out, bytes, &front, middle, &[length]),
-        Payload::Status(status) => shortest::write_header(out, bytes, &front, middle, &[0, status]),
+        Payload::Length(length) => encode::write_header(out, bytes, &front, middle, &[length]),
+        Payload::Status(status) => encode::write_header(out, bytes, &front, middle, &[0, status]),
     }
 }
 
 // Whether a datagram holds no value that its layout forbids.
 fn is_datagram_allowed(d: Datagram) -> bool
-    ensures { λ r. ⌜ r ≡ allowed (layoutOf (datagrams (datagramSaid d .type))) (datagramSaid d .pieces) ⌝ }
+    ensures { λ r. ⌜ r ≡ allowed (layoutOf (datagrams (datagramTyped d .type))) (datagramTyped d .pieces) ⌝ }
 {
     match d {
         Datagram::Object(_) => true,

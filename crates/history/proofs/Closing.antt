@@ -5,7 +5,7 @@ use mathlib.Core.Bool.{Bool, true, false, not}
 use mathlib.Core.List.{List, [], _∷_, _++_}
 use native.Mathlib.Omega.{arith}
 use lib.Dec.{eqb}
-use Rattle.field.specs.Outcome.{both}
+use Rattle.common.specs.Choice.{both}
 use Rattle.ledger.specs.Answers.{Came, ruleNumber}
 use Rattle.ledger.specs.Ledgers.{isLedger, isOpen}
 use Rattle.ledger.specs.declared.Ledger.{Ledger}
@@ -18,7 +18,7 @@ use Rattle.view.specs.Steps.{broken, replied}
 use Rattle.view.proofs.ArraysFollow.{arrays-follow, no-ledger, view-once}
 use Rattle.view.proofs.Guards.{closed-stays}
 use Rattle.view.specs.Events.{Event, comes}
-use Rattle.history.specs.Events.{run, Told, told}
+use Rattle.history.specs.Events.{ledgerAfter, Logged, logOf}
 use Rattle.history.specs.Closings.{isPeers, anyBroken, firstBroken, kept}
 use Rattle.history.proofs.Keeping.{comes-keeps}
 use Rattle.history.proofs.Moves.{Moves, stayed, broke, counted, turned, taken, raised, ledger-moves, quiet}
@@ -33,13 +33,13 @@ closed-next l e shut = go (isLedger l) refl
         view-once (comes l e .next) l (comes-keeps l e w) w (ap (λ (s : Seen). s .next) (arrays-follow l e w) ∙ closed-stays (viewOf l) e shut)
     go false w = ap (λ (c : Came). c .next) (no-ledger l e w)
 
-closed-run : (l : Ledger) (es : List Event) → isOpen (l .session) ≡ false → run l es ≡ l
-unfolding run
+closed-run : (l : Ledger) (es : List Event) → isOpen (l .session) ≡ false → ledgerAfter l es ≡ l
+unfolding ledgerAfter
 closed-run l [] shut = refl
 closed-run l (e ∷ es) shut = rw (closed-next l e shut) (closed-run l es shut)
 
-pub closed-later : (l : Ledger) (es later : List Event) → isOpen (run l es .session) ≡ false → run l (es ++ later) ≡ run l es
-unfolding run
+pub closed-later : (l : Ledger) (es later : List Event) → isOpen (ledgerAfter l es .session) ≡ false → ledgerAfter l (es ++ later) ≡ ledgerAfter l es
+unfolding ledgerAfter
 closed-later l [] later shut = closed-run l later shut
 closed-later l (e ∷ es) later shut = closed-later (comes l e .next) es later shut
 
@@ -74,29 +74,29 @@ module _ (v : View) where
 -- ---- a history
 
 -- how the session stands, and what was told of it
-record Stands (s : Session) (part : Part) (ts : List Told) : Type 0 where
+record Stands (s : Session) (part : Part) (ts : List Logged) : Type 0 where
   opened : isOpen s ≡ not (anyBroken part ts)
   rule : kept s ≡ firstBroken part ts
 
-stands : (l : Ledger) (es : List Event) → l .session ≡ Open → Stands (run l es .session) (l .part) (told l es)
-unfolding run told anyBroken firstBroken
+stands : (l : Ledger) (es : List Event) → l .session ≡ Open → Stands (ledgerAfter l es .session) (l .part) (logOf l es)
+unfolding ledgerAfter logOf anyBroken firstBroken
 stands l [] o = record { opened = ap isOpen o; rule = ap kept o }
 stands l (e ∷ es) o = go (leaves (viewOf l) (ledger-moves l e)) (stands (comes l e .next) es)
   where
     after : Ledger
     after = comes l e .next
 
-    go : Leaves (viewOf l) (isPeers (l .part) e) (seenOf (comes l e)) → (after .session ≡ Open → Stands (run after es .session) (after .part) (told after es)) → Stands (run l (e ∷ es) .session) (l .part) (told l (e ∷ es))
+    go : Leaves (viewOf l) (isPeers (l .part) e) (seenOf (comes l e)) → (after .session ≡ Open → Stands (ledgerAfter after es .session) (after .part) (logOf after es)) → Stands (ledgerAfter l (e ∷ es) .session) (l .part) (logOf l (e ∷ es))
     go (stays s session part) ih =
-        let h = subst (λ (p : Part). Stands (run after es .session) p (told after es)) part (ih (session ∙ o)) in
+        let h = subst (λ (p : Part). Stands (ledgerAfter after es .session) p (logOf after es)) part (ih (session ∙ o)) in
         record { opened = rw s (h .opened); rule = rw s (h .rule) }
     go (closes s rule said session) ih =
         let still = closed-run after es (ap isOpen session) in
         record { opened = rw (s, still, session); rule = rw (s, said, still, session) }
 
 module _ (l : Ledger) (es : List Event) (o : isOpen (l .session) ≡ true) where
-  pub open-after : isOpen (run l es .session) ≡ not (anyBroken (l .part) (told l es))
+  pub open-after : isOpen (ledgerAfter l es .session) ≡ not (anyBroken (l .part) (logOf l es))
   open-after = stands l es (is-open (l .session) o) .opened
 
-  pub kept-after : kept (run l es .session) ≡ firstBroken (l .part) (told l es)
+  pub kept-after : kept (ledgerAfter l es .session) ≡ firstBroken (l .part) (logOf l es)
   kept-after = stands l es (is-open (l .session) o) .rule

@@ -6,7 +6,8 @@ use mathlib.Core.List.{List, [], _∷_, _++_, append-nil}
 use native.Mathlib.Omega.{arith}
 use borrow.Author.Tests.{eqb-true, ne-eqb, not-true, leb-true}
 use lib.Dec.{eqb, leb, ltb}
-use Rattle.integer.specs.Answer.{pick}
+use Rattle.common.specs.Choice.{pick}
+use Rattle.common.specs.Lists.{Each}
 use Rattle.layout.proofs.Back.{both-true}
 use Rattle.message.specs.declared.Message.the-variants.{Subscription, Fetch, Announce, Session}
 use Rattle.row.specs.Rows.{isRow}
@@ -21,7 +22,6 @@ use Rattle.view.specs.Views.{View, Seen, viewOf}
 use Rattle.view.specs.Events.{Event, message, malformed, arrival, comes}
 use Rattle.view.specs.Steps.{broken, replied}
 use Rattle.view.proofs.ArraysFollow.{seen-by}
-use Rattle.history.specs.Lists.{Each}
 use Rattle.history.specs.Deeds.{Deed, nothing, deedIn}
 use Rattle.history.specs.Ledgers.{nextBy, maximumBy}
 use Rattle.ledger.proofs.Rises.{has-not}

@@ -5,7 +5,8 @@ use mathlib.Core.Bool.{Bool, true, false}
 use mathlib.Core.List.{List, [], _∷_}
 use mathlib.Core.Logic.{inl, inr}
 use native.Mathlib.Omega.{arith}
-use Rattle.integer.specs.Answer.{pick}
+use Rattle.common.specs.Choice.{pick}
+use Rattle.common.specs.Lists.{Each, Among}
 use Rattle.field.specs.declared.Place.{Place}
 use Rattle.row.proofs.Ordering.{before-self, before-not, not-before}
 use Rattle.row.specs.Places.{before}
@@ -13,7 +14,6 @@ use Rattle.row.specs.Rows.{greater}
 use Rattle.row.specs.declared.Greatest.{Greatest}
 use Rattle.row.specs.declared.Greatest.the-variants.{Nowhere, At}
 use Rattle.history.specs.Rows.{greatestOf}
-use Rattle.history.specs.Lists.{Each, Among}
 
 -- nowhere exactly where there are none
 pub nowhere-only : (ps : List Place) → greatestOf ps ≡ Nowhere → ps ≡ []

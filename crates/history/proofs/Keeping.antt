@@ -6,14 +6,14 @@ use Rattle.ledger.specs.Ledgers.{isLedger}
 use Rattle.ledger.specs.declared.Ledger.{Ledger}
 use Rattle.ledger.proofs.Keeps.{keeps-take, keeps-malformed, keeps-arrival}
 use Rattle.view.specs.Events.{Event, message, malformed, arrival, comes}
-use Rattle.history.specs.Events.{run}
+use Rattle.history.specs.Events.{ledgerAfter}
 
 pub comes-keeps : (l : Ledger) (e : Event) → isLedger l ≡ true → isLedger (comes l e .next) ≡ true
 comes-keeps l (message m) w = keeps-take l w m
 comes-keeps l malformed w = keeps-malformed l w
 comes-keeps l (arrival a) w = keeps-arrival l w a
 
-pub run-keeps : (l : Ledger) (es : List Event) → isLedger l ≡ true → isLedger (run l es) ≡ true
-unfolding run
+pub run-keeps : (l : Ledger) (es : List Event) → isLedger l ≡ true → isLedger (ledgerAfter l es) ≡ true
+unfolding ledgerAfter
 run-keeps l [] w = w
 run-keeps l (e ∷ es) w = run-keeps (comes l e .next) es (comes-keeps l e w)

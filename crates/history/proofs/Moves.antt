@@ -7,8 +7,8 @@ use native.Mathlib.Omega.{arith}
 use borrow.Author.Tests.{leb-false}
 use lib.Dec.{eqb, leb, ltb}
 use lib.ListN.{length}
-use Rattle.integer.proofs.Cases.{pick-by}
-use Rattle.integer.specs.Answer.{pick}
+use Rattle.common.proofs.Cases.{pick-by}
+use Rattle.common.specs.Choice.{pick}
 use Rattle.field.specs.declared.Arrival.{Arrival}
 use Rattle.field.specs.declared.Place.{Place}
 use Rattle.subscription.specs.declared.Content.{Content}
@@ -23,17 +23,17 @@ use Rattle.row.specs.declared.Ending.{Ending}
 use Rattle.row.specs.declared.Ending.the-variants.{SubscribeError as Erring, SubscribeDone as Ended, Unsubscribe as Leaving}
 use Rattle.row.proofs.Keeping.{arrive-by, open-by}
 use Rattle.ledger.specs.Ledgers.{hasAlias, isOpen}
-use Rattle.ledger.specs.Answers.{only, isOwn}
+use Rattle.ledger.specs.Answers.{noRule, isOwn}
 use Rattle.ledger.specs.Steps.{idOf, aliasOf, newRow}
 use Rattle.ledger.specs.declared.Ledger.{Ledger}
 use Rattle.ledger.specs.declared.Part.{Part}
 use Rattle.ledger.specs.declared.Part.the-variants.{Subscriber, Publisher}
 use Rattle.ledger.specs.declared.Rule.{Rule}
 use Rattle.ledger.specs.declared.Rule.the-variants.{R1, R2, R3, R4, R5, R6, R7}
-use Rattle.ledger.specs.Keys.{Looked, none, one, look, found, Change, gone, now, turn}
+use Rattle.ledger.specs.Keys.{Looked, none, one, look, onLooked, Change, gone, now, turn}
 use Rattle.view.specs.Views.{View, Seen, viewOf, seenOf}
 use Rattle.view.specs.Events.{Event, message, malformed, arrival, comes, isSound}
-use Rattle.view.specs.Steps.{Reply, answer, broken, saidBy, closing, replied, unchanged, withHighest, subscribeSeen, RowStep, named, noRow, okAt, endAt, byId, withMaximum, maximumSeen, arriveAt, subscriptionSeen, eventSeen, viewStep}
+use Rattle.view.specs.Steps.{Reply, answer, broken, verdictBy, standingAfter, replied, unchanged, withHighest, subscribeSeen, RowStep, byKey, noRow, okAt, endAt, byId, withMaximum, maximumSeen, arriveAt, subscriptionSeen, eventSeen, viewStep}
 use Rattle.view.proofs.Turns.{turn-found, turn-same}
 use Rattle.view.proofs.ArraysFollow.{seen-by}
 use Rattle.history.specs.Closings.{isPeers}
@@ -81,13 +81,13 @@ pub data Moves (v : View) : Event → Seen → Type 0 where
   -- it breaks a rule: an own message, or the peer's
   broke : {e : Event} (own : Bool) (rule : Rule) → isPeers (v .standing .part) e ≡ not own → Moves v e (replied v own (broken rule))
   -- an arrival is counted
-  counted : {a : Arrival} → Moves v (arrival a) (record { says = only 16; next = withRows v (turn aliasOf (a .alias) (counting (a .place)) (v .rows)) })
+  counted : {a : Arrival} → Moves v (arrival a) (record { says = noRule 16; next = withRows v (turn aliasOf (a .alias) (counting (a .place)) (v .rows)) })
   -- a row is opened or freed
-  turned : {m : SubscriptionMessage} (id : ℕ) (f : Row → Change Row) → Turns (deedBy m) id f → Moves v (message (Subscription m)) (record { says = only 8; next = withRows v (turn idOf id f (v .rows)) })
+  turned : {m : SubscriptionMessage} (id : ℕ) (f : Row → Change Row) → Turns (deedBy m) id f → Moves v (message (Subscription m)) (record { says = noRule 8; next = withRows v (turn idOf id f (v .rows)) })
   -- a SUBSCRIBE is taken
-  taken : {m : Subscribe} → Moves v (message (Subscription (ASubscribe m))) (record { says = only 8; next = record { standing = withHighest (v .standing) (m .id); rows = v .rows ++ (newRow m ∷ []) } })
+  taken : {m : Subscribe} → Moves v (message (Subscription (ASubscribe m))) (record { says = noRule 8; next = record { standing = withHighest (v .standing) (m .id); rows = v .rows ++ (newRow m ∷ []) } })
   -- the maximum rises
-  raised : {id : ℕ} → v .standing .maximum < id → Moves v (message (Subscription (AMaxSubscribeId id))) (record { says = only 8; next = record { standing = withMaximum (v .standing) id; rows = v .rows } })
+  raised : {id : ℕ} → v .standing .maximum < id → Moves v (message (Subscription (AMaxSubscribeId id))) (record { says = noRule 8; next = record { standing = withMaximum (v .standing) id; rows = v .rows } })
 
 -- ---- at the row that is named
 
@@ -115,13 +115,13 @@ end-meets ending r = pick-by (Meets 8 (λ _. gone) r) (mayEnd ending (r .state))
 
 module _ (v : View) (own : Bool) (key : Row → ℕ) (n : ℕ) (missing : Reply) (at : Row → RowStep) (number : ℕ) (f : Row → Change Row) (meets : (r : Row) → Meets number f r (at r)) where
   abbrev seenWith : Reply → List Row → Seen
-  seenWith reply rows = record { says = saidBy reply; next = record { standing = closing own reply (v .standing); rows = rows } }
+  seenWith reply rows = record { says = verdictBy reply; next = record { standing = standingAfter own reply (v .standing); rows = rows } }
 
   row : Row → Change Row
   row r = at r .row
 
-  named-by : (P : Seen → Type 0) → P (replied v own missing) → P (seenWith (answer number) (turn key n f (v .rows))) → ((m : ℕ) → Quiet m → P (unchanged v m)) → ((rule : Rule) → P (replied v own (broken rule))) → P (named v own key n missing at)
-  unfolding named row
+  named-by : (P : Seen → Type 0) → P (replied v own missing) → P (seenWith (answer number) (turn key n f (v .rows))) → ((m : ℕ) → Quiet m → P (unchanged v m)) → ((rule : Rule) → P (replied v own (broken rule))) → P (byKey v own key n missing at)
+  unfolding byKey row
   named-by P nowhere turning staying breaking = go (look key n (v .rows)) refl
     where
       still : ((r : Row) → look key n (v .rows) ≡ one r → row r ≡ now r) → turn key n row (v .rows) ≡ v .rows
@@ -135,7 +135,7 @@ module _ (v : View) (own : Bool) (key : Row → ℕ) (n : ℕ) (missing : Reply)
       there r e x is (breaks {rule}) =
           rw (still (λ y h. let same : r ≡ y = cc in rw (sym same) (ap (λ (x : RowStep). x .row) is))) (breaking rule)
 
-      go : (looked : Looked Row) → look key n (v .rows) ≡ looked → P (seenWith (found missing (λ r. at r .reply) looked) (turn key n row (v .rows)))
+      go : (looked : Looked Row) → look key n (v .rows) ≡ looked → P (seenWith (onLooked missing (λ r. at r .reply) looked) (turn key n row (v .rows)))
       go none e = rw (still (λ r h. absurd (let z : _≡_ {A = ℕ} 0 1 = cc in omega arith))) nowhere
       go (one r) e = there r e (at r) refl (meets r)
 

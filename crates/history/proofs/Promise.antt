@@ -7,7 +7,7 @@ use native.Mathlib.Omega.{arith}
 use borrow.Author.Tests.{ltb-false, leb-false, le-ltb, lt-leb}
 use lib.Dec.{leb, ltb}
 use lib.ListN.{length}
-use Rattle.integer.proofs.Cases.{pick-by}
+use Rattle.common.proofs.Cases.{pick-by}
 use Rattle.field.specs.declared.Place.{Place}
 use Rattle.subscription.specs.declared.Subscribe.{Subscribe}
 use Rattle.subscription.specs.declared.SubscriptionMessage.the-variants.{Subscribe as ASubscribe}
@@ -15,7 +15,7 @@ use Rattle.message.specs.declared.Message.the-variants.{Subscription}
 use Rattle.row.specs.Rows.{countedRow}
 use Rattle.row.specs.declared.Row.{Row}
 use Rattle.ledger.specs.Ledgers.{held, hasAlias, isLedger, isOpen}
-use Rattle.ledger.specs.Answers.{Said, Came, only}
+use Rattle.ledger.specs.Answers.{Verdict, Came, noRule}
 use Rattle.ledger.specs.Steps.{idOf, aliasOf, takeOf}
 use Rattle.ledger.specs.declared.Ledger.{Ledger}
 use Rattle.ledger.specs.declared.Rule.{Rule}
@@ -28,7 +28,7 @@ use Rattle.view.specs.Steps.{broken, replied, subscribeSeen, viewStep}
 use Rattle.ledger.proofs.Keyed.{Known}
 use Rattle.view.proofs.ArraysFollow.{arrays-follow, no-ledger}
 use Rattle.view.proofs.Guards.{passed}
-use Rattle.history.specs.Events.{run, told}
+use Rattle.history.specs.Events.{ledgerAfter, logOf}
 use Rattle.history.specs.Deeds.{Deed, deedIn}
 use Rattle.history.specs.Takings.{NoneTaken}
 use Rattle.history.proofs.Keeping.{run-keeps}
@@ -45,12 +45,12 @@ abbrev asking : Subscribe → Event
 asking m = message (Subscription (ASubscribe m))
 
 module _ (v : View) (m : Subscribe) where
-  unlike : {A : Type 0} (n : ℕ) (rule : ℕ) → (n ≡ 11 → ⊥) → record { number = n; rule = rule } ≡ only 11 → A
-  unlike n rule other h = absurd (other (ap (λ (s : Said). s .number) h))
+  unlike : {A : Type 0} (n : ℕ) (rule : ℕ) → (n ≡ 11 → ⊥) → record { number = n; rule = rule } ≡ noRule 11 → A
+  unlike n rule other h = absurd (other (ap (λ (s : Verdict). s .number) h))
 
   -- ---- from an 11
 
-  full-waits : subscribeSeen v m .says ≡ only 11 → Waits m v
+  full-waits : subscribeSeen v m .says ≡ noRule 11 → Waits m v
   unfolding subscribeSeen
   full-waits =
       pick-by P (ltb (m .id) (v .standing .next)) (λ _. broke-rule) (λ new.
@@ -59,12 +59,12 @@ module _ (v : View) (m : Subscribe) where
       record { new = ltb-false (m .id) (v .standing .next) new; below = leb-false (v .standing .maximum) (m .id) below; fresh = fresh })))
     where
       P : Seen → Type 0
-      P c = c .says ≡ only 11 → Waits m v
+      P c = c .says ≡ noRule 11 → Waits m v
 
-      broke-rule : {rule : ℕ} → record { number = 13; rule = rule } ≡ only 11 → Waits m v
+      broke-rule : {rule : ℕ} → record { number = 13; rule = rule } ≡ noRule 11 → Waits m v
       broke-rule {rule} = unlike 13 rule (λ z. omega arith)
 
-  eleven-waits : viewStep v (asking m) .says ≡ only 11 → Waits m v × (isSound (asking m) ≡ true)
+  eleven-waits : viewStep v (asking m) .says ≡ noRule 11 → Waits m v × (isSound (asking m) ≡ true)
   unfolding viewStep
   eleven-waits =
       pick-by P (isSound (asking m)) (λ s.
@@ -72,11 +72,11 @@ module _ (v : View) (m : Subscribe) where
       (λ _. unlike 5 0 (λ z. omega arith))
     where
       P : Seen → Type 0
-      P c = c .says ≡ only 11 → Waits m v × (isSound (asking m) ≡ true)
+      P c = c .says ≡ noRule 11 → Waits m v × (isSound (asking m) ≡ true)
 
   -- ---- to an 8
 
-  waits-taken : Waits m v → isSound (asking m) ≡ true → isOpen (v .standing .session) ≡ true → length (v .rows) < v .standing .capacity → viewStep v (asking m) .says ≡ only 8
+  waits-taken : Waits m v → isSound (asking m) ≡ true → isOpen (v .standing .session) ≡ true → length (v .rows) < v .standing .capacity → viewStep v (asking m) .says ≡ noRule 8
   unfolding subscribeSeen
   waits-taken w s o free =
       ap (λ (c : Seen). c .says) (passed v (asking m) s o)
@@ -108,25 +108,25 @@ module _ (v : View) (m : Subscribe) where
   waits-on (taken {m = x}) none w = absurd (none x refl)
   waits-on (raised {id} more) none w = record { new = w .new; below = omega (arith, w .below); fresh = w .fresh }
 
-waits-after : (m : Subscribe) (l : Ledger) (es : List Event) → NoneTaken (told l es) → Waits m (viewOf l) → Waits m (viewOf (run l es))
-unfolding run told
+waits-after : (m : Subscribe) (l : Ledger) (es : List Event) → NoneTaken (logOf l es) → Waits m (viewOf l) → Waits m (viewOf (ledgerAfter l es))
+unfolding ledgerAfter logOf
 waits-after m l [] none w = w
 waits-after m l (e ∷ es) none w =
     waits-after m (comes l e .next) es (none .1) (waits-on (viewOf l) m (ledger-moves l e) (none .0) w)
 
 -- what is no ledger answers 14
-eleven-ledger : (l : Ledger) (e : Event) → comes l e .says ≡ only 11 → isLedger l ≡ true
+eleven-ledger : (l : Ledger) (e : Event) → comes l e .says ≡ noRule 11 → isLedger l ≡ true
 eleven-ledger l e h = go (isLedger l) refl
   where
     go : (b : Bool) → isLedger l ≡ b → b ≡ true
     go true w = refl
-    go false w = absurd (let z : _≡_ {A = ℕ} 14 11 = ap (λ (s : Said). s .number) (sym (ap (λ (c : Came). c .says) (no-ledger l e w)) ∙ h) in omega arith)
+    go false w = absurd (let z : _≡_ {A = ℕ} 14 11 = ap (λ (s : Verdict). s .number) (sym (ap (λ (c : Came). c .says) (no-ledger l e w)) ∙ h) in omega arith)
 
-pub promised : (l : Ledger) (m : Subscribe) (es : List Event) → takeOf l (Subscription (ASubscribe m)) .says ≡ only 11 → NoneTaken (told l es) → isOpen (run l es .session) ≡ true → run l es .used < run l es .capacity → takeOf (run l es) (Subscription (ASubscribe m)) .says ≡ only 8
+pub promised : (l : Ledger) (m : Subscribe) (es : List Event) → takeOf l (Subscription (ASubscribe m)) .says ≡ noRule 11 → NoneTaken (logOf l es) → isOpen (ledgerAfter l es .session) ≡ true → ledgerAfter l es .used < ledgerAfter l es .capacity → takeOf (ledgerAfter l es) (Subscription (ASubscribe m)) .says ≡ noRule 8
 promised l m es eleven none o free =
     let w = eleven-ledger l (asking m) eleven in
     let v = run-keeps l es w in
     let (waits, sound) = eleven-waits (viewOf l) m (sym (ap (λ (s : Seen). s .says) (arrays-follow l (asking m) w)) ∙ eleven) in
-    let few : length (held (run l es)) < run l es .capacity = omega (arith, held-long (run l es) (parts (run l es) v .long) (ledger-used (run l es) v)) in
-    ap (λ (s : Seen). s .says) (arrays-follow (run l es) (asking m) v)
-    ∙ waits-taken (viewOf (run l es)) m (waits-after m l es none waits) sound o few
+    let few : length (held (ledgerAfter l es)) < ledgerAfter l es .capacity = omega (arith, held-long (ledgerAfter l es) (parts (ledgerAfter l es) v .long) (ledger-used (ledgerAfter l es) v)) in
+    ap (λ (s : Seen). s .says) (arrays-follow (ledgerAfter l es) (asking m) v)
+    ∙ waits-taken (viewOf (ledgerAfter l es)) m (waits-after m l es none waits) sound o few

@@ -5,23 +5,23 @@ use mathlib.Core.Bool.{true}
 use mathlib.Core.List.{List, [], _∷_, map}
 use borrow.Author.Tests.{le-leb}
 use lib.ListN.{length}
+use Rattle.common.specs.Buffer.{over}
 use Rattle.field.specs.declared.Arrival.{Arrival}
-use Rattle.integer.specs.Integer.{over}
 use Rattle.ledger.specs.Ledgers.{isLedger}
-use Rattle.ledger.specs.Runs.{arrivalsIn, behind, numbersOf, runOf}
+use Rattle.ledger.specs.Runs.{arrivalsIn, afterArrivals, answerNumbers, runOf}
 use Rattle.ledger.specs.Steps.{arrivalOf}
 use Rattle.ledger.specs.declared.Ledger.{Ledger}
 use Rattle.view.specs.Events.{arrival}
-use Rattle.history.specs.Events.{run, told}
-use Rattle.history.specs.Runs.{numberOf, Follows}
+use Rattle.history.specs.Events.{ledgerAfter, logOf}
+use Rattle.history.specs.Runs.{answerNumber, Follows}
 
-pub behind-run : (l : Ledger) (xs : List Arrival) → behind l xs ≡ run l (map arrival xs)
-unfolding behind run
+pub behind-run : (l : Ledger) (xs : List Arrival) → afterArrivals l xs ≡ ledgerAfter l (map arrival xs)
+unfolding afterArrivals ledgerAfter
 behind-run l [] = refl
 behind-run l (a ∷ xs) = behind-run (arrivalOf l a .next) xs
 
-pub numbers-told : (l : Ledger) (xs : List Arrival) → numbersOf l xs ≡ map numberOf (told l (map arrival xs))
-unfolding numbersOf told
+pub numbers-told : (l : Ledger) (xs : List Arrival) → answerNumbers l xs ≡ map answerNumber (logOf l (map arrival xs))
+unfolding answerNumbers logOf
 numbers-told l [] = refl
 numbers-told l (a ∷ xs) = ap (λ (ns : List ℕ). arrivalOf l a .says .number ∷ ns) (numbers-told (arrivalOf l a .next) xs)
 

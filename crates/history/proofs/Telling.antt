@@ -7,8 +7,8 @@ use native.Mathlib.Omega.{arith}
 use borrow.Author.Tests.{ltb-true, ltb-false}
 use lib.Dec.{eqb, ltb}
 use lib.ListN.{length}
-use Rattle.integer.proofs.Cases.{pick-by}
-use Rattle.integer.specs.Answer.{pick}
+use Rattle.common.proofs.Cases.{pick-by}
+use Rattle.common.specs.Choice.{pick}
 use Rattle.field.specs.declared.Place.{Place}
 use Rattle.subscription.specs.declared.Content.{Content}
 use Rattle.subscription.specs.declared.Subscribe.{Subscribe}
@@ -22,7 +22,7 @@ use Rattle.row.specs.declared.Greatest.{Greatest}
 use Rattle.row.specs.declared.Greatest.the-variants.{Nowhere, At}
 use Rattle.ledger.specs.Steps.{newRow}
 use Rattle.ledger.specs.Keys.{Change, gone, now, put}
-use Rattle.history.specs.Events.{Told}
+use Rattle.history.specs.Events.{Logged}
 use Rattle.history.specs.Deeds.{Deed, asked, opened, ended, raised, counted, nothing, deedOf}
 use Rattle.history.specs.Rows.{ends, opens, counts, isEnded, given, stateOf, settled, greatestOf, rowOf, adds, rowsOf}
 
@@ -57,7 +57,7 @@ abbrev behind : (Row → List Row) → Change Row → List Row
 behind f gone = []
 behind f (now r) = f r
 
-later : List Told → Row → List Row
+later : List Logged → Row → List Row
 later [] r = r ∷ []
 later (t ∷ ts) r = behind (later ts) (made (deedOf t) r)
 
@@ -87,10 +87,10 @@ abbrev unless : Bool → Row → List Row
 unless over r = pick over [] (r ∷ [])
 
 -- it is gone, or it shows what they give
-Shows : List Told → Row → Type 0
+Shows : List Logged → Row → Type 0
 Shows ts r = later ts r ≡ unless (isEnded (r .id) ts) (shown r (given (opens (r .id)) ts) (given (counts (r .alias)) ts))
 
-module _ (ts : List Told) (ih : (r : Row) → Shows ts r) (r : Row) where
+module _ (ts : List Logged) (ih : (r : Row) → Shows ts r) (r : Row) where
   contents : List Content
   contents = given (opens (r .id)) ts
 
@@ -121,7 +121,7 @@ module _ (ts : List Told) (ih : (r : Row) → Shows ts r) (r : Row) where
   deed-shows (counted a) = counted-shows (a .place) (eqb (r .alias) (a .alias))
   deed-shows nothing = ih r
 
-later-shows : (ts : List Told) (r : Row) → Shows ts r
+later-shows : (ts : List Logged) (r : Row) → Shows ts r
 unfolding Shows later isEnded given shown stateFrom greatestFrom countFrom settled contents places
 later-shows [] r = refl
 later-shows (t ∷ ts) r = deed-shows ts (later-shows ts) r (deedOf t)
@@ -167,7 +167,7 @@ count-from (p ∷ ps) n =
 count-is : (ps : List Place) → countFrom 0 ps ≡ min top (length ps)
 count-is ps = let none : 0 + length ps ≡ length ps = omega arith in count-from ps 0 ∙ ap (min top) none
 
-new-shows : (m : Subscribe) (ts : List Told) → later ts (newRow m) ≡ adds (asked m) ts
+new-shows : (m : Subscribe) (ts : List Logged) → later ts (newRow m) ≡ adds (asked m) ts
 unfolding Shows rowOf shown
 new-shows m ts =
     let contents = given (opens (m .id)) ts in
@@ -185,11 +185,11 @@ new-shows m ts =
 
 -- ---- rows
 
-pub laters : List Row → List Told → List Row
+pub laters : List Row → List Logged → List Row
 laters [] ts = []
 laters (r ∷ rs) ts = later ts r ++ laters rs ts
 
-pub no-laters : (ts : List Told) → laters [] ts ≡ []
+pub no-laters : (ts : List Logged) → laters [] ts ≡ []
 unfolding laters
 no-laters ts = refl
 
@@ -198,13 +198,13 @@ unfolding laters later
 laters-none [] = refl
 laters-none (r ∷ rs) = ap (λ (xs : List Row). r ∷ xs) (laters-none rs)
 
-laters-both : (rs more : List Row) (ts : List Told) → laters (rs ++ more) ts ≡ laters rs ts ++ laters more ts
+laters-both : (rs more : List Row) (ts : List Logged) → laters (rs ++ more) ts ≡ laters rs ts ++ laters more ts
 unfolding laters
 laters-both [] more ts = refl
 laters-both (r ∷ rs) more ts =
     ap (λ (xs : List Row). later ts r ++ xs) (laters-both rs more ts) ∙ sym (append-assoc (later ts r) (laters rs ts) (laters more ts))
 
-module _ (t : Told) (ts : List Told) where
+module _ (t : Logged) (ts : List Logged) where
   laters-every : (rs : List Row) → laters (every (made (deedOf t)) rs) ts ≡ laters rs (t ∷ ts)
   unfolding laters later every
   laters-every [] = refl

@@ -4,9 +4,8 @@ use mathlib.Core.Path.{_≡_, refl, sym, ap, _∙_}
 use mathlib.Core.Bool.{true}
 use mathlib.Core.List.{List, [], _∷_, _++_, append-nil}
 use lib.Dec.{eqb, leb}
-use Rattle.integer.proofs.Cases.{pick-by}
-use Rattle.integer.specs.Answer.{pick}
-use Rattle.field.specs.Outcome.{both}
+use Rattle.common.proofs.Cases.{pick-by}
+use Rattle.common.specs.Choice.{pick, both}
 use Rattle.row.specs.Places.{small}
 use Rattle.row.specs.declared.Row.{Row}
 use Rattle.ledger.specs.Ledgers.{held, isLedger, isOpen}
@@ -21,18 +20,18 @@ use Rattle.ledger.proofs.Facts.{parts}
 use Rattle.view.proofs.SameLedger.{same-ledger}
 use Rattle.view.specs.Views.{viewOf}
 use Rattle.view.specs.Events.{Event, comes}
-use Rattle.history.specs.Events.{run, Told, told}
+use Rattle.history.specs.Events.{ledgerAfter, Logged, logOf}
 use Rattle.history.specs.Deeds.{deedOf}
 use Rattle.history.specs.Rows.{rowsOf}
 use Rattle.history.specs.Closings.{kept}
-use Rattle.history.specs.Ledgers.{through, nextBy, maximumBy, ToldBy}
+use Rattle.history.specs.Ledgers.{through, nextBy, maximumBy, ShownBy}
 use Rattle.history.proofs.Closing.{kept-after}
 use Rattle.history.proofs.Telling.{laters, no-laters, laters-none, laters-on}
 use Rattle.history.proofs.Doing.{Did, did}
 
 -- ---- from any ledger
 
-record From (l : Ledger) (ts : List Told) (after : Ledger) : Type 0 where
+record From (l : Ledger) (ts : List Logged) (after : Ledger) : Type 0 where
   part : after .part ≡ l .part
   capacity : after .capacity ≡ l .capacity
   rows : held after ≡ laters (held l) ts ++ rowsOf ts
@@ -50,7 +49,7 @@ from-now l =
       maximum = refl;
     }
 
-from-on : {l k after : Ledger} {t : Told} {ts : List Told} → Did (viewOf l) (deedOf t) (viewOf k) → From k ts after → From l (t ∷ ts) after
+from-on : {l k after : Ledger} {t : Logged} {ts : List Logged} → Did (viewOf l) (deedOf t) (viewOf k) → From k ts after → From l (t ∷ ts) after
 unfolding through
 from-on {l} {t = t} {ts = ts} d f =
     record {
@@ -61,8 +60,8 @@ from-on {l} {t = t} {ts = ts} d f =
       maximum = f .maximum ∙ ap (λ (n : ℕ). through maximumBy n ts) (d .maximum);
     }
 
-from : (l : Ledger) (es : List Event) → From l (told l es) (run l es)
-unfolding run told
+from : (l : Ledger) (es : List Event) → From l (logOf l es) (ledgerAfter l es)
+unfolding ledgerAfter logOf
 from l [] = from-now l
 from l (e ∷ es) = from-on (did l e) (from (comes l e .next) es)
 
@@ -79,7 +78,7 @@ starting part capacity maximum =
     pick-by (λ (c : Came). Starts (c .next)) (both (leb 1 capacity) (both (leb capacity 64) (small maximum)))
     (λ _. record { rows = refl; next = refl; opened = refl }) (λ _. record { rows = refl; next = refl; opened = refl })
 
-told-from : (l : Ledger) (es : List Event) → Starts l → ToldBy l (told l es) (run l es)
+told-from : (l : Ledger) (es : List Event) → Starts l → ShownBy l (logOf l es) (ledgerAfter l es)
 told-from l es s =
     let f = from l es in
     record {
@@ -87,14 +86,14 @@ told-from l es s =
       capacity = f .capacity;
       rows =
           f .rows
-          ∙ ap (λ (rs : List Row). rs ++ rowsOf (told l es))
-          (ap (λ (rs : List Row). laters rs (told l es)) (s .rows) ∙ no-laters (told l es));
-      next = f .next ∙ ap (λ (n : ℕ). through nextBy n (told l es)) (s .next);
+          ∙ ap (λ (rs : List Row). rs ++ rowsOf (logOf l es))
+          (ap (λ (rs : List Row). laters rs (logOf l es)) (s .rows) ∙ no-laters (logOf l es));
+      next = f .next ∙ ap (λ (n : ℕ). through nextBy n (logOf l es)) (s .next);
       maximum = f .maximum;
       closing = kept-after l es (s .opened);
     }
 
-pub told-from-start : (part : Part) (capacity maximum : ℕ) (es : List Event) → let l = startOf part capacity maximum .next in ToldBy l (told l es) (run l es)
+pub told-from-start : (part : Part) (capacity maximum : ℕ) (es : List Event) → let l = startOf part capacity maximum .next in ShownBy l (logOf l es) (ledgerAfter l es)
 told-from-start part capacity maximum es =
     told-from (startOf part capacity maximum .next) es (starting part capacity maximum)
 
@@ -120,7 +119,7 @@ standing-back (Closed R5) = refl
 standing-back (Closed R6) = refl
 standing-back (Closed R7) = refl
 
-pub told-once : {l x y : Ledger} {ts : List Told} → isLedger x ≡ true → isLedger y ≡ true → ToldBy l ts x → ToldBy l ts y → x ≡ y
+pub told-once : {l x y : Ledger} {ts : List Logged} → isLedger x ≡ true → isLedger y ≡ true → ShownBy l ts x → ShownBy l ts y → x ≡ y
 told-once {x = x} {y = y} v w a b =
     let session : x .session ≡ y .session =
     sym (standing-back (x .session)) ∙ ap standing (a .closing ∙ sym (b .closing)) ∙ standing-back (y .session)

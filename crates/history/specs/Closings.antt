@@ -3,8 +3,7 @@ use Prim.Native.Nat.{ℕ}
 use mathlib.Core.Bool.{Bool, true, false, not}
 use mathlib.Core.List.{List, [], _∷_}
 use lib.Dec.{eqb}
-use Rattle.integer.specs.Answer.{pick}
-use Rattle.field.specs.Outcome.{both}
+use Rattle.common.specs.Choice.{pick, both}
 use Rattle.ledger.specs.Answers.{isOwn, ruleNumber}
 use Rattle.ledger.specs.Senders.{Sender, the, either, senderOf}
 use Rattle.ledger.specs.declared.Part.{Part}
@@ -12,7 +11,7 @@ use Rattle.ledger.specs.declared.Part.the-variants.{Publisher}
 use Rattle.ledger.specs.declared.Session.{Session}
 use Rattle.ledger.specs.declared.Session.the-variants.{Open, Closed}
 use Rattle.view.specs.Events.{Event, message, malformed, arrival}
-use Rattle.history.specs.Events.{Told}
+use Rattle.history.specs.Events.{Logged}
 
 -- whether the peer of this part is the one that sends it; what either end may send is nobody's here, since it breaks no
 -- rule
@@ -28,16 +27,16 @@ isPeers part malformed = true
 isPeers part (arrival a) = fromPeer part (the Publisher)
 
 -- an event of the peer's that broke a rule
-abbrev pub closing : Part → Told → Bool
+abbrev pub closing : Part → Logged → Bool
 closing part t = both (eqb (t .says .number) 13) (isPeers part (t .event))
 
 -- whether there was one,
-unfoldable pub anyBroken : Part → List Told → Bool
+unfoldable pub anyBroken : Part → List Logged → Bool
 anyBroken part [] = false
 anyBroken part (t ∷ ts) = pick (closing part t) true (anyBroken part ts)
 
 -- and the rule that the first of them broke, 0 where there was none
-unfoldable pub firstBroken : Part → List Told → ℕ
+unfoldable pub firstBroken : Part → List Logged → ℕ
 firstBroken part [] = 0
 firstBroken part (t ∷ ts) = pick (closing part t) (t .says .rule) (firstBroken part ts)
 

@@ -1,7 +1,7 @@
 -- What an event did to a ledger, by what it was answered: only an 8 or a 16 did anything, rules apart.
 use Prim.Native.Nat.{ℕ}
 use lib.Dec.{eqb}
-use Rattle.integer.specs.Answer.{pick}
+use Rattle.common.specs.Choice.{pick}
 use Rattle.field.specs.declared.Arrival.{Arrival}
 use Rattle.subscription.specs.declared.Content.{Content}
 use Rattle.subscription.specs.declared.Subscribe.{Subscribe}
@@ -9,7 +9,7 @@ use Rattle.subscription.specs.declared.SubscriptionMessage.{SubscriptionMessage
 use Rattle.subscription.specs.declared.SubscriptionMessage.the-variants.{SubscribeUpdate as ASubscribeUpdate, Subscribe as ASubscribe, SubscribeOk as ASubscribeOk, SubscribeError as ASubscribeError, Unsubscribe as AUnsubscribe, SubscribeDone as ASubscribeDone, MaxSubscribeId as AMaxSubscribeId, SubscribesBlocked as ASubscribesBlocked}
 use Rattle.message.specs.declared.Message.the-variants.{Subscription, Fetch, Announce, Session}
 use Rattle.view.specs.Events.{Event, message, malformed, arrival}
-use Rattle.history.specs.Events.{Told}
+use Rattle.history.specs.Events.{Logged}
 
 pub data Deed : Type 0 where
   -- a SUBSCRIBE was accepted
@@ -44,5 +44,5 @@ deedIn (message (Session m)) number = nothing
 deedIn malformed number = nothing
 deedIn (arrival a) number = pick (eqb number 16) (counted a) nothing
 
-abbrev pub deedOf : Told → Deed
+abbrev pub deedOf : Logged → Deed
 deedOf t = deedIn (t .event) (t .says .number)

@@ -4,13 +4,13 @@ use mathlib.Core.Path.{_≡_}
 use mathlib.Core.List.{List, [], _∷_}
 use Rattle.ledger.specs.Ledgers.{held}
 use Rattle.ledger.specs.declared.Ledger.{Ledger}
-use Rattle.history.specs.Events.{Told}
+use Rattle.history.specs.Events.{Logged}
 use Rattle.history.specs.Deeds.{Deed, asked, opened, ended, raised, counted, nothing, deedOf}
 use Rattle.history.specs.Rows.{rowsOf}
 use Rattle.history.specs.Closings.{firstBroken, kept}
 
 -- a number of the ledger, changed by one deed after the other
-unfoldable pub through : (ℕ → Deed → ℕ) → ℕ → List Told → ℕ
+unfoldable pub through : (ℕ → Deed → ℕ) → ℕ → List Logged → ℕ
 through by n [] = n
 through by n (t ∷ ts) = through by (by n (deedOf t)) ts
 
@@ -33,7 +33,7 @@ maximumBy maximum (counted a) = maximum
 maximumBy maximum nothing = maximum
 
 -- the ledger behind a history, by what was told from the start on
-pub record ToldBy (start : Ledger) (ts : List Told) (after : Ledger) : Type 0 where
+pub record ShownBy (start : Ledger) (ts : List Logged) (after : Ledger) : Type 0 where
   pub part : after .part ≡ start .part
   pub capacity : after .capacity ≡ start .capacity
   pub rows : held after ≡ rowsOf ts

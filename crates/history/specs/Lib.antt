@@ -1,4 +1,3 @@
-pub mod Lists
 pub mod Events
 pub mod Orders
 pub mod Deeds

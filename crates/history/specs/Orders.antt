@@ -8,7 +8,7 @@ use Rattle.ledger.specs.Ledgers.{isOpen}
 use Rattle.ledger.specs.declared.Ledger.{Ledger}
 use Rattle.view.specs.Events.{Event, message, arrival, comes}
 use Rattle.view.specs.Orders.{Apart}
-use Rattle.history.specs.Events.{run}
+use Rattle.history.specs.Events.{ledgerAfter}
 
 -- the same things in another order
 pub data Reordered {A : Type 0} : List A → List A → Type 0 where
@@ -30,7 +30,7 @@ pub data Exchanged : Ledger → List Event → List Event → Type 0 where
   arrivals : {l : Ledger} {a b : Arrival} {es : List Event} →
       Exchanged l (arrival a ∷ arrival b ∷ es) (arrival b ∷ arrival a ∷ es)
   messages : {l : Ledger} {m n : Message} {es : List Event} → Apart m n →
-      isOpen (run l (message m ∷ message n ∷ []) .session) ≡ true → Exchanged l (message m ∷ message n ∷ es)
+      isOpen (ledgerAfter l (message m ∷ message n ∷ []) .session) ≡ true → Exchanged l (message m ∷ message n ∷ es)
       (message n ∷ message m ∷ es)
   after : {l : Ledger} {e : Event} {es fs : List Event} → Exchanged (comes l e .next) es fs →
       Exchanged l (e ∷ es) (e ∷ fs)

@@ -5,7 +5,7 @@ use mathlib.Core.Bool.{Bool, true, false}
 use mathlib.Core.List.{List, [], _∷_, _++_}
 use lib.Dec.{eqb}
 use lib.ListN.{length}
-use Rattle.integer.specs.Answer.{pick}
+use Rattle.common.specs.Choice.{pick}
 use Rattle.field.specs.declared.Place.{Place}
 use Rattle.subscription.specs.declared.Content.{Content}
 use Rattle.subscription.specs.declared.Subscribe.{Subscribe}
@@ -17,7 +17,7 @@ use Rattle.row.specs.declared.Range.{Range}
 use Rattle.row.specs.declared.Greatest.{Greatest}
 use Rattle.row.specs.declared.Greatest.the-variants.{Nowhere, At}
 use Rattle.row.specs.declared.Row.{Row}
-use Rattle.history.specs.Events.{Told}
+use Rattle.history.specs.Events.{Logged}
 use Rattle.history.specs.Deeds.{Deed, asked, opened, ended, raised, counted, nothing, deedOf}
 
 -- ---- what a deed is to a row
@@ -52,12 +52,12 @@ counts alias nothing = []
 -- ---- what a history is to it
 
 -- whether one of its deeds ended the row of this ID,
-unfoldable pub isEnded : ℕ → List Told → Bool
+unfoldable pub isEnded : ℕ → List Logged → Bool
 isEnded id [] = false
 isEnded id (t ∷ ts) = pick (ends id (deedOf t)) true (isEnded id ts)
 
 -- and what they give, the earliest first
-unfoldable pub given : {A : Type 0} → (Deed → List A) → List Told → List A
+unfoldable pub given : {A : Type 0} → (Deed → List A) → List Logged → List A
 given by [] = []
 given by (t ∷ ts) = by (deedOf t) ++ given by ts
 
@@ -81,7 +81,7 @@ greatestOf (p ∷ ps) = At (greater (greatestOf ps) p)
 -- the row of a SUBSCRIBE, by what came since: active exactly when a SUBSCRIBE_OK was answered 8 for its ID; the range
 -- that was asked for, settled by that; the greatest of the places that were answered 16 for its alias; and how many
 -- they are, up to the top
-unfoldable pub rowOf : Subscribe → List Told → Row
+unfoldable pub rowOf : Subscribe → List Logged → Row
 rowOf m since =
     let contents = given (opens (m .id)) since in
     let places = given (counts (m .alias)) since in
@@ -95,7 +95,7 @@ rowOf m since =
     }
 
 -- what a deed adds: the row of a SUBSCRIBE that was accepted, unless it was ended since
-abbrev pub adds : Deed → List Told → List Row
+abbrev pub adds : Deed → List Logged → List Row
 adds (asked m) since = pick (isEnded (m .id) since) [] (rowOf m since ∷ [])
 adds (opened id content) since = []
 adds (ended id) since = []
@@ -103,6 +103,6 @@ adds (raised maximum) since = []
 adds (counted a) since = []
 adds nothing since = []
 
-unfoldable pub rowsOf : List Told → List Row
+unfoldable pub rowsOf : List Logged → List Row
 rowsOf [] = []
 rowsOf (t ∷ since) = adds (deedOf t) since ++ rowsOf since

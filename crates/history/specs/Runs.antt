@@ -2,17 +2,17 @@
 use Prim.Native.Nat.{ℕ}
 use mathlib.Core.Path.{_≡_}
 use mathlib.Core.List.{List, map}
-use Rattle.integer.specs.Integer.{over}
+use Rattle.common.specs.Buffer.{over}
 use Rattle.ledger.specs.Runs.{Run}
 use Rattle.ledger.specs.declared.Ledger.{Ledger}
 use Rattle.view.specs.Events.{Event}
-use Rattle.history.specs.Events.{run, Told, told}
+use Rattle.history.specs.Events.{ledgerAfter, Logged, logOf}
 
 -- 01's number of what an event was answered
-abbrev pub numberOf : Told → ℕ
-numberOf t = t .says .number
+abbrev pub answerNumber : Logged → ℕ
+answerNumber t = t .says .number
 
 -- a run leaves the ledger behind a history, and puts the number of each of its events into a buffer
 pub record Follows (l : Ledger) (es : List Event) (before : List ℕ) (r : Run) : Type 0 where
-  pub next : r .next ≡ run l es
-  pub holds : r .holds ≡ over (map numberOf (told l es)) before
+  pub next : r .next ≡ ledgerAfter l es
+  pub holds : r .holds ≡ over (map answerNumber (logOf l es)) before

@@ -9,8 +9,8 @@ use lib.Arith.{digits-lt, digits-div, digits-mod}
 use lib.ListN.{length, getD, take, drop, set, length-append, length-drop, length-set, take-append-drop, List·getD-append}
 use lib.Pow.{pow-add}
 use lib.Seq.{length-take-le, take-append-add, take-suc, drop-cons, getD-take, getD-set-same, drop-set-lt}
+use Rattle.common.specs.Octets.{Octets}
 use Rattle.integer.specs.Bytes.{spell, bytesOf}
-use Rattle.integer.specs.Octets.{Octets}
 
 -- ---- what bytes spell
 

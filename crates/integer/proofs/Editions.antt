@@ -11,11 +11,12 @@ use lib.ListN.{length, getD, take, drop, length-append, length-take, List·getD-
 use lib.Pow.{pow-pos}
 use lib.Seq.{getD-take, length-take-le, take-append-le, take-at, take-take, drop-at}
 use borrow.Author.Tests.{le-leb, lt-leb}
-use Rattle.integer.specs.Answer.{Answer, Nothing, whole, refused, wrote, Leaves}
-use Rattle.integer.specs.Bytes.{spell, bytesOf, over}
-use Rattle.integer.specs.Edition.{Form, Edition, roomOf, shareOf, longest, isEdition, begunBy, ofBytes, fewestFor, readBy, ledBy, encBy, putOf, writeBy}
-use Rattle.integer.specs.Octets.{Octets}
-use Rattle.integer.proofs.Cases.{pick-le}
+use Rattle.common.specs.Answer.{Answer, Nothing, whole, refused, wrote, Leaves}
+use Rattle.common.specs.Buffer.{over}
+use Rattle.common.specs.Octets.{Octets}
+use Rattle.common.proofs.Cases.{pick-le}
+use Rattle.integer.specs.Bytes.{spell, bytesOf}
+use Rattle.integer.specs.Edition.{Form, Edition, roomOf, shareOf, longestForm, isEdition, begunBy, ofBytes, fewestFor, readBy, ledBy, encBy, putForm, writeBy}
 use Rattle.integer.proofs.Digits.{length-bytesOf, spell-bytesOf, head-bytesOf, spelt, spelt-first}
 use Rattle.integer.proofs.Tables.{In}
 use Rattle.integer.proofs.Forms.{facts, some, split, leading, begun, begun-is, of-bytes, fewest, fewest-least, few}
@@ -63,9 +64,9 @@ unfolding readBy
 short edition s h = rw (lt-leb _ (length s) h)
 
 pub record Bounds (edition : Edition) (s : List ℕ) (n used : ℕ) : Type 0 where
-  pub small : n ≤ longest edition .greatest
+  pub small : n ≤ longestForm edition .greatest
   pub some : 0 < used
-  pub few : used ≤ longest edition .bytes
+  pub few : used ≤ longestForm edition .bytes
   pub within : used ≤ length s
 
 module _ (edition : Edition) (sound : T (isEdition edition)) where
@@ -99,10 +100,10 @@ module _ (edition : Edition) (sound : T (isEdition edition)) where
   length-enc n = length-bytesOf (fewestFor edition n .bytes) (ledBy (fewestFor edition n) n)
 
   -- the form that was chosen has room
-  pub room-for : (n : ℕ) → n ≤ longest edition .greatest → n < roomOf (fewestFor edition n)
+  pub room-for : (n : ℕ) → n ≤ longestForm edition .greatest → n < roomOf (fewestFor edition n)
   room-for n h = let f = fewest edition sound n h in rw (← facts edition sound (f .0) .top) (omega (arith, f .1))
 
-  pub round-trip : (n : ℕ) (rest : List ℕ) → n ≤ longest edition .greatest → readBy edition (encBy edition n ++ rest) ≡ whole n (length (encBy edition n))
+  pub round-trip : (n : ℕ) (rest : List ℕ) → n ≤ longestForm edition .greatest → readBy edition (encBy edition n ++ rest) ≡ whole n (length (encBy edition n))
   unfolding encBy
   round-trip n rest h = rw length-enc (joined (form-reads (fewest edition sound n h .0) n rest (room-for n h)))
 
@@ -135,11 +136,11 @@ module _ (edition : Edition) (sound : T (isEdition edition)) where
       rw (length-enc, r .width) (fewest-least edition sound (begun edition sound (getD s 0 0) .0) n (held r))
 
   -- nor is that ever none
-  pub enc-some : (n : ℕ) → n ≤ longest edition .greatest → 0 < length (encBy edition n)
+  pub enc-some : (n : ℕ) → n ≤ longestForm edition .greatest → 0 < length (encBy edition n)
   enc-some n h = rw length-enc (some edition sound (fewest edition sound n h .0))
 
   -- the shortest form of a smaller number is no longer
-  pub no-longer : (a b : ℕ) → a ≤ b → b ≤ longest edition .greatest → length (encBy edition a) ≤ length (encBy edition b)
+  pub no-longer : (a b : ℕ) → a ≤ b → b ≤ longestForm edition .greatest → length (encBy edition a) ≤ length (encBy edition b)
   no-longer a b k h =
       let f = fewest edition sound b h in
       rw (length-enc a, length-enc b) (fewest-least edition sound (f .0) a (omega (arith, f .1)))
@@ -169,7 +170,7 @@ module _ (edition : Edition) (sound : T (isEdition edition)) where
 
   -- ---- no encoding begins another
 
-  pub enc-apart : (a b : ℕ) (s t : List ℕ) → a ≤ longest edition .greatest → b ≤ longest edition .greatest → encBy edition a ++ s ≡ encBy edition b ++ t → (a ≡ b) × (s ≡ t)
+  pub enc-apart : (a b : ℕ) (s t : List ℕ) → a ≤ longestForm edition .greatest → b ≤ longestForm edition .greatest → encBy edition a ++ s ≡ encBy edition b ++ t → (a ≡ b) × (s ≡ t)
   enc-apart a b s t h k e =
       let p = round-trip a s h in
       let q = round-trip b t k in
@@ -200,18 +201,18 @@ module _ (edition : Edition) (sound : T (isEdition edition)) where
 -- ---- what a writer does
 
 module _ (edition : Edition) (n : ℕ) (before : List ℕ) where
-  pub write-great : longest edition .greatest < n → Leaves (writeBy edition n before) (refused 5) before
+  pub write-great : longestForm edition .greatest < n → Leaves (writeBy edition n before) (refused 5) before
   unfolding writeBy
-  write-great h = let t = lt-leb n (longest edition .greatest) h in record { says = rw t; holds = rw t }
+  write-great h = let t = lt-leb n (longestForm edition .greatest) h in record { says = rw t; holds = rw t }
 
   -- up to the greatest, the shortest form is put:
-  pub write-is : n ≤ longest edition .greatest → writeBy edition n before ≡ putOf (fewestFor edition n .bytes) (ledBy (fewestFor edition n) n) before
+  pub write-is : n ≤ longestForm edition .greatest → writeBy edition n before ≡ putForm (fewestFor edition n .bytes) (ledBy (fewestFor edition n) n) before
   unfolding writeBy
-  write-is h = rw (le-leb n (longest edition .greatest) h)
+  write-is h = rw (le-leb n (longestForm edition .greatest) h)
 
   -- where there is room it stands at the front, and every byte after it as it was
-  pub written : {after : List ℕ} {r : Answer Nothing} → Leaves (writeBy edition n before) r after → n ≤ longest edition .greatest → length (encBy edition n) ≤ length before → (r ≡ wrote (length (encBy edition n))) × (after ≡ over (encBy edition n) before)
-  unfolding putOf encBy
+  pub written : {after : List ℕ} {r : Answer Nothing} → Leaves (writeBy edition n before) r after → n ≤ longestForm edition .greatest → length (encBy edition n) ≤ length before → (r ≡ wrote (length (encBy edition n))) × (after ≡ over (encBy edition n) before)
+  unfolding putForm encBy
   written w g h =
       let l = length-bytesOf (fewestFor edition n .bytes) (ledBy (fewestFor edition n) n) in
       let t = le-leb (fewestFor edition n .bytes) (length before) (rw l at h) in

@@ -9,8 +9,8 @@ use lib.Arith.{digits-div}
 use lib.Dec.{T, leb, eqb}
 use lib.Pow.{pow-add, pow-pos}
 use borrow.Author.Tests.{leb-true, leb-false, le-leb, eq-eqb, eqb-true, eqb-false, ne-eqb}
-use Rattle.integer.specs.Edition.{Form, Edition, noForm, roomOf, shareOf, longest, isEdition, firstOf, begunBy, ofBytes, fewestFor}
-use Rattle.integer.proofs.Cases.{pick-by}
+use Rattle.common.proofs.Cases.{pick-by}
+use Rattle.integer.specs.Edition.{Form, Edition, noForm, roomOf, shareOf, longestForm, isEdition, firstOf, begunBy, ofBytes, fewestFor}
 use Rattle.integer.proofs.Tables.{Ordered, end, next, ordered, In, here, there, Behind, behind, up-to-last, longest-in, sole, first-taken, first-few}
 
 -- ---- a first byte, and whose share it is in
@@ -95,7 +95,7 @@ module _ (edition : Edition) (sound : T (isEdition edition)) where
       (λ other b. ne-eqb (other .bytes) (form .bytes) (λ e. omega (arith, e, b .longer)))
 
   -- by a number: there is one up to the greatest,
-  pub fewest : (n : ℕ) → n ≤ longest edition .greatest → In (fewestFor edition n) edition × (n ≤ fewestFor edition n .greatest)
+  pub fewest : (n : ℕ) → n ≤ longestForm edition .greatest → In (fewestFor edition n) edition × (n ≤ fewestFor edition n .greatest)
   unfolding fewestFor
   fewest n h =
       let r = first-taken _ in-order (longest-in in-order) (le-leb n _ h) in
@@ -107,9 +107,9 @@ module _ (edition : Edition) (sound : T (isEdition edition)) where
   fewest-least i n h = first-taken _ in-order i (le-leb n _ h) .no-longer
 
   -- the longest is the last
-  pub few : {form : Form} → In form edition → (form .bytes ≤ longest edition .bytes) × (form .greatest ≤ longest edition .greatest)
+  pub few : {form : Form} → In form edition → (form .bytes ≤ longestForm edition .bytes) × (form .greatest ≤ longestForm edition .greatest)
   few i = up-to-last in-order i
 
-  pub fewest-few : (n : ℕ) → fewestFor edition n .bytes ≤ longest edition .bytes
+  pub fewest-few : (n : ℕ) → fewestFor edition n .bytes ≤ longestForm edition .bytes
   unfolding fewestFor
   fewest-few n = first-few _ in-order

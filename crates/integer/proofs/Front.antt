@@ -4,7 +4,7 @@ use Prim.Native.Nat.{ℕ, _%_, _≤_, _<_}
 use mathlib.Core.Path.{_≡_, ap, _∙_}
 use mathlib.Core.List.{List}
 use lib.ListN.{length, getD, take}
-use Rattle.integer.specs.Answer.{whole, refused}
+use Rattle.common.specs.Answer.{whole, refused}
 use Rattle.integer.specs.Integer.{rfc9000, wide, room, spell, readOf}
 use Rattle.integer.proofs.Editions
 use Rattle.integer.proofs.Widths.{wide-room}

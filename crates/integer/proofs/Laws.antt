@@ -4,14 +4,14 @@ use mathlib.Core.Path.{_≡_, refl, sym}
 use mathlib.Core.List.{List, _++_}
 use native.Mathlib.Omega.{arith}
 use lib.ListN.{length, take}
-use Rattle.integer.specs.Answer.{whole}
+use Rattle.common.specs.Answer.{whole}
+use Rattle.common.proofs.Cases.{apart}
 use Rattle.integer.specs.Edition.{Form, roomOf, ledBy}
-use Rattle.integer.specs.Integer.{rfc9000, sizeOf, greatest, bytesOf, readOf, told, saying, encOf}
+use Rattle.integer.specs.Integer.{rfc9000, sizeOf, greatest, bytesOf, readOf, told, toldWriting, encOf}
 use Rattle.integer.specs.declared.Reading.{Reading}
 use Rattle.integer.specs.declared.Reading.the-variants.{Whole, More}
 use Rattle.integer.specs.declared.Writing.{Writing}
 use Rattle.integer.specs.declared.Writing.the-variants.{Done, TooGreat, TooShort}
-use Rattle.integer.proofs.Cases.{apart}
 use Rattle.integer.proofs.Editions
 use Rattle.integer.proofs.Tables.{In}
 use Rattle.integer.proofs.Widths.{table, size-few}
@@ -93,13 +93,13 @@ told-once (Whole n u) More e = absurd (apart (sym e))
 told-once More (Whole m v) e = absurd (apart e)
 told-once More More e = refl
 
-pub saying-once : (a b : Writing) → saying a ≡ saying b → a ≡ b
-saying-once (Done k) (Done l) e = cc
-saying-once (Done k) TooGreat e = absurd (apart (sym e))
-saying-once (Done k) TooShort e = absurd (apart (sym e))
-saying-once TooGreat (Done l) e = absurd (apart e)
-saying-once TooGreat TooGreat e = refl
-saying-once TooGreat TooShort e = absurd (let z : _≡_ {A = ℕ} 5 7 = cc in omega arith)
-saying-once TooShort (Done l) e = absurd (apart e)
-saying-once TooShort TooGreat e = absurd (let z : _≡_ {A = ℕ} 5 7 = cc in omega arith)
-saying-once TooShort TooShort e = refl
+pub told-writing-once : (a b : Writing) → toldWriting a ≡ toldWriting b → a ≡ b
+told-writing-once (Done k) (Done l) e = cc
+told-writing-once (Done k) TooGreat e = absurd (apart (sym e))
+told-writing-once (Done k) TooShort e = absurd (apart (sym e))
+told-writing-once TooGreat (Done l) e = absurd (apart e)
+told-writing-once TooGreat TooGreat e = refl
+told-writing-once TooGreat TooShort e = absurd (let z : _≡_ {A = ℕ} 5 7 = cc in omega arith)
+told-writing-once TooShort (Done l) e = absurd (apart e)
+told-writing-once TooShort TooGreat e = absurd (let z : _≡_ {A = ℕ} 5 7 = cc in omega arith)
+told-writing-once TooShort TooShort e = refl

@@ -1,4 +1,3 @@
-pub mod Cases
 pub mod Digits
 pub mod Tables
 pub mod Forms
@@ -7,5 +6,5 @@ pub mod Widths
 pub mod Front
 pub mod Laws
 pub mod Writes
-pub mod Parts
+pub mod Offsets
 pub mod Only

@@ -6,8 +6,8 @@ use mathlib.Core.List.{[], _∷_}
 use native.Mathlib.Nat.{le-refl}
 use native.Mathlib.Omega.{arith}
 use lib.Dec.{T, leb, ltb, eqb, leb→le, eqb→eq}
-use Rattle.integer.specs.Edition.{Form, Edition, noForm, roomOf, leadOf, endOf, lastOf, longest, agree, follows, inOrder, firstOf}
-use Rattle.integer.proofs.Cases.{pick-by}
+use Rattle.common.proofs.Cases.{pick-by}
+use Rattle.integer.specs.Edition.{Form, Edition, noForm, roomOf, leadOf, leadEnd, lastOf, longestForm, agree, follows, inOrder, firstOf}
 
 -- ---- what the test shows
 
@@ -21,7 +21,7 @@ pub record Next (from : ℕ) (before form : Form) : Type 0 where
 
 pub data Ordered : ℕ → Form → Edition → Type 0 where
   end : {before : Form} → Ordered 256 before []
-  next : {from : ℕ} {before form : Form} {forms : Edition} → Next from before form → Ordered (endOf form) form forms → Ordered from before (form ∷ forms)
+  next : {from : ℕ} {before form : Form} {forms : Edition} → Next from before form → Ordered (leadEnd form) form forms → Ordered from before (form ∷ forms)
 
 both-hold : (a b : Bool) → T (a && b) → T a × T b
 both-hold true b t = (tt, t)
@@ -30,14 +30,14 @@ both-hold false b t = absurd t
 pub ordered : (from : ℕ) (before : Form) (edition : Edition) → T (inOrder from before edition) → Ordered from before edition
 ordered from before [] t = rw (eqb→eq from 256 t) end
 ordered from before (form ∷ forms) t =
-    let r = both-hold (follows from before form && agree form) (inOrder (endOf form) form forms) t in
+    let r = both-hold (follows from before form && agree form) (inOrder (leadEnd form) form forms) t in
     let s = both-hold (follows from before form) (agree form) (r .0) in
     let l = both-hold (ltb (before .bytes) (form .bytes) && ltb (before .greatest) (form .greatest)) (eqb from (leadOf form)) (s .0) in
     let m = both-hold (ltb (before .bytes) (form .bytes)) (ltb (before .greatest) (form .greatest)) (l .0) in
     let c = both-hold (eqb (suc (form .greatest)) (roomOf form)) (leb (8 * (form .bytes - 1)) (form .bits)) (s .1) in
     next
     (record { longer = leb→le _ _ (m .0); more = leb→le _ _ (m .1); lead = eqb→eq _ _ (l .1); top = eqb→eq _ _ (c .0); full = leb→le _ _ (c .1) })
-    (ordered (endOf form) form forms (r .1))
+    (ordered (leadEnd form) form forms (r .1))
 
 -- first bytes end where bytes do
 reach : {from : ℕ} {before : Form} {edition : Edition} → Ordered from before edition → from ≤ 256
@@ -60,7 +60,7 @@ pub record Behind (from : ℕ) (before form : Form) : Type 0 where
   pub longer : before .bytes < form .bytes
   pub more : before .greatest < form .greatest
   pub lead : from ≤ leadOf form
-  pub within : endOf form ≤ 256
+  pub within : leadEnd form ≤ 256
   pub top : suc (form .greatest) ≡ roomOf form
   pub full : 8 * (form .bytes - 1) ≤ form .bits
 
@@ -86,14 +86,14 @@ last-in : (form : Form) (forms : Edition) → In (lastOf form forms) (form ∷ f
 last-in form [] = here
 last-in form (other ∷ forms) = there (last-in other forms)
 
-pub longest-in : {edition : Edition} → Ordered 0 noForm edition → In (longest edition) edition
+pub longest-in : {edition : Edition} → Ordered 0 noForm edition → In (longestForm edition) edition
 longest-in (next {form} {forms} n o) = last-in form forms
 
 -- ---- the first form that a test takes
 
 -- is one that it takes, if it takes none before;
 pub sole : (takes : Form → Bool) {from : ℕ} {before form : Form} {edition : Edition} → Ordered from before edition → In form edition → takes form ≡ true
-    → ((other : Form) → Behind (endOf other) other form → takes other ≡ false) → firstOf takes edition ≡ form
+    → ((other : Form) → Behind (leadEnd other) other form → takes other ≡ false) → firstOf takes edition ≡ form
 sole takes (next n o) here t others = rw t
 sole takes (next {form = other} n o) (there i) t others = rw (others other (behind o i)) (sole takes o i t others)
 

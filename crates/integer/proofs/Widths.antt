@@ -5,9 +5,9 @@ use mathlib.Core.Path.{_≡_, refl, ap}
 use native.Mathlib.Omega.{arith}
 use lib.Dec.{T}
 use lib.Pow.{pow-pos}
+use Rattle.common.proofs.Cases.{pick-le}
 use Rattle.integer.specs.Edition.{Form, roomOf, shareOf, isEdition, begunBy, ofBytes, fewestFor}
 use Rattle.integer.specs.Integer.{rfc9000, wide, room, tag, sizeOf, greatest}
-use Rattle.integer.proofs.Cases.{pick-le}
 use Rattle.integer.proofs.Editions
 use Rattle.integer.proofs.Forms
 use Rattle.integer.proofs.Tables.{In}

@@ -4,21 +4,23 @@ use mathlib.Core.Path.{_≡_, sym, ap, _∙_}
 use mathlib.Core.List.{List, _++_}
 use lib.ListN.{length, drop}
 use borrow.Author.Tests.{le-leb, lt-leb}
-use Rattle.integer.specs.Answer.{Answer, Nothing, refused, wrote, Leaves}
+use Rattle.common.specs.Answer.{Answer, Nothing, refused, wrote, Leaves}
+use Rattle.common.specs.Buffer.{over, Put}
 use Rattle.integer.specs.Edition.{Form, ledBy}
-use Rattle.integer.specs.Integer.{rfc9000, room, tag, sizeOf, greatest, bytesOf, encOf, over, putOf, writeOf}
+use Rattle.integer.specs.Integer.{rfc9000, room, tag, sizeOf, greatest, bytesOf, encOf, putForm, writeOf}
 use Rattle.integer.proofs.Digits.{length-bytesOf}
+use Rattle.integer.proofs.Laws.{length-enc}
 use Rattle.integer.proofs.Editions
 use Rattle.integer.proofs.Widths.{size-some, size-room, size-form}
 
 -- ---- a form that was chosen
 
-pub put-short : (width n : ℕ) (before : List ℕ) → length before < width → Leaves (putOf width n before) (refused 7) before
-unfolding putOf
+pub put-short : (width n : ℕ) (before : List ℕ) → length before < width → Leaves (putForm width n before) (refused 7) before
+unfolding putForm
 put-short width n before h = let t = lt-leb width (length before) h in record { says = rw t; holds = rw t }
 
-pub put-done : (width n : ℕ) (before after : List ℕ) → width ≤ length before → after ≡ bytesOf width n ++ drop width before → Leaves (putOf width n before) (wrote width) after
-unfolding putOf
+pub put-done : (width n : ℕ) (before after : List ℕ) → width ≤ length before → after ≡ bytesOf width n ++ drop width before → Leaves (putForm width n before) (wrote width) after
+unfolding putForm
 put-done width n before after h e =
     let t = le-leb width (length before) h in
     record { says = rw t; holds = e ∙ rw (t, length-bytesOf) }
@@ -30,13 +32,13 @@ unfolding writeOf
 write-great n before h = Editions.write-great rfc9000 n before h
 
 -- up to the greatest, its form is put
-pub write-is : (n : ℕ) (before : List ℕ) → n ≤ greatest → writeOf n before ≡ putOf (sizeOf n) (tag (sizeOf n) * room (sizeOf n) + n) before
+pub write-is : (n : ℕ) (before : List ℕ) → n ≤ greatest → writeOf n before ≡ putForm (sizeOf n) (tag (sizeOf n) * room (sizeOf n) + n) before
 unfolding writeOf tag room
 write-is n before h =
-    Editions.write-is rfc9000 n before h ∙ ap (λ (form : Form). putOf (sizeOf n) (ledBy form n) before) (sym (size-form n h))
+    Editions.write-is rfc9000 n before h ∙ ap (λ (form : Form). putForm (sizeOf n) (ledBy form n) before) (sym (size-form n h))
 
 -- an arm of the choice: w is the size
-pub write-arm : (n w : ℕ) (before : List ℕ) → w ≡ sizeOf n → 0 < w → writeOf n before ≡ putOf w (tag w * room w + n) before
+pub write-arm : (n w : ℕ) (before : List ℕ) → w ≡ sizeOf n → 0 < w → writeOf n before ≡ putForm w (tag w * room w + n) before
 write-arm n w before e h = rw (write-is n before (size-some n (rw (← e) h)), ← e)
 
 pub arm-fits : (n w : ℕ) → w ≡ sizeOf n → 0 < w → n < room w
@@ -47,3 +49,7 @@ arm-fits n w e h = rw e (size-room n (size-some n (rw (← e) h)))
 pub written : (n : ℕ) (before : List ℕ) {after : List ℕ} {r : Answer Nothing} → Leaves (writeOf n before) r after → n ≤ greatest → length (encOf n) ≤ length before → (r ≡ wrote (length (encOf n))) × (after ≡ over (encOf n) before)
 unfolding writeOf encOf
 written n before w g h = Editions.written rfc9000 n before w g h
+
+-- an integer that was written
+pub number-put : {n used : ℕ} {before after : List ℕ} {r : Answer Nothing} → n ≤ greatest → length (encOf n) ≤ length before → Leaves (writeOf n before) r after → used ≡ sizeOf n → Put (encOf n) before used after
+number-put {n} {before = before} g h w e = record { count = e ∙ sym (length-enc n); holds = written n before w g h .1 }

@@ -2,7 +2,6 @@
 -- here asks that they are below 256.
 use Prim.Native.Nat.{ℕ, zero, suc, _+_, _*_, _/_, _%_}
 use mathlib.Core.List.{List, [], _∷_, _++_}
-use lib.ListN.{length, drop}
 
 -- the number that starts as n and goes on with these bytes
 unfoldable pub spell : ℕ → List ℕ → ℕ
@@ -13,7 +12,3 @@ spell n (byte ∷ bytes) = spell (n * 256 + byte) bytes
 unfoldable pub bytesOf : ℕ → ℕ → List ℕ
 bytesOf zero n = []
 bytesOf (suc width) n = bytesOf width (n / 256) ++ n % 256 ∷ []
-
--- bytes put at the front of a buffer, and every byte after them as it was
-abbrev pub over : List ℕ → List ℕ → List ℕ
-over bytes before = bytes ++ drop (length bytes) before

@@ -5,8 +5,10 @@ use mathlib.Core.Bool.{Bool, _&&_}
 use mathlib.Core.List.{List, [], _∷_}
 use lib.ListN.{length, getD, take}
 use lib.Dec.{leb, ltb, eqb}
-use Rattle.integer.specs.Answer.{guard, unwritten, pick, Answer, whole, refused, wrote, Written}
-use Rattle.integer.specs.Bytes.{spell, bytesOf, over}
+use Rattle.common.specs.Choice.{guard, pick}
+use Rattle.common.specs.Answer.{unwritten, Answer, whole, refused, wrote, Written}
+use Rattle.common.specs.Buffer.{over}
+use Rattle.integer.specs.Bytes.{spell, bytesOf}
 
 -- ---- the table
 
@@ -42,8 +44,8 @@ abbrev pub lastOf : Form → Edition → Form
 lastOf form [] = form
 lastOf form (next ∷ forms) = lastOf next forms
 
-abbrev pub longest : Edition → Form
-longest edition = lastOf noForm edition
+abbrev pub longestForm : Edition → Form
+longestForm edition = lastOf noForm edition
 
 -- ---- a form is found
 
@@ -87,8 +89,8 @@ encBy edition n =
     bytesOf (form .bytes) (ledBy form n)
 
 -- a form that was chosen, put into a buffer: 7 where it is too short
-unfoldable pub putOf : ℕ → ℕ → List ℕ → Written
-putOf width n before =
+unfoldable pub putForm : ℕ → ℕ → List ℕ → Written
+putForm width n before =
     guard (leb width (length before)) (unwritten 7 before)
     (record { says = wrote width; holds = over (bytesOf width n) before })
 
@@ -96,7 +98,7 @@ putOf width n before =
 unfoldable pub writeBy : Edition → ℕ → List ℕ → Written
 writeBy edition n before =
     let form = fewestFor edition n in
-    guard (leb n (longest edition .greatest)) (unwritten 5 before) (putOf (form .bytes) (ledBy form n) before)
+    guard (leb n (longestForm edition .greatest)) (unwritten 5 before) (putForm (form .bytes) (ledBy form n) before)
 
 -- ---- what a table must have, so that reader and writer agree
 
@@ -105,8 +107,8 @@ abbrev pub leadOf : Form → ℕ
 leadOf form = form .tag * shareOf form
 
 -- and the first byte behind those that do
-abbrev pub endOf : Form → ℕ
-endOf form = leadOf form + shareOf form
+abbrev pub leadEnd : Form → ℕ
+leadEnd form = leadOf form + shareOf form
 
 -- A row's columns agree: its greatest number is the last that its bits hold, and they fill the bytes behind the first.
 abbrev pub agree : Form → Bool
@@ -120,7 +122,7 @@ follows from before form =
 -- So do all, and at the end no byte is left: each begins one form, and no other.
 abbrev pub inOrder : ℕ → Form → Edition → Bool
 inOrder from before [] = eqb from 256
-inOrder from before (form ∷ forms) = follows from before form && agree form && inOrder (endOf form) form forms
+inOrder from before (form ∷ forms) = follows from before form && agree form && inOrder (leadEnd form) form forms
 
 abbrev pub isEdition : Edition → Bool
 isEdition edition = inOrder 0 noForm edition

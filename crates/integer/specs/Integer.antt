@@ -1,16 +1,14 @@
 -- The integers of RFC 9000, section 16: its table, and what follows from it.
 use Prim.Native.Nat.{ℕ}
 use mathlib.Core.List.{List, [], _∷_}
-use Rattle.integer.specs.Answer.{Answer, whole, refused, Nothing, wrote, Written}
-use Rattle.integer.specs.Edition.{Edition, row, roomOf, longest, begunBy, ofBytes, fewestFor}
-use Rattle.integer.specs.Edition.{readBy, encBy, writeBy}
+use Rattle.common.specs.Answer.{Answer, whole, refused, Nothing, wrote, Written}
+use Rattle.integer.specs.Edition.{Edition, row, roomOf, longestForm, begunBy, ofBytes, fewestFor, readBy, encBy, writeBy}
 use Rattle.integer.specs.declared.Reading.{Reading}
 use Rattle.integer.specs.declared.Reading.the-variants.{Whole, More}
 use Rattle.integer.specs.declared.Writing.{Writing}
 use Rattle.integer.specs.declared.Writing.the-variants.{Done, TooGreat, TooShort}
-pub use Rattle.integer.specs.Bytes.{over}
 unfoldable pub use Rattle.integer.specs.Bytes.{spell, bytesOf}
-unfoldable pub use Rattle.integer.specs.Edition.{putOf}
+unfoldable pub use Rattle.integer.specs.Edition.{putForm}
 
 -- ---- the table
 
@@ -43,7 +41,7 @@ tag width = ofBytes rfc9000 width .tag
 
 -- the greatest number that can be written
 abbrev pub greatest : ℕ
-greatest = longest rfc9000 .greatest
+greatest = longestForm rfc9000 .greatest
 
 -- how many bytes a number takes; none for one that can't be written
 unfoldable pub sizeOf : ℕ → ℕ
@@ -80,7 +78,7 @@ unfolding writeBy sizeOf
 writeOf n before = writeBy rfc9000 n before
 
 -- 01's number and values of what `write` answers
-abbrev pub saying : Writing → Answer Nothing
-saying (Done used) = wrote used
-saying TooGreat = refused 5
-saying TooShort = refused 7
+abbrev pub toldWriting : Writing → Answer Nothing
+toldWriting (Done used) = wrote used
+toldWriting TooGreat = refused 5
+toldWriting TooShort = refused 7

@@ -1,8 +1,8 @@
 // An integer is written in the fewest bytes, at the front of what is lent.
 ghost use mathlib.Core.Path.{_≡_};
 ghost use Prim.Native.Nat.{_≤_};
-ghost use Rattle.integer.specs.Answer.{Leaves};
-ghost use Rattle.integer.specs.Integer.{sizeOf, writeOf, putOf, saying};
+ghost use Rattle.common.specs.Answer.{Leaves};
+ghost use Rattle.integer.specs.Integer.{sizeOf, writeOf, putForm, toldWriting};
 use crate::Writing;
 
 // How many bytes n takes: RFC 9000's table. None, where it is too great to be written.
@@ -20,7 +20,7 @@ pub fn size(n: u64) -> usize
 
 // n in as many bytes as its size, which stands in the first two bits; every byte after them stays.
 pub fn write(out: &mut [u8], n: u64) -> Writing
-    ensures { λ r. ⌜ Leaves (writeOf n (now (out .entry))) (saying r) (now (out .exit)) ⌝ }
+    ensures { λ r. ⌜ Leaves (writeOf n (now (out .entry))) (toldWriting r) (now (out .exit)) ⌝ }
 {
     let width = size(n);
     match width {
@@ -34,7 +34,7 @@ pub fn write(out: &mut [u8], n: u64) -> Writing
 
 // The low width bytes of m, most significant first, at the front of out.
 fn put(out: &mut [u8], width: usize, m: u64) -> Writing
-    ensures { λ r. ⌜ Leaves (putOf width m (now (out .entry))) (saying r) (now (out .exit)) ⌝ }
+    ensures { λ r. ⌜ Leaves (putForm width m (now (out .entry))) (toldWriting r) (now (out .exit)) ⌝ }
 {
     if out.len() < width {
         return Writing::TooShort;

@@ -9,18 +9,18 @@ use lib.ListN.{length, drop}
 use lib.Seq.{drop-at, drop-append-seam}
 use lib.Dec.{leb, eqb}
 use borrow.Author.Tests.{leb-true, eqb-true}
-use Rattle.integer.specs.Answer.{pick}
+use Rattle.common.specs.Choice.{pick, both}
 use Rattle.integer.specs.Integer.{greatest}
-use Rattle.field.specs.Outcome.{whole, both}
+use Rattle.field.specs.Outcome.{whole}
 use Rattle.field.specs.Entries.{few}
-use Rattle.field.specs.Fields.{Form, integer, byte, bytes, list, track}
+use Rattle.field.specs.Fields.{FieldForm, integer, byte, bytes, list, track}
 use Rattle.field.specs.Value.{Value, number, octet, text, items, fullName, Item, total, mean, encField, encode}
 use Rattle.field.specs.declared.Kind.{Kind}
 use Rattle.field.specs.declared.Kind.the-variants.{Namespace, Parameters, Versions}
 use Rattle.field.specs.declared.Piece.{Piece}
 use Rattle.field.specs.declared.Piece.the-variants.{Number, Byte, Bytes, List as Listing, Track as Tracked}
 use Rattle.field.proofs.Back.{From, from-start, front, behind, further, Fit, aField, aParameter, aVersion, AllFit, none, more, ListFit, FieldBack, integer-field, byte-field, bytes-field, list-field, track-field}
-use Rattle.layout.specs.Layout.{Layout, done, forbidden, field, when, control, scan, readBy}
+use Rattle.layout.specs.Layout.{Layout, done, forbidden, field, when, control, scan, valuesBy}
 use Rattle.layout.specs.Permitted.{goodItem, goodItems, within, goodList, good, formOf, handed, code, permitted}
 
 -- ---- what is good, by its parts
@@ -95,12 +95,12 @@ hands s (Listing kind l) = refl
 hands s (Tracked t) = refl
 
 -- the form that has a number,
-numbered : ℕ → Form
+numbered : ℕ → FieldForm
 numbered n =
     pick (eqb n 0) integer (pick (eqb n 1) byte (pick (eqb n 2) bytes (pick (eqb n 3) (list Namespace) (pick (eqb n 4) (list Parameters) (pick (eqb n 5) (list Versions) track)))))
 
 -- which is the form that it was given for,
-numbered-code : (f : Form) → numbered (code f) ≡ f
+numbered-code : (f : FieldForm) → numbered (code f) ≡ f
 unfolding numbered code
 numbered-code integer = refl
 numbered-code byte = refl
@@ -111,19 +111,19 @@ numbered-code (list Versions) = refl
 numbered-code track = refl
 
 -- so that forms with the same number are the same
-pub code-once : (f g : Form) → code f ≡ code g → f ≡ g
+pub code-once : (f g : FieldForm) → code f ≡ code g → f ≡ g
 code-once f g e = sym (numbered-code f) ∙ ap numbered e ∙ numbered-code g
 
 -- ---- a layout
 
 -- a first field that is permitted: it is of its form and good, and the others are permitted after it
-pub record FieldPermitted (form : Form) (next : ℕ → Layout) (v : Value) (vs : List Value) : Type 0 where
+pub record FieldPermitted (form : FieldForm) (next : ℕ → Layout) (v : Value) (vs : List Value) : Type 0 where
   pub of-form : form ≡ formOf v
   pub is-good : good v ≡ true
   pub others : permitted (next (handed v)) vs ≡ true
 
 -- these are the parts of the test
-pub field-permitted : (form : Form) (next : ℕ → Layout) (v : Value) (vs : List Value) → permitted (field form next) (v ∷ vs) ≡ true → FieldPermitted form next v vs
+pub field-permitted : (form : FieldForm) (next : ℕ → Layout) (v : Value) (vs : List Value) → permitted (field form next) (v ∷ vs) ≡ true → FieldPermitted form next v vs
 unfolding permitted
 field-permitted form next v vs h =
     let p = both-true (eqb (code form) (code (formOf v))) _ h in
@@ -137,7 +137,7 @@ pub record ScanBack (l : Layout) (s : List ℕ) (at : ℕ) (vs : List Value) : T
   pub means : map (mean s) found ≡ vs
 
 -- a first field, and others by what follows it
-field-scan : (form : Form) (next : ℕ → Layout) (s : List ℕ) (at : ℕ) (v : Value) (vs : List Value) → form ≡ formOf v → FieldBack (formOf v) s at v → ScanBack (next (handed v)) s (at + length (encField v)) vs
+field-scan : (form : FieldForm) (next : ℕ → Layout) (s : List ℕ) (at : ℕ) (v : Value) (vs : List Value) → form ≡ formOf v → FieldBack (formOf v) s at v → ScanBack (next (handed v)) s (at + length (encField v)) vs
     → ScanBack (field form next) s at (v ∷ vs)
 unfolding scan encode
 field-scan form next s at v vs e f o =
@@ -169,8 +169,8 @@ scan-back (when false l m) vs s h f =
 -- A permitted list of fields, encoded at any offset and followed by anything, is read back as the same fields, and exactly those
 -- bytes are used.
 pub reads-back : (l : Layout) (vs : List Value) (before rest : List ℕ) → permitted l vs ≡ true
-    → readBy l (before ++ (encode vs ++ rest)) (length before) ≡ whole vs (length before + length (encode vs))
-unfolding readBy
+    → valuesBy l (before ++ (encode vs ++ rest)) (length before) ≡ whole vs (length before + length (encode vs))
+unfolding valuesBy
 reads-back l vs before rest h =
     let r = scan-back l vs (before ++ (encode vs ++ rest)) h (from-start before (encode vs) rest) in
     rw (r .reads, r .means)
@@ -187,5 +187,5 @@ apart l vs ws s t h k e =
     (same, sym (drop-at (encode vs) s (length (encode ws)) long) ∙ ap (drop (length (encode ws))) e ∙ drop-append-seam (encode ws) t)
 
 -- The reading of given bytes is unique.
-pub once : (l : Layout) (s : List ℕ) (at : ℕ) {vs ws : List Value} {e f : ℕ} → readBy l s at ≡ whole vs e → readBy l s at ≡ whole ws f → (vs ≡ ws) × (e ≡ f)
+pub once : (l : Layout) (s : List ℕ) (at : ℕ) {vs ws : List Value} {e f : ℕ} → valuesBy l s at ≡ whole vs e → valuesBy l s at ≡ whole ws f → (vs ≡ ws) × (e ≡ f)
 once l s at p q = (cc, cc)

@@ -8,7 +8,7 @@ use borrow.Author.Tests.{le-leb, eq-eqb}
 use Rattle.integer.specs.Integer.{greatest}
 use Rattle.field.specs.Outcome.{whole}
 use Rattle.field.specs.Entries.{size, numberAt, entryAt, mostOf, entriesAt, Listed, listAt}
-use Rattle.field.specs.Fields.{Form}
+use Rattle.field.specs.Fields.{FieldForm}
 use Rattle.field.specs.Value.{item, itemsOf, contents, mean}
 use Rattle.field.specs.declared.Entry.{Entry}
 use Rattle.field.specs.declared.Kind.{Kind}
@@ -75,13 +75,13 @@ alone Versions s at h = refl
 -- ---- a field
 
 -- its value is of the form asked for, hands on what the piece does, and is good
-pub record Good (form : Form) (s : List ℕ) (p : Piece) : Type 0 where
+pub record Good (form : FieldForm) (s : List ℕ) (p : Piece) : Type 0 where
   pub as-asked : formOf (mean s p) ≡ form
   pub hands-on : handed (mean s p) ≡ control p
   pub allowed : good (mean s p) ≡ true
 
 -- so is every field that was found
-pub field-good : {s : List ℕ} {at : ℕ} {form : Form} {p : Piece} {end : ℕ} → FieldAt s at form p end → Good form s p
+pub field-good : {s : List ℕ} {at : ℕ} {form : FieldForm} {p : Piece} {end : ℕ} → FieldAt s at form p end → Good form s p
 unfolding mean good within mostOf
 field-good {s} {at} (a-number {n = n} e) =
     record { as-asked = refl; hands-on = refl; allowed = le-leb n greatest (number-at s at e .small) }

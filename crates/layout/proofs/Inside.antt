@@ -8,7 +8,7 @@ use native.Mathlib.Omega.{arith}
 use Rattle.integer.specs.Integer.{greatest}
 use Rattle.field.specs.Outcome.{whole}
 use Rattle.field.specs.Entries.{mostOf, Listed, listAt, textAt}
-use Rattle.field.specs.Fields.{Form}
+use Rattle.field.specs.Fields.{FieldForm}
 use Rattle.field.specs.declared.Span.{Span}
 use Rattle.field.specs.declared.Kind.{Kind}
 use Rattle.field.specs.declared.Kind.the-variants.{Namespace}
@@ -41,7 +41,7 @@ wider : {low at start stop end high : ℕ} → low ≤ at → end ≤ high → B
 wider h k b = record { starts = omega arith; ordered = b .ordered; ends = omega arith }
 
 -- the parts of a piece
-field-lies : (low high : ℕ) {s : List ℕ} {at : ℕ} {form : Form} {p : Piece} {end : ℕ} → low ≤ at → end ≤ high → FieldAt s at form p end → Lies low high p
+field-lies : (low high : ℕ) {s : List ℕ} {at : ℕ} {form : FieldForm} {p : Piece} {end : ℕ} → low ≤ at → end ≤ high → FieldAt s at form p end → Lies low high p
 unfolding Lies
 field-lies low high h k (a-number e) = tt
 field-lies low high h k (a-byte e) = tt

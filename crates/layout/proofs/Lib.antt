@@ -9,6 +9,5 @@ pub mod Allowed
 pub mod Theorems
 pub mod Steps
 pub mod Family
-pub mod Lossless
-pub mod Said
 pub mod Every
+pub mod Parts

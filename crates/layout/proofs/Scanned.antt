@@ -5,17 +5,17 @@ use mathlib.Core.List.{List, [], _∷_, map}
 use mathlib.Core.Bool.{true, false}
 use native.Mathlib.Omega.{arith}
 use Rattle.field.specs.Outcome.{Outcome, whole, no}
-use Rattle.field.specs.Fields.{Form, fieldAt}
+use Rattle.field.specs.Fields.{FieldForm, fieldAt}
 use Rattle.field.specs.Value.{Value, mean}
 use Rattle.field.specs.declared.Piece.{Piece}
 use Rattle.field.proofs.Found.{steps}
 use Rattle.field.proofs.Pieces.{as-told, FieldAt, field-at}
-use Rattle.layout.specs.Layout.{Layout, done, forbidden, field, when, control, scan, valued, readBy}
+use Rattle.layout.specs.Layout.{Layout, done, forbidden, field, when, control, scan, valued, valuesBy}
 
 -- the end; a field and what follows it; the one or the other of two layouts
 pub data Scanned (s : List ℕ) : Layout → ℕ → List Piece → ℕ → Type 0 where
   at-end : {at : ℕ} → Scanned s done at [] at
-  one-more : {form : Form} {next : ℕ → Layout} {at : ℕ} {p : Piece} {mid : ℕ} {ps : List Piece} {end : ℕ} → FieldAt s at form p mid → Scanned s (next (control p)) mid ps end → Scanned s (field form next) at (p ∷ ps) end
+  one-more : {form : FieldForm} {next : ℕ → Layout} {at : ℕ} {p : Piece} {mid : ℕ} {ps : List Piece} {end : ℕ} → FieldAt s at form p mid → Scanned s (next (control p)) mid ps end → Scanned s (field form next) at (p ∷ ps) end
   taken : {l m : Layout} {at : ℕ} {ps : List Piece} {end : ℕ} → Scanned s l at ps end → Scanned s (when true l m) at ps end
   left : {l m : Layout} {at : ℕ} {ps : List Piece} {end : ℕ} → Scanned s m at ps end → Scanned s (when false l m) at ps end
 
@@ -39,8 +39,8 @@ pub record ReadBy (l : Layout) (s : List ℕ) (at : ℕ) (vs : List Value) (end 
   pub values : vs ≡ map (mean s) pieces
 
 -- what was read by value has such pieces
-pub read-by : (l : Layout) (s : List ℕ) (at : ℕ) {vs : List Value} {end : ℕ} → readBy l s at ≡ whole vs end → ReadBy l s at vs end
-unfolding readBy
+pub read-by : (l : Layout) (s : List ℕ) (at : ℕ) {vs : List Value} {end : ℕ} → valuesBy l s at ≡ whole vs end → ReadBy l s at vs end
+unfolding valuesBy
 read-by l s at {vs} {end} = go (scan l s at) refl
   where
     go : (o : Outcome (List Piece)) → scan l s at ≡ o → valued s o ≡ whole vs end → ReadBy l s at vs end

@@ -11,7 +11,7 @@ use Rattle.field.specs.Value.{Value, mean, encode}
 use Rattle.field.specs.declared.Piece.{Piece}
 use Rattle.field.proofs.Least.{Least, least-none, least-then}
 use Rattle.field.proofs.Shortest.{field-fits}
-use Rattle.layout.specs.Layout.{Layout, readBy}
+use Rattle.layout.specs.Layout.{Layout, valuesBy}
 use Rattle.layout.specs.Permitted.{code, permitted}
 use Rattle.layout.proofs.Scanned.{Scanned, at-end, one-more, taken, left, scanned, read-by}
 use Rattle.layout.proofs.Good.{field-good}
@@ -39,5 +39,5 @@ scanned-shortest (taken r) = let k = scanned-shortest r in record { allowed = k 
 scanned-shortest (left r) = let k = scanned-shortest r in record { allowed = k .allowed; least = k .least; within = k .within }
 
 -- and so by what was read
-pub shortest : (l : Layout) (s : List ℕ) (at : ℕ) {vs : List Value} {end : ℕ} → readBy l s at ≡ whole vs end → Shortest l s at vs end
+pub shortest : (l : Layout) (s : List ℕ) (at : ℕ) {vs : List Value} {end : ℕ} → valuesBy l s at ≡ whole vs end → Shortest l s at vs end
 shortest l s at h = let r = read-by l s at h in rw (r .values) (scanned-shortest (scanned l s at (r .found)))

@@ -9,7 +9,7 @@ use Rattle.field.specs.declared.Fault.{Fault}
 use Rattle.field.specs.declared.Fault.the-variants.{Cut}
 use Rattle.field.specs.declared.Piece.{Piece}
 use Rattle.field.proofs.Stable.{Stays, same, stays-then, stays-pick, keeps-whole, keeps-refusal, was-cut, field-stays, mean-stays}
-use Rattle.layout.specs.Layout.{Layout, done, forbidden, field, when, control, scan, readBy}
+use Rattle.layout.specs.Layout.{Layout, done, forbidden, field, when, control, scan, valuesBy}
 use Rattle.layout.proofs.Scanned.{Scanned, at-end, one-more, taken, left, scanned, read-by}
 
 -- what bytes mean by a layout stays
@@ -41,8 +41,8 @@ values-stay {s} t (one-more f r) = rw (mean-stays s t f, values-stay t r)
 values-stay t (taken r) = values-stay t r
 values-stay t (left r) = values-stay t r
 
-pub read-stays : (l : Layout) (s t : List ℕ) (at : ℕ) {vs : List Value} {end : ℕ} → readBy l s at ≡ whole vs end → readBy l (s ++ t) at ≡ whole vs end
-unfolding readBy
+pub read-stays : (l : Layout) (s t : List ℕ) (at : ℕ) {vs : List Value} {end : ℕ} → valuesBy l s at ≡ whole vs end → valuesBy l (s ++ t) at ≡ whole vs end
+unfolding valuesBy
 read-stays l s t at h =
     let r = read-by l s at h in
     rw (whole-stays l s t at (r .found), values-stay t (scanned l s at (r .found)), ← r .values)

@@ -8,7 +8,7 @@ use borrow.Author.Tests.{le-leb, lt-leb, eq-eqb, ne-eqb, not-true, not-false}
 use Rattle.field.specs.Outcome.{Outcome, whole, no, andThen}
 use Rattle.integer.specs.Integer.{greatest}
 use Rattle.field.specs.Entries.{numberAt, textAt}
-use Rattle.field.specs.Fields.{Form, integer, byte, bytes, list, track, fieldAt, placeAt, failureAt}
+use Rattle.field.specs.Fields.{FieldForm, integer, byte, bytes, list, track, fieldAt, placeAt, failureAt}
 use Rattle.field.specs.Told.{toldNumber, toldByte, toldBytes, toldList, toldTrack, toldPlace, toldFailure}
 use Rattle.field.specs.declared.Fault.{Fault}
 use Rattle.field.specs.declared.Fault.the-variants.{Cut, Forbidden}
@@ -60,7 +60,7 @@ led-led ps qs (no fault) = refl
 
 pub data To (s : List ℕ) : Layout → ℕ → List Piece → Layout → ℕ → Type 0 where
   there : {l : Layout} {at : ℕ} → To s l at [] l at
-  then : {form : Form} {next : ℕ → Layout} {at : ℕ} {p : Piece} {mid : ℕ} {ps : List Piece} {l : Layout} {end : ℕ} → fieldAt form s at ≡ whole p mid → To s (next (control p)) mid ps l end → To s (field form next) at (p ∷ ps) l end
+  then : {form : FieldForm} {next : ℕ → Layout} {at : ℕ} {p : Piece} {mid : ℕ} {ps : List Piece} {l : Layout} {end : ℕ} → fieldAt form s at ≡ whole p mid → To s (next (control p)) mid ps l end → To s (field form next) at (p ∷ ps) l end
   yes : {t : Bool} {k m : Layout} {at : ℕ} {ps : List Piece} {l : Layout} {end : ℕ} → t ≡ true → To s k at ps l end → To s (when t k m) at ps l end
   else : {t : Bool} {k m : Layout} {at : ℕ} {ps : List Piece} {l : Layout} {end : ℕ} → t ≡ false → To s m at ps l end → To s (when t k m) at ps l end
 
@@ -80,8 +80,8 @@ is-whole {ps} {end} w = rw (← is-on w) (rw append-nil)
 -- ---- where a reading stops
 
 pub data Stops (s : List ℕ) : Layout → ℕ → Fault → Type 0 where
-  here : {form : Form} {next : ℕ → Layout} {at : ℕ} {fault : Fault} → fieldAt form s at ≡ no fault → Stops s (field form next) at fault
-  later : {form : Form} {next : ℕ → Layout} {at : ℕ} {p : Piece} {mid : ℕ} {fault : Fault} → fieldAt form s at ≡ whole p mid → Stops s (next (control p)) mid fault → Stops s (field form next) at fault
+  here : {form : FieldForm} {next : ℕ → Layout} {at : ℕ} {fault : Fault} → fieldAt form s at ≡ no fault → Stops s (field form next) at fault
+  later : {form : FieldForm} {next : ℕ → Layout} {at : ℕ} {p : Piece} {mid : ℕ} {fault : Fault} → fieldAt form s at ≡ whole p mid → Stops s (next (control p)) mid fault → Stops s (field form next) at fault
   refused : {at : ℕ} → Stops s forbidden at Forbidden
   yes : {t : Bool} {l m : Layout} {at : ℕ} {fault : Fault} → t ≡ true → Stops s l at fault → Stops s (when t l m) at fault
   else : {t : Bool} {l m : Layout} {at : ℕ} {fault : Fault} → t ≡ false → Stops s m at fault → Stops s (when t l m) at fault

@@ -4,13 +4,13 @@ use mathlib.Core.Path.{_≡_}
 use mathlib.Core.List.{List, _++_}
 use mathlib.Core.Bool.{true}
 use lib.ListN.{length, drop}
-use Rattle.integer.specs.Octets.{Octets}
+use Rattle.common.specs.Octets.{Octets}
 use Rattle.field.specs.Outcome.{whole, no}
 use Rattle.field.specs.Value.{Value, encode}
 use Rattle.field.specs.declared.Fault.{Fault}
 use Rattle.field.specs.declared.Fault.the-variants.{Cut}
 use Rattle.field.specs.declared.Piece.{Piece}
-use Rattle.layout.specs.Layout.{Layout, scan, readBy}
+use Rattle.layout.specs.Layout.{Layout, scan, valuesBy}
 use Rattle.layout.specs.Permitted.{permitted}
 use Rattle.layout.specs.Inside.{Inside}
 use Rattle.layout.specs.Allowed.{allowed}
@@ -24,19 +24,19 @@ use Rattle.layout.proofs.Allowed as values
 module _ (l : Layout) where
   -- 1. A permitted list of fields, encoded and followed by anything, is read back as the same fields, and exactly those bytes
   -- are used.
-  pub reads-back : (vs : List Value) (before rest : List ℕ) → permitted l vs ≡ true → readBy l (before ++ (encode vs ++ rest)) (length before) ≡ whole vs (length before + length (encode vs))
+  pub reads-back : (vs : List Value) (before rest : List ℕ) → permitted l vs ≡ true → valuesBy l (before ++ (encode vs ++ rest)) (length before) ≡ whole vs (length before + length (encode vs))
   reads-back = back.reads-back l
 
   -- 2. What is read whole is permitted, and its shortest form is no longer than what was read;
-  pub shortest : (s : List ℕ) (at : ℕ) {vs : List Value} {end : ℕ} → readBy l s at ≡ whole vs end → (permitted l vs ≡ true) × (at + length (encode vs) ≤ end)
+  pub shortest : (s : List ℕ) (at : ℕ) {vs : List Value} {end : ℕ} → valuesBy l s at ≡ whole vs end → (permitted l vs ≡ true) × (at + length (encode vs) ≤ end)
   shortest s at h = let r = shorter.shortest l s at h in (r .allowed, r .least .fits)
 
   -- of forms that are as short it is the only one;
-  pub only : (s : List ℕ) (at : ℕ) {vs : List Value} {end : ℕ} → Octets s → readBy l s at ≡ whole vs end → end ≤ at + length (encode vs) → drop at s ≡ encode vs ++ drop end s
+  pub only : (s : List ℕ) (at : ℕ) {vs : List Value} {end : ℕ} → Octets s → valuesBy l s at ≡ whole vs end → end ≤ at + length (encode vs) → drop at s ≡ encode vs ++ drop end s
   only s at o h = shorter.shortest l s at h .least .is o
 
   -- so encoded again it reads back the same.
-  pub again : (s : List ℕ) (at : ℕ) {vs : List Value} {end : ℕ} (before rest : List ℕ) → readBy l s at ≡ whole vs end → readBy l (before ++ (encode vs ++ rest)) (length before) ≡ whole vs (length before + length (encode vs))
+  pub again : (s : List ℕ) (at : ℕ) {vs : List Value} {end : ℕ} (before rest : List ℕ) → valuesBy l s at ≡ whole vs end → valuesBy l (before ++ (encode vs ++ rest)) (length before) ≡ whole vs (length before + length (encode vs))
   again s at {vs} before rest h = back.reads-back l vs before rest (shorter.shortest l s at h .allowed)
 
   -- 3. Bytes that follow change nothing of what was read whole,
@@ -56,7 +56,7 @@ module _ (l : Layout) where
   more-decides = cuts.more-decides l
 
   -- 4. The reading of given bytes is unique,
-  pub once : (s : List ℕ) (at : ℕ) {vs ws : List Value} {e f : ℕ} → readBy l s at ≡ whole vs e → readBy l s at ≡ whole ws f → (vs ≡ ws) × (e ≡ f)
+  pub once : (s : List ℕ) (at : ℕ) {vs ws : List Value} {e f : ℕ} → valuesBy l s at ≡ whole vs e → valuesBy l s at ≡ whole ws f → (vs ≡ ws) × (e ≡ f)
   once = back.once l
 
   -- and two different lists of fields have different encodings: none begins another.

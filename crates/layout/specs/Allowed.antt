@@ -1,7 +1,7 @@
 -- "Forbidden field values (5)": what a layout forbids, whoever asks: its reader, the writer, or the ledger.
 use mathlib.Core.List.{List, [], _∷_}
 use mathlib.Core.Bool.{Bool, true, false}
-use Rattle.integer.specs.Answer.{pick}
+use Rattle.common.specs.Choice.{pick}
 use Rattle.field.specs.declared.Piece.{Piece}
 use Rattle.layout.specs.Layout.{Layout, done, forbidden, field, when, control}
 

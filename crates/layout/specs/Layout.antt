@@ -2,9 +2,9 @@
 use Prim.Native.Nat.{ℕ}
 use mathlib.Core.List.{List, [], _∷_, map}
 use mathlib.Core.Bool.{Bool}
-use Rattle.integer.specs.Answer.{pick}
+use Rattle.common.specs.Choice.{pick}
 use Rattle.field.specs.Outcome.{Outcome, whole, no, andThen}
-use Rattle.field.specs.Fields.{Form, integer, bytes, list, fieldAt}
+use Rattle.field.specs.Fields.{FieldForm, integer, bytes, list, fieldAt}
 use Rattle.field.specs.Value.{Value, mean}
 use Rattle.field.specs.declared.Fault.the-variants.{Forbidden}
 use Rattle.field.specs.declared.Kind.the-variants.{Parameters}
@@ -16,7 +16,7 @@ use Rattle.field.specs.declared.Piece.the-variants.{Number, Byte, Bytes, List a
 pub data Layout : Type 0 where
   done : Layout
   forbidden : Layout
-  field : Form → (ℕ → Layout) → Layout
+  field : FieldForm → (ℕ → Layout) → Layout
   when : Bool → Layout → Layout → Layout
 
 -- two fields that stand together in many messages: a group and an object,
@@ -52,5 +52,5 @@ abbrev pub valued : List ℕ → Outcome (List Piece) → Outcome (List Value)
 valued s (whole ps end) = whole (map (mean s) ps) end
 valued s (no fault) = no fault
 
-unfoldable pub readBy : Layout → List ℕ → ℕ → Outcome (List Value)
-readBy l s at = valued s (scan l s at)
+unfoldable pub valuesBy : Layout → List ℕ → ℕ → Outcome (List Value)
+valuesBy l s at = valued s (scan l s at)

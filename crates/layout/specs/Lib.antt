@@ -4,4 +4,3 @@ pub mod Permitted
 pub mod Inside
 pub mod Typed
 pub mod Same
-pub mod Parts

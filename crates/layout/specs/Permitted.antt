@@ -4,11 +4,10 @@ use mathlib.Core.List.{List, [], _∷_}
 use mathlib.Core.Bool.{Bool, true, false}
 use lib.ListN.{length}
 use lib.Dec.{leb, eqb}
-use Rattle.integer.specs.Answer.{pick}
+use Rattle.common.specs.Choice.{pick, both}
 use Rattle.integer.specs.Integer.{greatest}
-use Rattle.field.specs.Outcome.{both}
 use Rattle.field.specs.Entries.{longestTrack, few}
-use Rattle.field.specs.Fields.{Form, integer, byte, bytes, list, track}
+use Rattle.field.specs.Fields.{FieldForm, integer, byte, bytes, list, track}
 use Rattle.field.specs.Value.{Value, number, octet, text, items, fullName, Item, total}
 use Rattle.field.specs.declared.Kind.{Kind}
 use Rattle.field.specs.declared.Kind.the-variants.{Namespace, Parameters, Versions}
@@ -42,7 +41,7 @@ good (items kind is) = goodList kind is 0
 good (fullName is name) = goodList Namespace is (length name)
 
 -- the kind of field that a value is of
-abbrev pub formOf : Value → Form
+abbrev pub formOf : Value → FieldForm
 formOf (number n) = integer
 formOf (octet b) = byte
 formOf (text b) = bytes
@@ -58,7 +57,7 @@ handed (items kind is) = 0
 handed (fullName is name) = 0
 
 -- forms told apart by a number
-unfoldable pub code : Form → ℕ
+unfoldable pub code : FieldForm → ℕ
 code integer = 0
 code byte = 1
 code bytes = 2

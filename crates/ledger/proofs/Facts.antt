@@ -6,8 +6,8 @@ use native.Mathlib.Omega.{arith}
 use borrow.Author.Tests.{leb-true, eqb-true, le-leb, eq-eqb}
 use lib.Dec.{leb, eqb}
 use lib.ListN.{length, drop}
+use Rattle.common.proofs.Tests.{both-first, both-second}
 use Rattle.integer.specs.Integer.{greatest}
-use Rattle.measure.proofs.Tests.{both-first, both-second}
 use Rattle.row.specs.Places.{small}
 use Rattle.ledger.specs.Ledgers.{held, rising, distinct, allUnused, bounded, isLedger}
 use Rattle.ledger.specs.declared.Ledger.{Ledger}

@@ -7,10 +7,10 @@ use native.Mathlib.Nat.{add-zero, zero-add}
 use native.Mathlib.Omega.{arith}
 use lib.Dec.{eqb}
 use lib.ListN.{length, length-take}
-use Rattle.integer.specs.Answer.{pick}
+use Rattle.common.specs.Choice.{pick}
 use Rattle.row.specs.declared.Row.{Row}
 use Rattle.ledger.specs.Ledgers.{held, hasAlias}
-use Rattle.ledger.specs.Steps.{find, onFound, aliasOf}
+use Rattle.ledger.specs.Steps.{find, atFound, aliasOf}
 use Rattle.ledger.specs.declared.Ledger.{Ledger}
 use Rattle.ledger.specs.declared.Found.{Found}
 use Rattle.ledger.specs.declared.Found.the-variants.{At, Missing}
@@ -46,8 +46,8 @@ module _ (key : Row → ℕ) (n : ℕ) (l : Ledger) where
   by-place : (P : Found → Type 0) → (HasNone key n (held l) → P Missing) → ((i : ℕ) → IsFirst key n (held l) i → P (At i)) → P (find key n 0 (held l))
   by-place P none at = find-by key n 0 (held l) P none (λ i h. subst (λ (k : ℕ). P (At k)) (sym (zero-add i)) (at i h))
 
-  pub on-place : {A : Type 0} (Q : A → Type 0) (missing : A) (at : ℕ → A) → (HasNone key n (held l) → Q missing) → ((i : ℕ) → IsFirst key n (held l) i → Q (at i)) → Q (onFound (find key n 0 (held l)) missing at)
-  on-place Q missing at = by-place (λ f. Q (onFound f missing at))
+  pub on-place : {A : Type 0} (Q : A → Type 0) (missing : A) (at : ℕ → A) → (HasNone key n (held l) → Q missing) → ((i : ℕ) → IsFirst key n (held l) i → Q (at i)) → Q (atFound (find key n 0 (held l)) missing at)
+  on-place Q missing at = by-place (λ f. Q (atFound f missing at))
 
   pub first-used : {i : ℕ} → IsFirst key n (held l) i → i < l .used
   unfolding held

@@ -4,9 +4,9 @@ use mathlib.Core.Path.{_≡_, refl, sym, ap, _∙_}
 use mathlib.Core.Bool.{Bool, true, false}
 use native.Mathlib.Omega.{arith}
 use borrow.Author.Tests.{eq-eqb, ne-eqb}
-use Rattle.integer.specs.Answer.{pick}
+use Rattle.common.specs.Choice.{pick}
 use Rattle.ledger.specs.Ledgers.{isLedger, isOpen}
-use Rattle.ledger.specs.Answers.{Said, only, said, told, Came, stops, gateOf, toldGate, gated}
+use Rattle.ledger.specs.Answers.{Verdict, noRule, toldAnswer, told, Came, stops, gateOf, toldGate, gated}
 use Rattle.ledger.specs.declared.Ledger.{Ledger}
 use Rattle.ledger.specs.declared.Answer.{Answer}
 use Rattle.ledger.specs.declared.Answer.the-variants.{Forbidden, Done, NotKept, AlreadyClosed, Full, Stale, Breaks, NotALedger, StartRefused, Counted, Outside, NoRow, StillPending}
@@ -15,7 +15,7 @@ use Rattle.ledger.specs.declared.Gate.the-variants.{Pass, Stop}
 use Rattle.ledger.proofs.Facts.{parts, ledger-used}
 
 -- every answer has a number
-some-number : (a : Answer) → said a .number ≡ 0 → ⊥
+some-number : (a : Answer) → toldAnswer a .number ≡ 0 → ⊥
 some-number Forbidden e = omega arith
 some-number Done e = omega arith
 some-number NotKept e = omega arith
@@ -45,19 +45,19 @@ gate-passed l sound e = passes (isLedger l) sound (isOpen (l .session)) e
 
 -- ---- a call, by what the gate told
 
-module _ (l : Ledger) {sound want : Bool} (judged : sound ≡ want) {g : Gate} (t : toldGate g ≡ only (gateOf l sound)) where
+module _ (l : Ledger) {sound want : Bool} (judged : sound ≡ want) {g : Gate} (t : toldGate g ≡ noRule (gateOf l sound)) where
   -- it stops there,
   pub stopped : {a : Answer} (rest : Came) → g ≡ Stop a → told (record { answer = a; ledger = l }) ≡ gated l want rest
   unfolding gated
   stopped {a} rest e =
-      let at : said a ≡ only (gateOf l want) = sym (ap toldGate e) ∙ t ∙ ap (λ (b : Bool). only (gateOf l b)) judged in
-      let some : gateOf l want ≡ 0 → ⊥ = λ z. some-number a (ap (λ (s : Said). s .number) at ∙ z) in
-      rw (ne-eqb (gateOf l want) 0 some) (ap (λ (s : Said). record { says = s; next = l }) at)
+      let at : toldAnswer a ≡ noRule (gateOf l want) = sym (ap toldGate e) ∙ t ∙ ap (λ (b : Bool). noRule (gateOf l b)) judged in
+      let some : gateOf l want ≡ 0 → ⊥ = λ z. some-number a (ap (λ (s : Verdict). s .number) at ∙ z) in
+      rw (ne-eqb (gateOf l want) 0 some) (ap (λ (s : Verdict). record { says = s; next = l }) at)
 
   -- or goes on
   at-zero : g ≡ Pass → gateOf l want ≡ 0
   at-zero e =
-      sym (ap (λ (b : Bool). gateOf l b) judged) ∙ sym (ap (λ (s : Said). s .number) (sym (ap toldGate e) ∙ t))
+      sym (ap (λ (b : Bool). gateOf l b) judged) ∙ sym (ap (λ (s : Verdict). s .number) (sym (ap toldGate e) ∙ t))
 
   pub went : {came rest : Came} → g ≡ Pass → came ≡ rest → came ≡ gated l want rest
   unfolding gated

@@ -5,10 +5,10 @@ use mathlib.Core.Bool.{Bool, true, false}
 use native.Mathlib.Omega.{arith}
 use borrow.Author.Tests.{leb-false, ltb-false, eqb-true, leb-true}
 use lib.Dec.{leb, ltb, eqb}
-use Rattle.integer.proofs.Cases.{pick-by}
-use Rattle.field.specs.Outcome.{both}
+use Rattle.common.proofs.Cases.{pick-by}
+use Rattle.common.specs.Choice.{both}
+use Rattle.common.proofs.Tests.{both-first, both-second}
 use Rattle.field.specs.declared.Arrival.{Arrival}
-use Rattle.measure.proofs.Tests.{both-first, both-second}
 use Rattle.subscription.specs.declared.Subscribe.{Subscribe}
 use Rattle.subscription.specs.declared.SubscribeOk.{SubscribeOk}
 use Rattle.subscription.specs.declared.SubscriptionMessage.{SubscriptionMessage}
@@ -23,7 +23,7 @@ use Rattle.row.specs.declared.Ending.{Ending}
 use Rattle.row.specs.declared.Ending.the-variants.{SubscribeError as Erring, SubscribeDone as Ended, Unsubscribe as Leaving}
 use Rattle.row.proofs.Keeping.{after, after-id, after-alias, after-is, opened, opened-id, opened-alias, opened-is, pending-is}
 use Rattle.ledger.specs.Ledgers.{held, rising, hasAlias, distinct, allUnused, bounded, isLedger, emptyLedger}
-use Rattle.ledger.specs.Answers.{Came, Said, only, isOwn, breaks, closedBy, gateOf, gated}
+use Rattle.ledger.specs.Answers.{Came, Verdict, noRule, isOwn, breaks, closedBy, gateOf, gated}
 use Rattle.ledger.specs.Steps.{startOf, idOf, aliasOf, rowAt, noRow, subscribeStep, okStep, endStep, maximumStep, arrivalStep, smallArrival, subscriptionStep, messageStep, takeOf, malformedOf, arrivalOf}
 use Rattle.ledger.specs.declared.Part.{Part}
 use Rattle.ledger.specs.declared.Part.the-variants.{Subscriber, Publisher}
@@ -140,20 +140,20 @@ empty-is part capacity maximum some few s =
     })
 
 -- a start that is done gives a ledger, and one that is refused gives none
-pub starts : (part : Part) (capacity maximum : ℕ) → startOf part capacity maximum .says ≡ only 8 → isLedger (startOf part capacity maximum .next) ≡ true
+pub starts : (part : Part) (capacity maximum : ℕ) → startOf part capacity maximum .says ≡ noRule 8 → isLedger (startOf part capacity maximum .next) ≡ true
 unfolding startOf
 starts part capacity maximum =
     let t = both (leb 1 capacity) (both (leb capacity 64) (small maximum)) in
-    pick-by (λ (c : Came). c .says ≡ only 8 → isLedger (c .next) ≡ true) t
+    pick-by (λ (c : Came). c .says ≡ noRule 8 → isLedger (c .next) ≡ true) t
     (λ e _.
     let e₁ = both-second (leb 1 capacity) _ e in
     empty-is part capacity maximum (leb-true 1 capacity (both-first (leb 1 capacity) _ e)) (leb-true capacity 64 (both-first (leb capacity 64) _ e₁)) (both-second (leb capacity 64) _ e₁))
-    (λ _ e. absurd (let n : _≡_ {A = ℕ} 15 8 = ap (λ (s : Said). s .number) e in omega arith))
+    (λ _ e. absurd (let n : _≡_ {A = ℕ} 15 8 = ap (λ (s : Verdict). s .number) e in omega arith))
 
-pub no-start : (part : Part) (capacity maximum : ℕ) → startOf part capacity maximum .says ≡ only 15 → isLedger (startOf part capacity maximum .next) ≡ false
+pub no-start : (part : Part) (capacity maximum : ℕ) → startOf part capacity maximum .says ≡ noRule 15 → isLedger (startOf part capacity maximum .next) ≡ false
 unfolding startOf isLedger bounded
 no-start part capacity maximum =
     let t = both (leb 1 capacity) (both (leb capacity 64) (small maximum)) in
-    pick-by (λ (c : Came). c .says ≡ only 15 → isLedger (c .next) ≡ false) t
-    (λ _ e. absurd (let n : _≡_ {A = ℕ} 8 15 = ap (λ (s : Said). s .number) e in omega arith))
+    pick-by (λ (c : Came). c .says ≡ noRule 15 → isLedger (c .next) ≡ false) t
+    (λ _ e. absurd (let n : _≡_ {A = ℕ} 8 15 = ap (λ (s : Verdict). s .number) e in omega arith))
     (λ _ _. refl)

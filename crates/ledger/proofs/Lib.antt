@@ -12,6 +12,6 @@ pub mod Sounds
 pub mod HeldRows
 pub mod Changes
 pub mod Keeps
-pub mod Once
+pub mod OneAnswer
 pub mod Naming
 pub mod Running

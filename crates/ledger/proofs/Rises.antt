@@ -6,9 +6,9 @@ use mathlib.Core.List.{List, [], _∷_, _++_}
 use native.Mathlib.Omega.{arith}
 use borrow.Author.Tests.{leb-true, ltb-true, le-leb, lt-ltb, eqb-false, ne-eqb, not-true}
 use lib.Dec.{leb, ltb, eqb}
-use Rattle.integer.specs.Answer.{pick}
-use Rattle.integer.proofs.Cases.{pick-by}
-use Rattle.measure.proofs.Tests.{both-first, both-second}
+use Rattle.common.specs.Choice.{pick}
+use Rattle.common.proofs.Cases.{pick-by}
+use Rattle.common.proofs.Tests.{both-first, both-second}
 use Rattle.row.specs.Rows.{unusedRow, isRow, isUnused, isPending, isNowhere}
 use Rattle.row.specs.Ranges.{isKnown}
 use Rattle.row.specs.declared.Row.{Row}

@@ -10,17 +10,17 @@ use borrow.Author.Tests.{ne-eqb, le-leb, lt-leb}
 use lib.Dec.{leb, eqb}
 use lib.ListN.{length, take, drop, getD, set, length-drop, length-append, length-map}
 use lib.Seq.{drop-cons, set-at, append-snoc, map-set-same}
-use Rattle.integer.specs.Answer.{wrote}
-use Rattle.integer.proofs.Cases.{pick-by}
+use Rattle.common.specs.Answer.{wrote}
+use Rattle.common.proofs.Cases.{pick-by}
 use Rattle.field.specs.declared.Arrival.{Arrival}
 use Rattle.row.specs.Rows.{unusedRow, arriveOf, arrivedNumber, leftBy, toldArriving}
 use Rattle.row.specs.declared.Row.{Row}
 use Rattle.row.specs.declared.Arriving.{Arriving}
 use Rattle.row.proofs.Keeping.{after, after-alias}
 use Rattle.ledger.specs.Ledgers.{held, isLedger, isOpen}
-use Rattle.ledger.specs.Answers.{Came, only, same, stops, gateOf, gated}
+use Rattle.ledger.specs.Answers.{Came, noRule, same, stops, gateOf, gated}
 use Rattle.ledger.specs.Steps.{find, aliasOf, rowAt, changed, arrivalStep, arrivalOf, smallArrival}
-use Rattle.ledger.specs.Runs.{arrivalsIn, itself, behind, numbersOf, runOf, Runs}
+use Rattle.ledger.specs.Runs.{arrivalsIn, itself, afterArrivals, answerNumbers, runOf, Runs}
 use Rattle.ledger.specs.declared.Ledger.{Ledger}
 use Rattle.ledger.specs.declared.Filled.the-variants.{Done, NotALedger, TooShort}
 use Rattle.ledger.specs.declared.Found.{Found}
@@ -63,8 +63,8 @@ thirds (a ∷ g ∷ o ∷ ns) =
     let more : length (a ∷ g ∷ o ∷ ns) ≡ length ns + 3 = omega arith in
     ap suc (thirds ns) ∙ sym (add-one (length ns / 3)) ∙ sym (ap (λ (n : ℕ). n / 3) more ∙ add-div-right (length ns) {k = 3} (omega arith))
 
-numbers-long : (l : Ledger) (came : List Arrival) → length (numbersOf l came) ≡ length came
-unfolding numbersOf
+numbers-long : (l : Ledger) (came : List Arrival) → length (answerNumbers l came) ≡ length came
+unfolding answerNumbers
 numbers-long l [] = refl
 numbers-long l (a ∷ came) = ap suc (numbers-long (arrivalOf l a .next) came)
 
@@ -107,8 +107,8 @@ module _ (l : Ledger) (a : Arrival) where
   unfolding gateOf stops
   no-ledger e = ap (λ (c : Came). c .next) (arrival-stopped 14 (rw e) (λ z. omega arith))
 
-none-behind : (l : Ledger) (came : List Arrival) → isLedger l ≡ false → behind l came ≡ l
-unfolding behind
+none-behind : (l : Ledger) (came : List Arrival) → isLedger l ≡ false → afterArrivals l came ≡ l
+unfolding afterArrivals
 none-behind l [] e = refl
 none-behind l (a ∷ came) e = rw (no-ledger l a e) (none-behind l came e)
 
@@ -119,11 +119,11 @@ pub record Along (start : Ledger) (run before names : List ℕ) (opened : Bool) 
   pub goes : opened ≡ isOpen (l .session)
   pub uses : used ≡ l .used
   pub named : names ≡ map aliasOf (l .rows)
-  pub rest : behind l (arrivalsIn (drop (3 * k) run)) ≡ behind start (arrivalsIn run)
+  pub rest : afterArrivals l (arrivalsIn (drop (3 * k) run)) ≡ afterArrivals start (arrivalsIn run)
   pub told : List ℕ
   pub so-far : length told ≡ k
   pub holds : answers ≡ told ++ drop k before
-  pub more : told ++ numbersOf l (arrivalsIn (drop (3 * k) run)) ≡ numbersOf start (arrivalsIn run)
+  pub more : told ++ answerNumbers l (arrivalsIn (drop (3 * k) run)) ≡ answerNumbers start (arrivalsIn run)
 
 -- before the first
 pub begins : (l : Ledger) (run before names : List ℕ) {opened : Bool} → isLedger l ≡ true → opened ≡ isOpen (l .session) → names ≡ map aliasOf (l .rows) → Along l run before names opened (l .used) before l 0
@@ -134,7 +134,7 @@ module _ {start : Ledger} {run before names : List ℕ} {opened : Bool} {used : 
   module _ (h : 3 * k + 2 < length run) (room : k < length before) where
     -- one turn: the next ledger and the number are those of the arrival
     turn : {n : ℕ} {next : Ledger} → next ≡ arrivalOf l (arrivalAt run (3 * k)) .next → n ≡ arrivalOf l (arrivalAt run (3 * k)) .says .number → Along start run before names opened used (set answers k n) next (k + 1)
-    unfolding behind numbersOf
+    unfolding afterArrivals answerNumbers
     turn {n} {next} to says =
         let a = arrivalAt run (3 * k) in
         record {
@@ -178,7 +178,7 @@ module _ {start : Ledger} {run before names : List ℕ} {opened : Bool} {used : 
           step = arrival-went l (arrivalAt run (3 * k)) (sym gate ∙ z)
 
           -- by what the step came to
-          taken-turn : {n : ℕ} {next : Ledger} → record { says = only n; next = next } ≡ arrivalStep l (arrivalAt run (3 * k)) → Along start run before names opened used (set answers k n) next (k + 1)
+          taken-turn : {n : ℕ} {next : Ledger} → record { says = noRule n; next = next } ≡ arrivalStep l (arrivalAt run (3 * k)) → Along start run before names opened used (set answers k n) next (k + 1)
           taken-turn e = let s = e ∙ sym step in turn (ap (λ (c : Came). c .next) s) (ap (λ (c : Came). c .says .number) s)
 
           pub missed-turn : f ≡ Missing → Along start run before names opened used (set answers k 18) l (k + 1)
@@ -198,12 +198,12 @@ module _ {start : Ledger} {run before names : List ℕ} {opened : Bool} {used : 
         let last : length run < length run / 3 * 3 + 3 = lt-div-mul-add {a = length run} {b = 3} (omega arith) in
         none (drop (3 * k) run) (rw length-drop (omega arith))
 
-    all-told : g .told ≡ numbersOf start (arrivalsIn run)
-    unfolding numbersOf
+    all-told : g .told ≡ answerNumbers start (arrivalsIn run)
+    unfolding answerNumbers
     all-told = sym (append-nil (g .told)) ∙ (rw over-all at (g .more))
 
-    all-behind : l ≡ behind start (arrivalsIn run)
-    unfolding behind
+    all-behind : l ≡ afterArrivals start (arrivalsIn run)
+    unfolding afterArrivals
     all-behind = rw over-all at (g .rest)
 
     pub ends : isLedger start ≡ true → count ≤ length before → Runs (runOf start run before) (record { answer = Done count; ledger = l }) answers
@@ -211,7 +211,7 @@ module _ {start : Ledger} {run before names : List ℕ} {opened : Bool} {used : 
     ends valid room =
         let counts : count ≡ length (arrivalsIn run) = e ∙ sym (thirds run) in
         let fits = le-leb (length (arrivalsIn run)) (length before) (omega arith) in
-        let told : k ≡ length (numbersOf start (arrivalsIn run)) = sym (g .so-far) ∙ ap length all-told in
+        let told : k ≡ length (answerNumbers start (arrivalsIn run)) = sym (g .so-far) ∙ ap length all-told in
         record {
           says = rw (valid, fits) (ap wrote counts);
           next = rw (valid, fits) all-behind;
@@ -240,13 +240,13 @@ no-room l run before valid e h =
     record { says = rw (valid, short); next = rw (valid, short); holds = rw (valid, short) }
 
 -- where there is room, the ledger behind a run is that behind its arrivals, also of what is no ledger
-pub run-behind : (l : Ledger) (run before : List ℕ) → length (arrivalsIn run) ≤ length before → runOf l run before .next ≡ behind l (arrivalsIn run)
+pub run-behind : (l : Ledger) (run before : List ℕ) → length (arrivalsIn run) ≤ length before → runOf l run before .next ≡ afterArrivals l (arrivalsIn run)
 unfolding runOf
 run-behind l run before room = go (isLedger l) refl
   where
     fits : leb (length (arrivalsIn run)) (length before) ≡ true
     fits = le-leb (length (arrivalsIn run)) (length before) room
 
-    go : (b : Bool) → isLedger l ≡ b → runOf l run before .next ≡ behind l (arrivalsIn run)
+    go : (b : Bool) → isLedger l ≡ b → runOf l run before .next ≡ afterArrivals l (arrivalsIn run)
     go true e = rw (e, fits)
     go false e = rw e (sym (none-behind l (arrivalsIn run) e))

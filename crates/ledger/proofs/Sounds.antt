@@ -4,12 +4,12 @@ use mathlib.Core.Path.{_≡_, refl}
 use mathlib.Core.Bool.{true}
 use mathlib.Core.List.{List, [], _∷_, _++_}
 use lib.Dec.{leb}
+use Rattle.common.proofs.Tests.{both-first, both-second}
 use Rattle.integer.specs.Integer.{greatest}
 use Rattle.field.specs.declared.Kind.the-variants.{Parameters}
 use Rattle.field.specs.declared.Piece.{Piece}
 use Rattle.field.specs.declared.Piece.the-variants.{Number, List as Listing}
 use Rattle.measure.specs.Small.{smallPiece, smallAll}
-use Rattle.measure.proofs.Tests.{both-first, both-second}
 use Rattle.subscription.specs.Told.{filterPieces, contentPieces}
 use Rattle.subscription.specs.declared.Filter.{Filter}
 use Rattle.subscription.specs.declared.Filter.the-variants.{Latest, From, Range as Until}
@@ -18,7 +18,7 @@ use Rattle.subscription.specs.declared.Content.the-variants.{Nothing, Largest}
 use Rattle.subscription.specs.declared.Subscribe.{Subscribe}
 use Rattle.subscription.specs.declared.SubscribeOk.{SubscribeOk}
 use Rattle.subscription.specs.declared.SubscriptionMessage.the-variants.{Subscribe as ASubscribe, SubscribeOk as ASubscribeOk, MaxSubscribeId as AMaxSubscribeId}
-use Rattle.message.specs.Types.{saidOf}
+use Rattle.message.specs.Types.{typedOf}
 use Rattle.message.specs.Writing.{allowedOf}
 use Rattle.message.specs.Sound.{soundOf}
 use Rattle.message.specs.declared.Message.{Message}
@@ -40,9 +40,9 @@ place-small : (group object : ℕ) (ps : List Piece) → smallAll (Number group 
 unfolding smallPlace
 place-small group object ps e = rw (first-small group _ e, first-small object ps (rest-small (Number group) _ e))
 
-all-small : (m : Message) → soundOf m ≡ true → smallAll (saidOf m .pieces) ≡ true
+all-small : (m : Message) → soundOf m ≡ true → smallAll (typedOf m .pieces) ≡ true
 unfolding soundOf
-all-small m e = both-second (allowedOf m) (smallAll (saidOf m .pieces)) e
+all-small m e = both-second (allowedOf m) (smallAll (typedOf m .pieces)) e
 
 range-small : (filter : Filter) (ps : List Piece) → smallAll (filterPieces filter ++ ps) ≡ true → smallRange (askedOf filter) ≡ true
 unfolding smallRange

@@ -4,7 +4,7 @@ use mathlib.Core.Path.{_≡_, sym, ap, _∙_}
 use mathlib.Core.Bool.{Bool, true, false}
 use borrow.Author.Tests.{lt-ltb, le-ltb, le-leb, lt-leb}
 use lib.Dec.{eqb}
-use Rattle.integer.specs.Answer.{pick}
+use Rattle.common.specs.Choice.{pick}
 use Rattle.field.specs.declared.Arrival.{Arrival}
 use Rattle.subscription.specs.declared.Subscribe.{Subscribe}
 use Rattle.subscription.specs.declared.SubscribeOk.{SubscribeOk}
@@ -22,7 +22,7 @@ use Rattle.row.specs.declared.Opening.{Opening}
 use Rattle.row.specs.declared.Opening.the-variants.{Refused, Opened}
 use Rattle.row.specs.declared.Ending.{Ending}
 use Rattle.ledger.specs.Ledgers.{held, hasAlias}
-use Rattle.ledger.specs.Answers.{Came, only, same, done, isOwn, breaks, gated}
+use Rattle.ledger.specs.Answers.{Came, noRule, same, done, isOwn, breaks, gated}
 use Rattle.ledger.specs.Steps.{find, idOf, aliasOf, rowAt, changed, added, freed, noRow, subscribeStep, okStep, endStep, arrivalStep, messageStep, takeOf}
 use Rattle.ledger.specs.declared.Part.{Part}
 use Rattle.ledger.specs.declared.Part.the-variants.{Subscriber, Publisher}
@@ -42,7 +42,7 @@ module _ (l : Ledger) (a : Arrival) {f : Found} (found : f ≡ find aliasOf (a .
 
   module _ {i : ℕ} (at : f ≡ At i) where
     abbrev at-row : AtRow → Came
-    at-row x = record { says = only (x .number); next = changed l i (x .row) }
+    at-row x = record { says = noRule (x .number); next = changed l i (x .row) }
 
     -- the step at the row
     by-row : at-row (arriveOf (rowAt l i) (a .place)) ≡ arrivalStep l a
@@ -59,7 +59,7 @@ module _ (l : Ledger) (a : Arrival) {f : Found} (found : f ≡ find aliasOf (a .
       pub outside : w ≡ Outside → same l 17 ≡ arrivalStep l a
       outside e = ap (λ (k : Ledger). same k 17) (same-row l i) ∙ answered e
 
-      pub counted : {r : Row} {next : Ledger} → w ≡ Counted r → next ≡ changed l i r → record { says = only 16; next = next } ≡ arrivalStep l a
+      pub counted : {r : Row} {next : Ledger} → w ≡ Counted r → next ≡ changed l i r → record { says = noRule 16; next = next } ≡ arrivalStep l a
       counted {r} e n = rw n (answered e)
 
 -- ---- SUBSCRIBE_OK

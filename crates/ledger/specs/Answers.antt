@@ -2,7 +2,7 @@
 use Prim.Native.Nat.{ℕ}
 use mathlib.Core.Bool.{Bool, true, false}
 use lib.Dec.{eqb}
-use Rattle.integer.specs.Answer.{guard, pick}
+use Rattle.common.specs.Choice.{guard, pick}
 use Rattle.ledger.specs.Ledgers.{isLedger, isOpen}
 use Rattle.ledger.specs.declared.Part.{Part}
 use Rattle.ledger.specs.declared.Part.the-variants.{Subscriber, Publisher}
@@ -39,43 +39,43 @@ closeCode R7 = 0x3
 
 -- ---- 01's number of an answer, and the rule that stands behind a 13 (0 behind another)
 
-pub record Said : Type 0 where
+pub record Verdict : Type 0 where
   pub number : ℕ
   pub rule : ℕ
 
-abbrev pub only : ℕ → Said
-only number = record { number = number; rule = 0 }
+abbrev pub noRule : ℕ → Verdict
+noRule number = record { number = number; rule = 0 }
 
-abbrev pub said : Answer → Said
-said Forbidden = only 5
-said Done = only 8
-said NotKept = only 9
-said AlreadyClosed = only 10
-said Full = only 11
-said Stale = only 12
-said (Breaks rule) = record { number = 13; rule = ruleNumber rule }
-said NotALedger = only 14
-said StartRefused = only 15
-said Counted = only 16
-said Outside = only 17
-said NoRow = only 18
-said StillPending = only 19
+abbrev pub toldAnswer : Answer → Verdict
+toldAnswer Forbidden = noRule 5
+toldAnswer Done = noRule 8
+toldAnswer NotKept = noRule 9
+toldAnswer AlreadyClosed = noRule 10
+toldAnswer Full = noRule 11
+toldAnswer Stale = noRule 12
+toldAnswer (Breaks rule) = record { number = 13; rule = ruleNumber rule }
+toldAnswer NotALedger = noRule 14
+toldAnswer StartRefused = noRule 15
+toldAnswer Counted = noRule 16
+toldAnswer Outside = noRule 17
+toldAnswer NoRow = noRule 18
+toldAnswer StillPending = noRule 19
 
 -- what a call comes to: what is said, and the next ledger
 pub record Came : Type 0 where
-  pub says : Said
+  pub says : Verdict
   pub next : Ledger
 
 abbrev pub told : Taken → Came
-told t = record { says = said (t .answer); next = t .ledger }
+told t = record { says = toldAnswer (t .answer); next = t .ledger }
 
 -- ---- the answers that leave the ledger as it was, and those that do not
 
 abbrev pub same : Ledger → ℕ → Came
-same l number = record { says = only number; next = l }
+same l number = record { says = noRule number; next = l }
 
 abbrev pub done : Ledger → Came
-done next = record { says = only 8; next = next }
+done next = record { says = noRule 8; next = next }
 
 abbrev pub closedBy : Ledger → Rule → Ledger
 closedBy l rule = record {
@@ -109,9 +109,9 @@ stops isLedger sound opened = guard isLedger 14 (guard sound 5 (guard opened 10 
 unfoldable pub gateOf : Ledger → Bool → ℕ
 gateOf l sound = stops (isLedger l) sound (isOpen (l .session))
 
-abbrev pub toldGate : Gate → Said
-toldGate Pass = only 0
-toldGate (Stop answer) = said answer
+abbrev pub toldGate : Gate → Verdict
+toldGate Pass = noRule 0
+toldGate (Stop answer) = toldAnswer answer
 
 -- the rest, behind the gate
 unfoldable pub gated : Ledger → Bool → Came → Came

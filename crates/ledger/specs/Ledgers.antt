@@ -4,9 +4,8 @@ use mathlib.Core.Bool.{Bool, true, false, not}
 use mathlib.Core.List.{List, [], _∷_}
 use lib.ListN.{length, take, drop, replicate}
 use lib.Dec.{leb, ltb, eqb}
-use Rattle.integer.specs.Answer.{pick}
+use Rattle.common.specs.Choice.{pick, both}
 use Rattle.integer.specs.Integer.{greatest}
-use Rattle.field.specs.Outcome.{both}
 use Rattle.row.specs.Places.{small}
 use Rattle.row.specs.Rows.{isRow, unusedRow, isUnused}
 use Rattle.row.specs.declared.Row.{Row}

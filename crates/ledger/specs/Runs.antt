@@ -4,8 +4,9 @@ use mathlib.Core.Path.{_≡_}
 use mathlib.Core.List.{List, [], _∷_}
 use lib.ListN.{length}
 use lib.Dec.{leb}
-use Rattle.integer.specs.Answer.{guard, Answer, refused, Nothing, wrote}
-use Rattle.integer.specs.Integer.{over}
+use Rattle.common.specs.Choice.{guard}
+use Rattle.common.specs.Answer.{Answer, refused, Nothing, wrote}
+use Rattle.common.specs.Buffer.{over}
 use Rattle.field.specs.declared.Arrival.{Arrival}
 use Rattle.ledger.specs.Ledgers.{isLedger}
 use Rattle.ledger.specs.Steps.{arrivalOf}
@@ -27,14 +28,14 @@ abbrev pub itself : ℕ → ℕ
 itself n = n
 
 -- the ledger behind them,
-unfoldable pub behind : Ledger → List Arrival → Ledger
-behind l [] = l
-behind l (a ∷ rest) = behind (arrivalOf l a .next) rest
+unfoldable pub afterArrivals : Ledger → List Arrival → Ledger
+afterArrivals l [] = l
+afterArrivals l (a ∷ rest) = afterArrivals (arrivalOf l a .next) rest
 
 -- and 01's number of each
-unfoldable pub numbersOf : Ledger → List Arrival → List ℕ
-numbersOf l [] = []
-numbersOf l (a ∷ rest) = arrivalOf l a .says .number ∷ numbersOf (arrivalOf l a .next) rest
+unfoldable pub answerNumbers : Ledger → List Arrival → List ℕ
+answerNumbers l [] = []
+answerNumbers l (a ∷ rest) = arrivalOf l a .says .number ∷ answerNumbers (arrivalOf l a .next) rest
 
 -- what a run does: what is said, the ledger behind it, and what the buffer for the numbers then holds
 pub record Run : Type 0 where
@@ -53,14 +54,14 @@ runOf l run before =
     let came = arrivalsIn run in
     guard (isLedger l) (noRun l before 14)
     (guard (leb (length came) (length before)) (noRun l before 7)
-    (record { says = wrote (length came); next = behind l came; holds = over (numbersOf l came) before }))
+    (record { says = wrote (length came); next = afterArrivals l came; holds = over (answerNumbers l came) before }))
 
-abbrev pub saying : Filled → Answer Nothing
-saying (Done count) = wrote count
-saying NotALedger = refused 14
-saying TooShort = refused 7
+abbrev pub toldFilled : Filled → Answer Nothing
+toldFilled (Done count) = wrote count
+toldFilled NotALedger = refused 14
+toldFilled TooShort = refused 7
 
 pub record Runs (w : Run) (r : Ran) (after : List ℕ) : Type 0 where
-  pub says : saying (r .answer) ≡ w .says
+  pub says : toldFilled (r .answer) ≡ w .says
   pub next : r .ledger ≡ w .next
   pub holds : after ≡ w .holds

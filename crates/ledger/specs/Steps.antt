@@ -4,8 +4,7 @@ use mathlib.Core.Bool.{Bool, true, false, not}
 use mathlib.Core.List.{List, [], _∷_, _++_}
 use lib.ListN.{take, drop, getD, set}
 use lib.Dec.{leb, ltb, eqb}
-use Rattle.integer.specs.Answer.{guard, pick}
-use Rattle.field.specs.Outcome.{both}
+use Rattle.common.specs.Choice.{guard, pick, both}
 use Rattle.field.specs.declared.Arrival.{Arrival}
 use Rattle.subscription.specs.declared.Subscribe.{Subscribe}
 use Rattle.subscription.specs.declared.SubscribeOk.{SubscribeOk}
@@ -21,7 +20,7 @@ use Rattle.row.specs.declared.Row.{Row}
 use Rattle.row.specs.declared.Ending.{Ending}
 use Rattle.row.specs.declared.Ending.the-variants.{SubscribeError as Erring, SubscribeDone as Ended, Unsubscribe as Leaving}
 use Rattle.ledger.specs.Ledgers.{mostRows, held, hasAlias, emptyLedger}
-use Rattle.ledger.specs.Answers.{Came, only, same, done, isOwn, breaks, gated}
+use Rattle.ledger.specs.Answers.{Came, noRule, same, done, isOwn, breaks, gated}
 use Rattle.ledger.specs.Senders.{sender}
 use Rattle.ledger.specs.declared.Part.{Part}
 use Rattle.ledger.specs.declared.Rule.the-variants.{R1, R2, R3, R4, R5, R6, R7}
@@ -37,7 +36,7 @@ use Rattle.ledger.specs.declared.Found.the-variants.{At, Missing}
 -- "start refused: rows not 1 to 64, maximum above the greatest integer": what is then handed back has no capacity, and
 -- every call on it answers 14
 abbrev pub refusedStart : Part → Came
-refusedStart part = record { says = only 15; next = emptyLedger part 0 0 }
+refusedStart part = record { says = noRule 15; next = emptyLedger part 0 0 }
 
 unfoldable pub startOf : Part → ℕ → ℕ → Came
 startOf part capacity maximum =
@@ -52,9 +51,9 @@ find of n from [] = Missing
 find of n from (r ∷ rs) = pick (eqb (of r) n) (At from) (find of n (from + 1) rs)
 
 -- what comes of it where none has it, and where one stands
-abbrev pub onFound : {A : Type 0} → Found → A → (ℕ → A) → A
-onFound Missing missing at = missing
-onFound (At i) missing at = at i
+abbrev pub atFound : {A : Type 0} → Found → A → (ℕ → A) → A
+atFound Missing missing at = missing
+atFound (At i) missing at = at i
 
 abbrev pub idOf : Row → ℕ
 idOf r = r .id
@@ -120,14 +119,14 @@ noRow l by id = pick (leb (l .next) id) (breaks l (isOwn (l .part) by) R5) (same
 unfoldable pub okStep : Ledger → SubscribeOk → Came
 okStep l m =
     let by = sender (ASubscribeOk m) in
-    onFound (find idOf (m .id) 0 (held l)) (noRow l by (m .id)) (λ i.
+    atFound (find idOf (m .id) 0 (held l)) (noRow l by (m .id)) (λ i.
     let at = openOf (rowAt l i) (m .content) in
     pick (eqb (at .number) 8) (done (changed l i (at .row))) (breaks l (isOwn (l .part) by) R6))
 
 -- "ERROR on pending, DONE on active and UNSUBSCRIBE on either free it"; "R6: OK or ERROR on active, DONE on pending"
 unfoldable pub endStep : Ledger → Part → Ending → ℕ → Came
 endStep l by ending id =
-    onFound (find idOf id 0 (held l)) (noRow l by id) (λ i.
+    atFound (find idOf id 0 (held l)) (noRow l by id) (λ i.
     pick (mayEnd ending (rowAt l i .state)) (done (freed l i)) (breaks l (isOwn (l .part) by) R6))
 
 -- ---- MAX_SUBSCRIBE_ID
@@ -154,9 +153,9 @@ maximumStep l id =
 -- leaves
 unfoldable pub arrivalStep : Ledger → Arrival → Came
 arrivalStep l a =
-    onFound (find aliasOf (a .alias) 0 (held l)) (same l 18) (λ i.
+    atFound (find aliasOf (a .alias) 0 (held l)) (same l 18) (λ i.
     let at = arriveOf (rowAt l i) (a .place) in
-    record { says = only (at .number); next = changed l i (at .row) })
+    record { says = noRule (at .number); next = changed l i (at .row) })
 
 unfoldable pub smallArrival : Arrival → Bool
 smallArrival a = both (small (a .alias)) (smallPlace (a .place))

@@ -1,6 +1,6 @@
 // What every call looks at first: 14, 5 and 10, in this order.
 ghost use mathlib.Core.Path.{_≡_};
-ghost use Rattle.ledger.specs.Answers.{only, toldGate, gateOf};
+ghost use Rattle.ledger.specs.Answers.{noRule, toldGate, gateOf};
 use crate::Answer;
 use crate::Gate;
 use crate::Ledger;
@@ -9,7 +9,7 @@ use crate::checks::is_ledger;
 
 // Sound is whether the message or the arrival holds no forbidden value.
 pub fn gate(l: Ledger, sound: bool) -> Gate
-    ensures { λ r. ⌜ toldGate r ≡ only (gateOf l sound) ⌝ }
+    ensures { λ r. ⌜ toldGate r ≡ noRule (gateOf l sound) ⌝ }
 {
     if !is_ledger(l) {
         return Gate::Stop(Answer::NotALedger);

@@ -1,12 +1,12 @@
 // Answers and rules in document 01's numbers.
 ghost use mathlib.Core.Path.{_≡_};
-ghost use Rattle.ledger.specs.Answers.{ruleNumber, said};
+ghost use Rattle.ledger.specs.Answers.{ruleNumber, toldAnswer};
 use crate::Answer;
 use crate::Rule;
 
 // Document 01's number of an answer, and the rule that stands behind a 13 (0 behind another).
 pub fn number(answer: Answer) -> u8
-    ensures { λ r. ⌜ r ≡ said answer .number ⌝ }
+    ensures { λ r. ⌜ r ≡ toldAnswer answer .number ⌝ }
 {
     match answer {
         Answer::Forbidden => 5,
@@ -26,7 +26,7 @@ pub fn number(answer: Answer) -> u8
 }
 
 pub fn broken(answer: Answer) -> u8
-    ensures { λ r. ⌜ r ≡ said answer .rule ⌝ }
+    ensures { λ r. ⌜ r ≡ toldAnswer answer .rule ⌝ }
 {
     match answer {
         Answer::Breaks(rule) => rule_number(rule),

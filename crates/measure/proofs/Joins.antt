@@ -4,14 +4,14 @@ use mathlib.Core.Path.{_≡_, refl, sym, ap, _∙_}
 use mathlib.Core.List.{List, [], _∷_, _++_, map, append-assoc, append-nil}
 use lib.Dec.{leb}
 use lib.ListN.{length, length-append}
+use Rattle.common.specs.Choice.{both}
+use Rattle.common.proofs.Tests.{both-true, both-joined}
 use Rattle.integer.specs.Integer.{greatest}
-use Rattle.field.specs.Outcome.{both}
 use Rattle.field.specs.Value.{Value, number, mean, encField, encode}
 use Rattle.field.specs.declared.Piece.{Piece}
 use Rattle.field.specs.declared.Piece.the-variants.{Number}
 use Rattle.measure.specs.Judging.{right, sized, joined, measureOf}
 use Rattle.measure.specs.Measuring.{rightAll, sizedAll, encodeAll, measureAll}
-use Rattle.measure.proofs.Tests.{both-true, both-joined}
 use Rattle.measure.proofs.Judges.{judged-joined}
 
 module _ (s : List ℕ) where

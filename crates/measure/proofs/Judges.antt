@@ -4,8 +4,8 @@ use mathlib.Core.Path.{_≡_, refl}
 use mathlib.Core.Bool.{Bool, true, false}
 use native.Mathlib.Omega.{arith}
 use borrow.Author.Tests.{le-leb, lt-leb}
-use Rattle.integer.proofs.Cases.{pick-le}
-use Rattle.field.specs.Outcome.{both}
+use Rattle.common.proofs.Cases.{pick-le}
+use Rattle.common.specs.Choice.{both}
 use Rattle.measure.specs.Judging.{fit, judged, joined}
 use Rattle.measure.specs.declared.Measured.{Measured}
 use Rattle.measure.specs.declared.Measured.the-variants.{Takes, TooLong, Oversize, Forbidden}

@@ -1,11 +1,10 @@
-pub mod Tests
 pub mod Sizes
 pub mod Judges
 pub mod Spans
 pub mod Runs
 pub mod Lists
 pub mod Pieces
-pub mod Once
+pub mod OneAnswer
 pub mod Numbers
 pub mod Placed
 pub mod Rows

@@ -7,9 +7,11 @@ use native.Mathlib.Omega.{arith}
 use borrow.Author.Tests.{le-leb, lt-leb, eq-eqb, ne-eqb, leb-true}
 use lib.Dec.{leb}
 use lib.ListN.{length, length-append}
+use Rattle.common.specs.Choice.{both}
+use Rattle.common.proofs.Tests.{both-first, both-second}
 use Rattle.integer.specs.Integer.{sizeOf, greatest, encOf}
 use Rattle.integer.proofs.Laws.{length-enc}
-use Rattle.field.specs.Outcome.{Outcome, whole, no, andThen, both}
+use Rattle.field.specs.Outcome.{Outcome, whole, no, andThen}
 use Rattle.field.specs.Entries.{entriesAt, few}
 use Rattle.field.specs.Value.{itemsOf, contents, total, encItems, encList, walkOf}
 use Rattle.field.specs.Told.{toldWalk}
@@ -23,7 +25,6 @@ use Rattle.field.proofs.Found.{steps}
 use Rattle.layout.specs.Permitted.{within}
 use Rattle.measure.specs.Judging.{endsAt, rightList, sizedList, fit, measureList}
 use Rattle.measure.specs.declared.Measured.the-variants.{Oversize, Forbidden}
-use Rattle.measure.proofs.Tests.{both-first, both-second}
 use Rattle.measure.proofs.Judges.{judged-forbidden, judged-oversize, judged-fit}
 use Rattle.measure.proofs.Runs.{Run, items-length, items-held}
 

@@ -6,6 +6,7 @@ use mathlib.Core.List.{List, []}
 use native.Mathlib.Omega.{arith}
 use borrow.Author.Tests.{le-leb, lt-leb}
 use lib.ListN.{length-append}
+use Rattle.common.proofs.Tests.{both-true, both-false}
 use Rattle.integer.specs.Integer.{sizeOf, greatest}
 use Rattle.integer.proofs.Laws.{length-enc}
 use Rattle.field.specs.Entries.{size}
@@ -19,7 +20,6 @@ use Rattle.field.specs.declared.Piece.{Piece}
 use Rattle.field.specs.declared.Piece.the-variants.{Number, Byte, Bytes, List as Listing, Track as Tracked}
 use Rattle.measure.specs.Judging.{right, sized, fit, joined, measureSpan, measureList, measureOf}
 use Rattle.measure.specs.declared.Measured.the-variants.{Forbidden}
-use Rattle.measure.proofs.Tests.{both-true, both-false}
 use Rattle.measure.proofs.Judges.{judged-forbidden, judged-fit, judged-joined}
 use Rattle.measure.proofs.Spans.{backward-wrong}
 

@@ -8,7 +8,7 @@ use borrow.Author.Tests.{ltb-true, ltb-false}
 use lib.Dec.{ltb}
 use lib.ListN.{length, getD, take, drop, drop-of-length-le}
 use lib.Seq.{take-all, drop-cons, getD-take, length-take-le}
-use Rattle.integer.proofs.Cases.{pick-by}
+use Rattle.common.proofs.Cases.{pick-by}
 use Rattle.field.specs.declared.Piece.{Piece}
 use Rattle.field.specs.declared.Piece.the-variants.{Number}
 use Rattle.measure.specs.Fields.{slot, fieldsOf, tenOf}

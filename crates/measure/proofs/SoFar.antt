@@ -6,14 +6,14 @@ use mathlib.Core.List.{List, [], _∷_, map}
 use native.Mathlib.Nat.{add-zero}
 use native.Mathlib.Omega.{arith}
 use lib.ListN.{length, length-append}
-use Rattle.field.specs.Outcome.{both}
+use Rattle.common.specs.Choice.{both}
+use Rattle.common.proofs.Tests.{both-true, both-joined}
 use Rattle.field.specs.Value.{mean, encField, encode}
 use Rattle.field.specs.declared.Piece.{Piece}
 use Rattle.measure.specs.Judging.{right, sized, judged, joined, measureOf}
 use Rattle.measure.specs.Measuring.{rightAll, sizedAll, encodeAll, measureAll}
 use Rattle.measure.specs.declared.Measured.{Measured}
 use Rattle.measure.specs.declared.Measured.the-variants.{Takes}
-use Rattle.measure.proofs.Tests.{both-true, both-joined}
 use Rattle.measure.proofs.Judges.{fit-within, judged-joined}
 use Rattle.measure.proofs.Rows.{Row}
 

@@ -7,16 +7,16 @@ use native.Mathlib.Omega.{arith}
 use borrow.Author.Tests.{le-leb, lt-leb, leb-true}
 use lib.Dec.{leb}
 use lib.ListN.{length, length-append}
+use Rattle.common.specs.Choice.{both}
+use Rattle.common.proofs.Tests.{both-first, both-second}
 use Rattle.integer.specs.Integer.{sizeOf, greatest, encOf}
 use Rattle.integer.proofs.Laws.{length-enc}
-use Rattle.field.specs.Outcome.{both}
 use Rattle.field.specs.Entries.{size}
 use Rattle.field.specs.Value.{part, encText}
 use Rattle.field.specs.declared.Span.{Span}
 use Rattle.field.proofs.Lengths.{length-part}
 use Rattle.measure.specs.Judging.{rightSpan, fit, measureSpan}
 use Rattle.measure.specs.declared.Measured.the-variants.{Forbidden}
-use Rattle.measure.proofs.Tests.{both-first, both-second}
 use Rattle.measure.proofs.Judges.{judged-forbidden, judged-fit}
 
 -- ---- a right part, by its parts

@@ -3,11 +3,11 @@ use Prim.Native.Nat.{ℕ}
 use mathlib.Core.List.{List, [], _∷_, _++_, map}
 use lib.ListN.{length, take}
 use lib.Dec.{ltb}
-use Rattle.integer.specs.Answer.{pick}
+use Rattle.common.specs.Choice.{pick}
+use Rattle.common.specs.Lists.{upTo}
 use Rattle.field.specs.declared.Piece.{Piece}
 use Rattle.field.specs.declared.Piece.the-variants.{Number, Byte, Bytes}
 use Rattle.layout.specs.Typed.{Typed}
-use Rattle.measure.specs.Placing.{upTo}
 use Rattle.measure.specs.declared.Slot.{Slot}
 use Rattle.measure.specs.declared.Fields.{Fields}
 use Rattle.measure.specs.declared.Middle.{Middle}

@@ -4,9 +4,9 @@ use mathlib.Core.List.{List}
 use mathlib.Core.Bool.{Bool, true, false}
 use lib.ListN.{length}
 use lib.Dec.{leb, eqb}
-use Rattle.integer.specs.Answer.{guard, pick}
+use Rattle.common.specs.Choice.{guard, pick, both}
 use Rattle.integer.specs.Integer.{greatest}
-use Rattle.field.specs.Outcome.{Outcome, whole, no, both}
+use Rattle.field.specs.Outcome.{Outcome, whole, no}
 use Rattle.field.specs.Entries.{size, entriesAt, few}
 use Rattle.field.specs.Value.{part, contents, total, mean, encText, encList, encField}
 use Rattle.field.specs.declared.Span.{Span}

@@ -4,8 +4,8 @@ use mathlib.Core.List.{List, [], _∷_, map}
 use mathlib.Core.Bool.{Bool, true}
 use lib.ListN.{length}
 use lib.Dec.{leb}
-use Rattle.integer.specs.Answer.{guard, Answer, whole, refused, Nothing, wrote}
-use Rattle.field.specs.Outcome.{both}
+use Rattle.common.specs.Choice.{guard, both}
+use Rattle.common.specs.Answer.{Answer, whole, refused, Nothing, wrote}
 use Rattle.field.specs.Value.{mean, encField, encode}
 use Rattle.field.specs.declared.Piece.{Piece}
 use Rattle.measure.specs.Judging.{right, sized, judged}
@@ -52,8 +52,8 @@ joinedOf (refused x) (whole b n) room = refused x
 joinedOf (refused x) (refused y) room = refused (min x y)
 
 -- 01's number and values of what is answered
-abbrev pub saying : Measured → Answer Nothing
-saying (Takes n) = wrote n
-saying Forbidden = refused 5
-saying Oversize = refused 6
-saying TooLong = refused 7
+abbrev pub toldMeasured : Measured → Answer Nothing
+toldMeasured (Takes n) = wrote n
+toldMeasured Forbidden = refused 5
+toldMeasured Oversize = refused 6
+toldMeasured TooLong = refused 7

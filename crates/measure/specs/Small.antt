@@ -3,8 +3,8 @@
 use mathlib.Core.Bool.{Bool, true}
 use mathlib.Core.List.{List, [], _∷_}
 use lib.Dec.{leb}
+use Rattle.common.specs.Choice.{both}
 use Rattle.integer.specs.Integer.{greatest}
-use Rattle.field.specs.Outcome.{both}
 use Rattle.field.specs.Entries.{size}
 use Rattle.field.specs.declared.Span.{Span}
 use Rattle.field.specs.declared.Entries.{Entries}

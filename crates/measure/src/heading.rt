@@ -3,7 +3,7 @@ ghost use mathlib.Core.Path.{_≡_};
 ghost use mathlib.Core.List.{[], map};
 ghost use Rattle.field.specs.declared.Piece.the-variants.{Number};
 ghost use Rattle.measure.specs.Fields.{middlePieces};
-ghost use Rattle.measure.specs.Measuring.{measuredAll, saying};
+ghost use Rattle.measure.specs.Measuring.{measuredAll, toldMeasured};
 use crate::Measured;
 use crate::Middle;
 use crate::judging::add;
@@ -13,7 +13,7 @@ use crate::judging::measure_span;
 
 // How many bytes numbers take, which may be room at most. They point into no bytes.
 pub fn measure_numbers(ns: &[u64], room: usize) -> Measured
-    ensures { λ r. ⌜ saying r ≡ measuredAll [] (map Number (now (ns .entry))) room ⌝ }
+    ensures { λ r. ⌜ toldMeasured r ≡ measuredAll [] (map Number (now (ns .entry))) room ⌝ }
 {
     let mut found = Measured::Takes(0);
     let mut i: usize = 0;
@@ -26,7 +26,7 @@ pub fn measure_numbers(ns: &[u64], room: usize) -> Measured
 
 // How many bytes what stands between them takes.
 pub fn measure_middle(bytes: &[u8], m: Middle, room: usize) -> Measured
-    ensures { λ r. ⌜ saying r ≡ measuredAll (now (bytes .entry)) (middlePieces m) room ⌝ }
+    ensures { λ r. ⌜ toldMeasured r ≡ measuredAll (now (bytes .entry)) (middlePieces m) room ⌝ }
 {
     match m {
         Middle::Nothing => Measured::Takes(0),

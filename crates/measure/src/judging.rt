@@ -5,7 +5,7 @@ ghost use Prim.Native.Nat.{_+_};
 ghost use Rattle.field.specs.declared.Piece.the-variants.{Number};
 ghost use Rattle.layout.specs.Permitted.{within};
 ghost use Rattle.measure.specs.Judging.{fit, measureSpan, measureList, measureOf};
-ghost use Rattle.measure.specs.Measuring.{measuredOf, joinedOf, saying};
+ghost use Rattle.measure.specs.Measuring.{measuredOf, joinedOf, toldMeasured};
 use crate::Measured;
 use field::Entries;
 use field::Kind;
@@ -28,7 +28,7 @@ pub fn add(a: usize, b: usize, room: usize) -> Measured
 
 // Two judgements as one.
 pub fn join(a: Measured, b: Measured, room: usize) -> Measured
-    ensures { λ r. ⌜ saying r ≡ joinedOf (saying a) (saying b) room ⌝ }
+    ensures { λ r. ⌜ toldMeasured r ≡ joinedOf (toldMeasured a) (toldMeasured b) room ⌝ }
 {
     match a {
         Measured::Forbidden => Measured::Forbidden,
@@ -131,7 +131,7 @@ fn measure_list(bytes: &[u8], kind: Kind, l: Entries, also: usize, room: usize) 
 
 // How many bytes the shortest form of a field takes, which may be room at most. bytes is what its parts point into.
 pub fn measure(bytes: &[u8], p: Piece, room: usize) -> Measured
-    ensures { λ r. ⌜ saying r ≡ measuredOf (now (bytes .entry)) p room ⌝ }
+    ensures { λ r. ⌜ toldMeasured r ≡ measuredOf (now (bytes .entry)) p room ⌝ }
 {
     match p {
         Piece::Number(n) => measure_number(n, room),

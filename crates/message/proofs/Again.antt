@@ -8,21 +8,21 @@ use native.Mathlib.Omega.{arith}
 use lib.ListN.{length}
 use lib.Dec.{leb}
 use borrow.Author.Tests.{le-leb}
-use Rattle.integer.specs.Answer.{whole as answered, refused, wrote}
+use Rattle.common.specs.Answer.{whole as answered, refused, wrote}
+use Rattle.common.specs.Choice.{both}
 use Rattle.integer.specs.Integer.{greatest}
-use Rattle.field.specs.Outcome.{both}
 use Rattle.field.proofs.Found.{number-at}
 use Rattle.layout.proofs.Allowed.{read-allowed}
 use Rattle.layout.proofs.Scanned.{scanned}
 use Rattle.layout.proofs.Shortest.{scanned-shortest}
 use Rattle.measure.specs.Measuring.{rightAll, sizedAll, encodeAll}
-use Rattle.shortest.proofs.Again.{scanned-right}
-use Rattle.shortest.proofs.Longer.{longer-found}
-use Rattle.shortest.proofs.Passed.{Passes}
-use Rattle.shortest.proofs.Passed as passed
+use Rattle.encode.proofs.Again.{scanned-right}
+use Rattle.encode.proofs.Longer.{longer-found}
+use Rattle.encode.proofs.Passed.{Passes}
+use Rattle.encode.proofs.Passed as passed
 use Rattle.types.specs.Table.{layoutOf}
-use Rattle.message.specs.Types.{saidOf}
-use Rattle.message.specs.Reading.{longest, readOf}
+use Rattle.message.specs.Types.{typedOf}
+use Rattle.message.specs.Reading.{longestBody, readOf}
 use Rattle.message.specs.Writing.{allowedOf, writeUpTo, writeOf}
 use Rattle.message.specs.declared.Message.{Message}
 use Rattle.message.proofs.Front.{parts}
@@ -32,13 +32,13 @@ use Rattle.message.proofs.Only.{read-least}
 -- ---- what was read
 
 -- a message that was read passes every check of the writer, and is written in as many bytes as it was read from at most
-passes : (s : List ℕ) (m : Message) {used : ℕ} → readOf s ≡ answered (saidOf m) used → Passes (both (allowedOf m) (both (leb (saidOf m .type) greatest) (rightAll s (saidOf m .pieces)))) (sizedAll s (saidOf m .pieces)) (leb (length (encodeAll s (saidOf m .pieces))) longest) (framed s (saidOf m)) used
+passes : (s : List ℕ) (m : Message) {used : ℕ} → readOf s ≡ answered (typedOf m) used → Passes (both (allowedOf m) (both (leb (typedOf m .type) greatest) (rightAll s (typedOf m .pieces)))) (sizedAll s (typedOf m .pieces)) (leb (length (encodeAll s (typedOf m .pieces))) longestBody) (framed s (typedOf m)) used
 unfolding allowedOf encodeAll
 passes s m {used} h =
-    let type = saidOf m .type in
-    let ps = saidOf m .pieces in
+    let type = typedOf m .type in
+    let ps = typedOf m .pieces in
     let body = encodeAll s ps in
-    let w = parts longest s h in
+    let w = parts longestBody s h in
     let t = number-at s 0 (w .head .type-at) in
     let found = longer-found (layoutOf type) s used (w .at) (w .body) in
     let best = scanned-shortest (scanned (layoutOf type) s (w .at) found) in
@@ -47,13 +47,13 @@ passes s m {used} h =
     record {
       is-right = rw (read-allowed (layoutOf type) s (w .at) found, le-leb type greatest (t .small)) (judged .0);
       is-sized = judged .1;
-      is-short = le-leb (length body) longest (omega (arith, w .short));
+      is-short = le-leb (length body) longestBody (omega (arith, w .short));
       fits = rw zero-add at (read-least s h .fits);
     }
 
 -- ---- what is then written
 
-module _ (s : List ℕ) (m : Message) (before : List ℕ) {used : ℕ} (read : readOf s ≡ answered (saidOf m) used) where
+module _ (s : List ℕ) (m : Message) (before : List ℕ) {used : ℕ} (read : readOf s ≡ answered (typedOf m) used) where
   -- A message that was read takes, when it is written, no more bytes than it was read from;
   pub no-more : {n : ℕ} → writeOf s m before .says ≡ wrote n → n ≤ used
   unfolding writeUpTo

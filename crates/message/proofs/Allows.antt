@@ -4,12 +4,12 @@ use mathlib.Core.Path.{_≡_, refl}
 use mathlib.Core.Bool.{Bool, true}
 use Rattle.layout.specs.Layout.{failure, parameters}
 use Rattle.layout.specs.Allowed.{allowed}
-use Rattle.subscription.specs.Kinds.{rowOf as subscriptionRow, layoutOf as subscriptionLayout, kindOf as subscriptionKind}
-use Rattle.subscription.specs.Told.{saidOf as subscriptionSaid}
+use Rattle.subscription.specs.Kinds.{typeRow as subscriptionRow, layoutOf as subscriptionLayout, kindOf as subscriptionKind}
+use Rattle.subscription.specs.Told.{typedOf as subscriptionSaid}
 use Rattle.subscription.specs.declared.SubscriptionMessage.{SubscriptionMessage}
 use Rattle.subscription.specs.declared.SubscriptionMessage.the-variants.{SubscribeUpdate, Subscribe, SubscribeOk, SubscribeError, Unsubscribe, SubscribeDone, MaxSubscribeId, SubscribesBlocked}
-use Rattle.fetch.specs.Kinds.{rowOf as fetchRow, layoutOf as fetchLayout, kindOf as fetchKind}
-use Rattle.fetch.specs.Told.{saidOf as fetchSaid}
+use Rattle.fetch.specs.Kinds.{typeRow as fetchRow, layoutOf as fetchLayout, kindOf as fetchKind}
+use Rattle.fetch.specs.Told.{typedOf as fetchSaid}
 use Rattle.fetch.specs.declared.FetchMessage.{FetchMessage}
 use Rattle.fetch.specs.declared.FetchMessage.the-variants.{Fetch as AFetch, FetchOk, FetchError, FetchCancel, TrackStatusRequest, TrackStatus}
 use Rattle.types.specs.Announces.{named}
@@ -21,7 +21,7 @@ use Rattle.announce.specs.declared.kinds.AnnounceKind.the-variants.{Named as Ki
 use Rattle.types.specs.Sessions.{clientSetup, serverSetup, goAway}
 use Rattle.session.specs.declared.SessionMessage.{SessionMessage}
 use Rattle.session.specs.declared.SessionMessage.the-variants.{ClientSetup, ServerSetup, GoAway}
-use Rattle.types.specs.Table.{messages, rowIn, rowOf, layoutOf}
+use Rattle.types.specs.Table.{messages, typeRowIn, typeRowOf, layoutOf}
 use Rattle.message.specs.Types.{numberOf}
 use Rattle.message.specs.Writing.{allowedOf}
 use Rattle.message.specs.declared.Message.{Message}
@@ -30,7 +30,7 @@ use Rattle.message.proofs.Layouts.{layout-announce}
 
 -- the layout of a message's type is that of its kind: of subscriptions,
 subscription-kind : (m : SubscriptionMessage) → layoutOf (subscriptionSaid m .type) ≡ subscriptionLayout (subscriptionKind m)
-unfolding layoutOf rowOf rowIn messages subscriptionRow
+unfolding layoutOf typeRowOf typeRowIn messages subscriptionRow
 subscription-kind (SubscribeUpdate m) = refl
 subscription-kind (Subscribe m) = refl
 subscription-kind (SubscribeOk m) = refl
@@ -42,7 +42,7 @@ subscription-kind (SubscribesBlocked id) = refl
 
 -- and of fetches
 fetch-kind : (m : FetchMessage) → layoutOf (fetchSaid m .type) ≡ fetchLayout (fetchKind m)
-unfolding layoutOf rowOf rowIn messages fetchRow
+unfolding layoutOf typeRowOf typeRowIn messages fetchRow
 fetch-kind (AFetch m) = refl
 fetch-kind (FetchOk m) = refl
 fetch-kind (FetchError m) = refl
@@ -72,7 +72,7 @@ is-announce {x = x} e = rw e (announce-any x)
 
 -- or of a session
 session-any : (x : SessionMessage) → true ≡ allowedOf (Session x)
-unfolding allowedOf allowed layoutOf rowOf rowIn messages parameters clientSetup serverSetup goAway
+unfolding allowedOf allowed layoutOf typeRowOf typeRowIn messages parameters clientSetup serverSetup goAway
 session-any (ClientSetup m) = refl
 session-any (ServerSetup m) = refl
 session-any (GoAway uri) = refl

@@ -7,8 +7,8 @@ use mathlib.Core.Bool.{true, false}
 use native.Mathlib.Omega.{arith}
 use lib.ListN.{length, take}
 use lib.Seq.{length-take-le}
-use Rattle.integer.specs.Answer.{Answer, whole as answered, refused}
-use Rattle.integer.proofs.Cases.{pick-by}
+use Rattle.common.specs.Answer.{Answer, whole as answered, refused}
+use Rattle.common.proofs.Cases.{pick-by}
 use Rattle.field.specs.Outcome.{Outcome, whole, no}
 use Rattle.field.specs.Entries.{numberAt}
 use Rattle.field.specs.Fields.{integer, fieldAt}
@@ -22,7 +22,7 @@ use Rattle.layout.specs.Layout.{scan}
 use Rattle.layout.specs.Typed.{Typed, typed}
 use Rattle.types.specs.Table.{known, layoutOf}
 use Rattle.message.specs.Types.{numberOf, typeOf, toldType}
-use Rattle.message.specs.Reading.{longest, filledBy, readOf}
+use Rattle.message.specs.Reading.{longestBody, filledBy, readOf}
 use Rattle.message.specs.declared.Kind.{Kind}
 use Rattle.message.specs.declared.Found.{Found}
 use Rattle.message.specs.declared.Found.the-variants.{Known, Unknown}
@@ -94,13 +94,13 @@ module _ (s : List ℕ) {r : NumberRead} {n next : ℕ} (read : r ≡ WholeNumbe
           record { next = next; type-at = number-is s 0 said read; is-known = of-kind which .0; length-at = number-is s next measured long }
 
       -- and it is too great,
-      pub reads-too-long : longest < size → refused 3 ≡ readOf s
+      pub reads-too-long : longestBody < size → refused 3 ≡ readOf s
       reads-too-long great = answer-is (stopped (too-long head great))
 
       -- or not all of the body is there,
-      pub reads-short : size ≤ longest → length s - at < size → refused 1 ≡ readOf s
+      pub reads-short : size ≤ longestBody → length s - at < size → refused 1 ≡ readOf s
       reads-short short room = answer-is (stopped (missing head short room))
 
       -- or all of it is, and its fields decide
-      pub reads-body : {o : Outcome Typed} {a : Answer Typed} → size ≤ longest → size ≤ length s - at → o ≡ typed (numberOf k) (scan (layoutOf (numberOf k)) (take (at + size) s) at) → a ≡ filledBy (at + size) o → a ≡ readOf s
+      pub reads-body : {o : Outcome Typed} {a : Answer Typed} → size ≤ longestBody → size ≤ length s - at → o ≡ typed (numberOf k) (scan (layoutOf (numberOf k)) (take (at + size) s) at) → a ≡ filledBy (at + size) o → a ≡ readOf s
       reads-body short room h e = e ∙ rw (h, of-kind which .1) (answer-is (present head short room refl))

@@ -5,7 +5,7 @@ use mathlib.Core.Path.{_≡_, refl, sym, _∙_}
 use mathlib.Core.List.{List, _++_}
 use native.Mathlib.Omega.{arith}
 use lib.ListN.{length, getD, drop, replicate, length-append, length-drop, length-replicate}
-use Rattle.integer.specs.Answer.{Answer, whole as answered, refused}
+use Rattle.common.specs.Answer.{Answer, whole as answered, refused}
 use Rattle.integer.specs.Integer.{readOf as integerOf}
 use Rattle.integer.proofs.Front.{cut-is}
 use Rattle.integer.proofs.Widths.{wide-form}

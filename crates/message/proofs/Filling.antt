@@ -2,10 +2,10 @@
 use Prim.Native.Nat.{ℕ}
 use mathlib.Core.Path.{_≡_}
 use borrow.Author.Tests.{eq-eqb, ne-eqb}
-use Rattle.integer.specs.Answer.{whole as answered, refused}
+use Rattle.common.specs.Answer.{whole as answered, refused}
 use Rattle.field.specs.declared.Fault.{Fault}
 use Rattle.field.specs.declared.Fault.the-variants.{Cut, Forbidden, Oversize}
-use Rattle.message.specs.Types.{saidOf}
+use Rattle.message.specs.Types.{typedOf}
 use Rattle.message.specs.Reading.{filledBy, toldBody}
 use Rattle.message.specs.declared.Message.{Message}
 use Rattle.message.specs.declared.BodyRead.{BodyRead}
@@ -13,7 +13,7 @@ use Rattle.message.specs.declared.BodyRead.the-variants.{Whole as WholeB
 
 module _ (end : ℕ) {body : BodyRead} where
   -- they end where the body does,
-  pub filling-whole : {m : Message} {last : ℕ} → body ≡ WholeBody m last → last ≡ end → answered (saidOf m) end ≡ filledBy end (toldBody body)
+  pub filling-whole : {m : Message} {last : ℕ} → body ≡ WholeBody m last → last ≡ end → answered (typedOf m) end ≡ filledBy end (toldBody body)
   filling-whole {last = last} e h = rw (e, eq-eqb last end h)
 
   -- or elsewhere,

@@ -8,8 +8,8 @@ use native.Mathlib.Omega.{arith}
 use lib.ListN.{length, take}
 use lib.Dec.{eqb}
 use borrow.Author.Tests.{le-leb, lt-leb, eq-eqb, eqb-true}
-use Rattle.integer.specs.Answer.{Answer, whole as answered, refused}
-use Rattle.integer.proofs.Cases.{pick-by, pick-le, apart}
+use Rattle.common.specs.Answer.{Answer, whole as answered, refused}
+use Rattle.common.proofs.Cases.{pick-by, pick-le, apart}
 use Rattle.field.specs.Outcome.{Outcome, whole, no}
 use Rattle.field.specs.Entries.{numberAt}
 use Rattle.field.specs.Value.{onFound}

@@ -3,7 +3,7 @@ use Prim.Native.Nat.{ℕ, zero, suc}
 use mathlib.Core.Path.{_≡_, refl, ap, _∙_}
 use mathlib.Core.Bool.{false}
 use mathlib.Core.List.{List, [], _∷_}
-use Rattle.integer.specs.Answer.{whole, refused}
+use Rattle.common.specs.Answer.{whole, refused}
 use Rattle.types.specs.Table.{messages, known}
 use Rattle.types.proofs.Gaps.{the-short-gap, Missed, unknown-missed}
 use Rattle.message.specs.Types.{numberOf, typeOf}

@@ -4,22 +4,22 @@ use mathlib.Core.Path.{_≡_, refl, sym, ap, _∙_}
 use mathlib.Core.Bool.{true, false}
 use native.Mathlib.Omega.{arith}
 use Rattle.types.proofs.Gaps.{below-the-first}
-use Rattle.subscription.specs.Kinds.{rowOf as subscriptionRow, layoutOf as subscriptionLayout}
+use Rattle.subscription.specs.Kinds.{typeRow as subscriptionRow, layoutOf as subscriptionLayout}
 use Rattle.subscription.specs.declared.kinds.SubscriptionKind.{SubscriptionKind}
 use Rattle.subscription.specs.declared.kinds.SubscriptionKind.the-variants.{SubscribeUpdate, Subscribe, SubscribeOk, SubscribeError, Unsubscribe, SubscribeDone, MaxSubscribeId, SubscribesBlocked}
-use Rattle.fetch.specs.Kinds.{rowOf as fetchRow, layoutOf as fetchLayout}
+use Rattle.fetch.specs.Kinds.{typeRow as fetchRow, layoutOf as fetchLayout}
 use Rattle.fetch.specs.declared.kinds.FetchKind.{FetchKind}
 use Rattle.fetch.specs.declared.kinds.FetchKind.the-variants.{Fetch as AFetch, FetchOk, FetchError, FetchCancel, TrackStatusRequest, TrackStatus}
-use Rattle.announce.specs.Kinds.{rowOf as announceRow, layoutOf as announceLayout}
+use Rattle.announce.specs.Kinds.{typeRow as announceRow, layoutOf as announceLayout}
 use Rattle.announce.specs.declared.kinds.AnnounceKind.{AnnounceKind}
 use Rattle.announce.specs.declared.kinds.AnnounceKind.the-variants.{Named, Asked, Refused}
 use Rattle.announce.specs.declared.kinds.Naming.the-variants.{AnnounceOk, Unannounce, SubscribeAnnouncesOk, UnsubscribeAnnounces}
 use Rattle.announce.specs.declared.kinds.Asking.the-variants.{Announce as AnAnnounce, SubscribeAnnounces}
 use Rattle.announce.specs.declared.kinds.Refusing.the-variants.{AnnounceError, AnnounceCancel, SubscribeAnnouncesError}
-use Rattle.session.specs.Kinds.{rowOf as sessionRow, layoutOf as sessionLayout}
+use Rattle.session.specs.Kinds.{typeRow as sessionRow, layoutOf as sessionLayout}
 use Rattle.session.specs.declared.kinds.SessionKind.{SessionKind}
 use Rattle.session.specs.declared.kinds.SessionKind.the-variants.{ClientSetup, ServerSetup, GoAway}
-use Rattle.types.specs.Table.{Row, listed, messages, rowIn, rowOf, known, layoutOf}
+use Rattle.types.specs.Table.{TypeRow, listed, messages, typeRowIn, typeRowOf, known, layoutOf}
 use Rattle.message.specs.Types.{numberOf}
 use Rattle.message.specs.declared.Kind.{Kind}
 use Rattle.message.specs.declared.Kind.the-variants.{Subscription, Fetch, Announce, Session}
@@ -27,21 +27,21 @@ use Rattle.message.specs.declared.Kind.the-variants.{Subscription, Fetch
 -- ---- the families
 
 -- a row is found by its number,
-abbrev Stands : Row → Type 0
-Stands r = rowOf (r .number) ≡ listed r
+abbrev Stands : TypeRow → Type 0
+Stands r = typeRowOf (r .number) ≡ listed r
 
 -- so that is known,
-row-known : (r : Row) → Stands r → known (r .number) ≡ true
+row-known : (r : TypeRow) → Stands r → known (r .number) ≡ true
 unfolding known
 row-known r h = rw h
 
 -- and the layout of its body is the row's
-row-layout : (r : Row) → Stands r → layoutOf (r .number) ≡ r .layout
+row-layout : (r : TypeRow) → Stands r → layoutOf (r .number) ≡ r .layout
 unfolding layoutOf
 row-layout r h = rw h
 
 subscription : (k : SubscriptionKind) → Stands (subscriptionRow k)
-unfolding rowOf rowIn messages subscriptionRow
+unfolding typeRowOf typeRowIn messages subscriptionRow
 subscription SubscribeUpdate = refl
 subscription Subscribe = refl
 subscription SubscribeOk = refl
@@ -52,7 +52,7 @@ subscription MaxSubscribeId = refl
 subscription SubscribesBlocked = refl
 
 fetch : (k : FetchKind) → Stands (fetchRow k)
-unfolding rowOf rowIn messages fetchRow
+unfolding typeRowOf typeRowIn messages fetchRow
 fetch AFetch = refl
 fetch FetchOk = refl
 fetch FetchError = refl
@@ -61,7 +61,7 @@ fetch TrackStatusRequest = refl
 fetch TrackStatus = refl
 
 announce : (k : AnnounceKind) → Stands (announceRow k)
-unfolding rowOf rowIn messages announceRow
+unfolding typeRowOf typeRowIn messages announceRow
 announce (Named AnnounceOk) = refl
 announce (Named Unannounce) = refl
 announce (Named SubscribeAnnouncesOk) = refl
@@ -73,7 +73,7 @@ announce (Refused AnnounceCancel) = refl
 announce (Refused SubscribeAnnouncesError) = refl
 
 session : (k : SessionKind) → Stands (sessionRow k)
-unfolding rowOf rowIn messages sessionRow
+unfolding typeRowOf typeRowIn messages sessionRow
 session ClientSetup = refl
 session ServerSetup = refl
 session GoAway = refl

@@ -13,7 +13,7 @@ pub mod Fields
 pub mod Theorems
 pub mod Naming
 pub mod Places
-pub mod Once
+pub mod OneAnswer
 pub mod Writes
 pub mod Sounding
 pub mod Allows

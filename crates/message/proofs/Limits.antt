@@ -4,7 +4,7 @@ use Prim.Native.Nat.{ℕ, _≤_, _<_}
 use mathlib.Core.Path.{_≡_, sym}
 use mathlib.Core.List.{List}
 use native.Mathlib.Omega.{arith}
-use Rattle.integer.specs.Answer.{Answer}
+use Rattle.common.specs.Answer.{Answer}
 use Rattle.layout.specs.Typed.{Typed}
 use Rattle.message.specs.Reading.{readUpTo}
 use Rattle.message.proofs.Front.{Headed, no-type, unknown, no-length, too-long, missing, Judged, stopped, present, judged, answer-is}

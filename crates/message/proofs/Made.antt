@@ -1,9 +1,10 @@
 -- The message that a type and fields say, and the answer that says so.
 use Prim.Native.Nat.{ℕ}
 use lib.Dec.{eqb}
-use Rattle.integer.specs.Answer.{pick, Answer, whole as answered, refused}
+use Rattle.common.specs.Choice.{pick}
+use Rattle.common.specs.Answer.{Answer, whole as answered, refused}
 use Rattle.layout.specs.Typed.{Typed}
-use Rattle.types.specs.Table.{Family, setting, subscribing, retrieving, announcing, onListed, rowOf}
+use Rattle.types.specs.Table.{Family, setting, subscribing, retrieving, announcing, onListed, typeRowOf}
 use Rattle.subscription.proofs.Made.{messageOf as subscriptionOf}
 use Rattle.fetch.proofs.Made.{messageOf as fetchOf}
 use Rattle.announce.proofs.Made.{messageOf as announceOf}
@@ -15,7 +16,7 @@ use Rattle.message.specs.declared.Reading.the-variants.{Whole, More, Unk
 
 -- the family whose a type is; of a number that is no type, any
 unfoldable pub familyOf : ℕ → Family
-familyOf type = onListed (rowOf type) (λ r. r .family) setting
+familyOf type = onListed (typeRowOf type) (λ r. r .family) setting
 
 -- the message of a type, made by its family
 abbrev pub messageBy : Family → Typed → Message

@@ -7,24 +7,24 @@ use native.Mathlib.Omega.{arith}
 use lib.ListN.{length}
 use lib.Dec.{lit≤}
 use borrow.Author.Tests.{le-leb, lt-leb}
-use Rattle.integer.specs.Answer.{whole as answered}
+use Rattle.common.specs.Answer.{whole as answered}
 use Rattle.field.specs.Value.{nowhere}
 use Rattle.field.specs.declared.Span.{Span}
 use Rattle.layout.specs.Inside.{Inside, Lies, Between}
-use Rattle.subscription.specs.Names.{nameOf as subscriptionName}
-use Rattle.subscription.specs.Told.{saidOf as subscriptionSaid}
+use Rattle.subscription.specs.Names.{nameSpan as subscriptionName}
+use Rattle.subscription.specs.Told.{typedOf as subscriptionSaid}
 use Rattle.subscription.specs.declared.SubscriptionMessage.{SubscriptionMessage}
 use Rattle.subscription.specs.declared.SubscriptionMessage.the-variants.{SubscribeUpdate, Subscribe, SubscribeOk, SubscribeError, Unsubscribe, SubscribeDone, MaxSubscribeId, SubscribesBlocked}
-use Rattle.fetch.specs.Names.{nameOf as fetchName, rangeName}
-use Rattle.fetch.specs.Told.{saidOf as fetchSaid, fetchPieces}
+use Rattle.fetch.specs.Names.{nameSpan as fetchName, rangeName}
+use Rattle.fetch.specs.Told.{typedOf as fetchSaid, fetchPieces}
 use Rattle.fetch.specs.declared.Fetch.{Fetch as AFetch}
 use Rattle.fetch.specs.declared.Range.{Range}
 use Rattle.fetch.specs.declared.Range.the-variants.{Standalone, Joining}
 use Rattle.fetch.specs.declared.FetchMessage.{FetchMessage}
 use Rattle.fetch.specs.declared.FetchMessage.the-variants.{Fetch, FetchOk, FetchError, FetchCancel, TrackStatusRequest, TrackStatus}
-use Rattle.message.specs.Types.{saidOf}
-use Rattle.message.specs.Reading.{longest, readOf}
-use Rattle.message.specs.Names.{nameOf, namedSpan}
+use Rattle.message.specs.Types.{typedOf}
+use Rattle.message.specs.Reading.{longestBody, readOf}
+use Rattle.message.specs.Names.{nameSpan, namedSpan}
 use Rattle.message.specs.declared.Message.{Message}
 use Rattle.message.specs.declared.Message.the-variants.{Subscription, Fetch as FetchM, Announce, Session}
 use Rattle.message.proofs.Front.{parts}
@@ -32,7 +32,7 @@ use Rattle.message.proofs.Fields.{inside, used-there}
 
 -- ---- what is handed back, by where a name stands
 
-module _ (s : List ℕ) (m : Message) {p : Span} (e : p ≡ nameOf m) where
+module _ (s : List ℕ) (m : Message) {p : Span} (e : p ≡ nameSpan m) where
   -- its end before its start: the part with nothing in it;
   pub named-backward : p .end < p .start → namedSpan s m ≡ nowhere
   unfolding namedSpan
@@ -92,7 +92,7 @@ module _ (low high : ℕ) where
   fetch-by (TrackStatus m) h = track-by (h .0 .1)
 
   -- of any
-  name-by : (m : Message) → Inside low high (saidOf m .pieces) → By high (nameOf m)
+  name-by : (m : Message) → Inside low high (typedOf m .pieces) → By high (nameSpan m)
   name-by (Subscription m) h = subscription-by m h
   name-by (FetchM m) h = fetch-by m h
   name-by (Announce m) h = nowhere-by high
@@ -102,12 +102,12 @@ module _ (low high : ℕ) where
 
 module _ (s : List ℕ) (m : Message) {used : ℕ} where
   -- its name stands within the bytes that it took,
-  pub name-there : readOf s ≡ answered (saidOf m) used → By used (nameOf m)
-  name-there h = let w = parts longest s h in name-by (w .at) used m (inside s (w .head .type-at) (w .head .length-at) w)
+  pub name-there : readOf s ≡ answered (typedOf m) used → By used (nameSpan m)
+  name-there h = let w = parts longestBody s h in name-by (w .at) used m (inside s (w .head .type-at) (w .head .length-at) w)
 
   -- so it is that part of the bytes which is handed back
-  pub name-is : readOf s ≡ answered (saidOf m) used → namedSpan s m ≡ nameOf m
+  pub name-is : readOf s ≡ answered (typedOf m) used → namedSpan s m ≡ nameSpan m
   name-is h =
       let by = name-there h in
-      let there = used-there s (parts longest s h) .1 in
+      let there = used-there s (parts longestBody s h) .1 in
       named-within s m refl (by .0) (omega arith)

@@ -4,8 +4,8 @@ use mathlib.Core.Path.{_≡_}
 use mathlib.Core.List.{List}
 use native.Mathlib.Omega.{arith}
 use lib.Dec.{lit≤, eqb}
-use Rattle.integer.specs.Answer.{Answer, refused}
-use Rattle.integer.proofs.Cases.{pick-by}
+use Rattle.common.specs.Answer.{Answer, refused}
+use Rattle.common.proofs.Cases.{pick-by}
 use Rattle.field.specs.Outcome.{Outcome, whole, no}
 use Rattle.field.specs.declared.Fault.the-variants.{Cut, Forbidden, Oversize}
 use Rattle.layout.specs.Typed.{Typed, typed}

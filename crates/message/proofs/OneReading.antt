@@ -6,52 +6,52 @@ use mathlib.Core.List.{List, [], _∷_}
 use native.Mathlib.Omega.{arith}
 use borrow.Author.Tests.{eqb-true}
 use lib.Dec.{eqb}
-use Rattle.integer.specs.Answer.{Answer, whole as answered, refused}
-use Rattle.integer.proofs.Cases.{pick-by}
+use Rattle.common.specs.Answer.{Answer, whole as answered, refused}
+use Rattle.common.proofs.Cases.{pick-by}
 use Rattle.field.specs.Outcome.{Outcome, whole, no}
 use Rattle.field.specs.declared.Fault.the-variants.{Cut, Forbidden, Oversize}
 use Rattle.field.specs.declared.Piece.{Piece}
 use Rattle.layout.specs.Layout.{forbidden, scan}
 use Rattle.layout.specs.Typed.{Typed, typed}
 use Rattle.layout.proofs.Every.{Every, every-read}
-use Rattle.types.specs.Table.{Row, ofRow, messages, Listed, listed, unlisted, onListed, rowIn, rowOf, layoutOf}
-use Rattle.subscription.specs.Kinds.{rowOf as subscriptionRow}
+use Rattle.types.specs.Table.{TypeRow, typedAs, messages, InTable, listed, unlisted, onListed, typeRowIn, typeRowOf, layoutOf}
+use Rattle.subscription.specs.Kinds.{typeRow as subscriptionRow}
 use Rattle.subscription.proofs.Made.{made-says as subscription-says}
 use Rattle.subscription.specs.declared.kinds.SubscriptionKind.the-variants as subscription
-use Rattle.fetch.specs.Kinds.{rowOf as fetchRow}
+use Rattle.fetch.specs.Kinds.{typeRow as fetchRow}
 use Rattle.fetch.proofs.Made.{made-says as fetch-says}
 use Rattle.fetch.specs.declared.kinds.FetchKind.the-variants as fetch
-use Rattle.announce.specs.Kinds.{rowOf as announceRow}
+use Rattle.announce.specs.Kinds.{typeRow as announceRow}
 use Rattle.announce.proofs.Made.{made-says as announce-says}
 use Rattle.announce.specs.declared.kinds.AnnounceKind.the-variants.{Named, Asked, Refused}
 use Rattle.announce.specs.declared.kinds.Naming.the-variants as naming
 use Rattle.announce.specs.declared.kinds.Asking.the-variants as asking
 use Rattle.announce.specs.declared.kinds.Refusing.the-variants as refusing
-use Rattle.session.specs.Kinds.{rowOf as sessionRow}
+use Rattle.session.specs.Kinds.{typeRow as sessionRow}
 use Rattle.session.proofs.Made.{made-says as session-says}
 use Rattle.session.specs.declared.kinds.SessionKind.the-variants as session
-use Rattle.message.specs.Types.{saidOf}
-use Rattle.message.specs.Reading.{longest, filledBy, readOf, told}
+use Rattle.message.specs.Types.{typedOf}
+use Rattle.message.specs.Reading.{longestBody, filledBy, readOf, told}
 use Rattle.message.specs.declared.Reading.{Reading}
 use Rattle.message.proofs.Made.{familyOf, messageOf, refusalOf, answerOf}
 use Rattle.message.proofs.Front.{Stops, no-type, unknown, no-length, too-long, missing, Judged, stopped, present, judged}
-use Rattle.message.proofs.Once.{answer-back}
+use Rattle.message.proofs.OneAnswer.{answer-back}
 
 -- ---- a message of any row
 
 -- whatever fields its layout reads, the message that is made of them says them
-abbrev Says : Row → Type 0
-Says r = Every (r .layout) (λ ps. saidOf (messageOf (ofRow r ps)) ≡ ofRow r ps)
+abbrev Says : TypeRow → Type 0
+Says r = Every (r .layout) (λ ps. typedOf (messageOf (typedAs r ps)) ≡ typedAs r ps)
 
 -- something holds of every row of a list
-data All (P : Row → Type 0) : List Row → Type 0 where
+data All (P : TypeRow → Type 0) : List TypeRow → Type 0 where
   no-more : All P []
-  _and_ : {r : Row} {rs : List Row} → P r → All P rs → All P (r ∷ rs)
+  _and_ : {r : TypeRow} {rs : List TypeRow} → P r → All P rs → All P (r ∷ rs)
 
 infixr 5 _and_
 -- this does of every row of the table,
 all-say : All Says messages
-unfolding messages rowIn rowOf familyOf messageOf subscriptionRow fetchRow announceRow sessionRow
+unfolding messages typeRowIn typeRowOf familyOf messageOf subscriptionRow fetchRow announceRow sessionRow
 all-say =
     session-says session.ClientSetup
     and session-says session.ServerSetup
@@ -82,11 +82,11 @@ all-say =
     and no-more
 
 -- and so of the one in which a type stands
-row-is : (P : Row → Type 0) (rows : List Row) (type : ℕ) → All P rows → {r : Row} → rowIn rows type ≡ listed r → (r .number ≡ type) × P r
-unfolding rowIn
+row-is : (P : TypeRow → Type 0) (rows : List TypeRow) (type : ℕ) → All P rows → {r : TypeRow} → typeRowIn rows type ≡ listed r → (r .number ≡ type) × P r
+unfolding typeRowIn
 row-is P [] type no-more {r} h = absurd (let z : _≡_ {A = ℕ} 0 1 = cc in omega arith)
 row-is P (q ∷ qs) type (holds and all) {r} h =
-    pick-by (λ (l : Listed). l ≡ listed r → (r .number ≡ type) × P r) (eqb type (q .number))
+    pick-by (λ (l : InTable). l ≡ listed r → (r .number ≡ type) × P r) (eqb type (q .number))
     (λ e k. let same : r ≡ q = cc in rw same (sym (eqb-true type (q .number) e), holds))
     (λ e k. row-is P qs type all k)
     h
@@ -98,15 +98,15 @@ nothing s at h = let z : _≡_ {A = ℕ} 0 1 = cc in omega arith
 
 -- A message is made again of the fields that were read of it.
 said-back : (type : ℕ) (s : List ℕ) (at : ℕ) {ps : List Piece} {end : ℕ} → scan (layoutOf type) s at ≡ whole ps end
-    → saidOf (messageOf (record { type = type; pieces = ps })) ≡ record { type = type; pieces = ps }
-unfolding layoutOf rowOf
-said-back type s at {ps} {end} = go (rowIn messages type) refl
+    → typedOf (messageOf (record { type = type; pieces = ps })) ≡ record { type = type; pieces = ps }
+unfolding layoutOf typeRowOf
+said-back type s at {ps} {end} = go (typeRowIn messages type) refl
   where
-    go : (l : Listed) → rowIn messages type ≡ l → scan (onListed l (λ r. r .layout) forbidden) s at ≡ whole ps end
-        → saidOf (messageOf (record { type = type; pieces = ps })) ≡ record { type = type; pieces = ps }
+    go : (l : InTable) → typeRowIn messages type ≡ l → scan (onListed l (λ r. r .layout) forbidden) s at ≡ whole ps end
+        → typedOf (messageOf (record { type = type; pieces = ps })) ≡ record { type = type; pieces = ps }
     go (listed r) e h =
         let f = row-is Says messages type all-say e in
-        rw (← f .0) (every-read (λ qs. saidOf (messageOf (ofRow r qs)) ≡ ofRow r qs) (r .layout) s at (f .1) h)
+        rw (← f .0) (every-read (λ qs. typedOf (messageOf (typedAs r qs)) ≡ typedAs r qs) (r .layout) s at (f .1) h)
     go unlisted e h = absurd (nothing s at h)
 
 -- ---- so what is answered is told
@@ -134,9 +134,9 @@ readingOf s = answerOf (readOf s)
 -- it tells what reading answers,
 pub reading-is : (s : List ℕ) → told (readingOf s) ≡ readOf s
 unfolding readingOf answerOf
-reading-is s = go (judged longest s)
+reading-is s = go (judged longestBody s)
   where
-    go : {o : Answer Typed} → Judged longest s o → told (answerOf o) ≡ o
+    go : {o : Answer Typed} → Judged longestBody s o → told (answerOf o) ≡ o
     go (stopped h) = stop-told h
     go (present {type = type} {size = size} {at = at} {fields = fields} h short room e) = body-told (at + size) type _ at fields e
 

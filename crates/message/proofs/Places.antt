@@ -4,7 +4,7 @@ use mathlib.Core.Path.{_≡_, refl, sym, ap, _∙_}
 use mathlib.Core.List.{List, [], _∷_}
 use native.Mathlib.Omega.{arith}
 use denote.Ref.{RefT}
-use Rattle.integer.specs.Answer.{whole as answered}
+use Rattle.common.specs.Answer.{whole as answered}
 use Rattle.integer.specs.Integer.{wide, room, spell, readOf as integerOf}
 use Rattle.field.specs.Entries.{numberAt, textAt, numberedAt, entryAt, mostOf, entriesAt, few, listAt}
 use Rattle.field.specs.Fields.{fieldAt}
@@ -13,8 +13,8 @@ use Rattle.field.specs.declared.Span.{Span}
 use Rattle.layout.specs.Layout.{scan}
 use Rattle.types.specs.Fetches.{trackStatusRequest}
 use Rattle.fetch.specs.declared.FetchMessage.the-variants.{TrackStatusRequest}
-use Rattle.types.specs.Table.{messages, rowIn, rowOf, known, layoutOf}
-use Rattle.message.specs.Types.{saidOf}
+use Rattle.types.specs.Table.{messages, typeRowIn, typeRowOf, known, layoutOf}
+use Rattle.message.specs.Types.{typedOf}
 use Rattle.message.specs.Reading.{bodyUpTo, readUpTo, readOf}
 use Rattle.message.specs.Part.{PartOf}
 use Rattle.message.specs.Names.{namedSpan}
@@ -47,8 +47,8 @@ request = Fetch (TrackStatusRequest (record { namespace = record { start = 3; en
 abbrev pub byteAt : ℕ → Span
 byteAt n = record { start = n; end = n + 1 }
 
-pub alike-reads : readOf alike ≡ answered (saidOf request) 7
-unfolding readUpTo bodyUpTo known layoutOf rowOf rowIn messages trackStatusRequest scan fieldAt listAt few entriesAt mostOf entryAt numberedAt textAt numberAt integerOf wide room spell
+pub alike-reads : readOf alike ≡ answered (typedOf request) 7
+unfolding readUpTo bodyUpTo known layoutOf typeRowOf typeRowIn messages trackStatusRequest scan fieldAt listAt few entriesAt mostOf entryAt numberedAt textAt numberAt integerOf wide room spell
 alike-reads = refl
 
 -- both are the same bytes,

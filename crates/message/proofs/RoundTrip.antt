@@ -8,7 +8,7 @@ use lib.ListN.{length, drop, length-append}
 use lib.Seq.{take-append-seam}
 use lib.Dec.{leb}
 use borrow.Author.Tests.{leb-true}
-use Rattle.integer.specs.Answer.{wrote, whole as answered}
+use Rattle.common.specs.Answer.{wrote, whole as answered}
 use Rattle.integer.specs.Integer.{greatest, encOf}
 use Rattle.field.specs.Outcome.{whole}
 use Rattle.field.specs.Value.{Value, mean, encode}
@@ -22,12 +22,12 @@ use Rattle.layout.proofs.Back.{both-true, scan-back}
 use Rattle.layout.proofs.Scanned.{scanned}
 use Rattle.layout.proofs.Stable.{values-stay}
 use Rattle.measure.specs.Measuring.{rightAll, encodeAll}
-use Rattle.shortest.specs.Writing.{frame}
-use Rattle.shortest.proofs.Good.{all-good}
-use Rattle.shortest.proofs.Passed.{was-written}
+use Rattle.encode.specs.Writing.{frame}
+use Rattle.encode.proofs.Good.{all-good}
+use Rattle.encode.proofs.Passed.{was-written}
 use Rattle.types.specs.Table.{known, layoutOf}
-use Rattle.message.specs.Types.{saidOf}
-use Rattle.message.specs.Reading.{longest, readOf}
+use Rattle.message.specs.Types.{typedOf}
+use Rattle.message.specs.Reading.{longestBody, readOf}
 use Rattle.message.specs.Writing.{allowedOf, writeUpTo, writeOf}
 use Rattle.message.specs.declared.Message.{Message}
 use Rattle.message.proofs.Front.{WholeAt, joined}
@@ -38,11 +38,11 @@ use Rattle.message.proofs.Shape.{known-type, shaped}
 -- values stand as a whole message of a type
 record ReadBack (s : List ℕ) (type : ℕ) (vs : List Value) (used : ℕ) : Type 0 where
   found : List Piece
-  is-whole : WholeAt longest s (record { type = type; pieces = found }) used
+  is-whole : WholeAt longestBody s (record { type = type; pieces = found }) used
   means : map (mean s) found ≡ vs
 
 -- so do those that a type permits, in their shortest form behind Type and Length, whatever follows
-frame-back : (type : ℕ) (vs : List Value) (rest : List ℕ) → known type ≡ true → type ≤ greatest → length (encode vs) ≤ longest → permitted (layoutOf type) vs ≡ true
+frame-back : (type : ℕ) (vs : List Value) (rest : List ℕ) → known type ≡ true → type ≤ greatest → length (encode vs) ≤ longestBody → permitted (layoutOf type) vs ≡ true
     → ReadBack (frame type (encode vs) ++ rest) type vs (length (frame type (encode vs)))
 unfolding frame
 frame-back type vs rest k small short allowed =
@@ -80,23 +80,23 @@ frame-back type vs rest k small short allowed =
 read-from : {s after x : List ℕ} {m : Typed} {used n : ℕ} → after ≡ s → n ≡ used → ReadBack s (m .type) (map (mean x) (m .pieces)) used
     → (t : Typed) × (readOf after ≡ answered t n) × Same after t x m
 read-from {s} {m = m} e u r =
-    (record { type = m .type; pieces = r .found }, rw (e, u) (joined longest s (r .is-whole)), record { type = refl; values = rw e (r .means) })
+    (record { type = m .type; pieces = r .found }, rw (e, u) (joined longestBody s (r .is-whole)), record { type = refl; values = rw e (r .means) })
 
 -- ---- a message
 
 -- What is written reads back as the same message, and uses exactly the bytes written.
 pub written-reads : (s : List ℕ) (m : Message) (before : List ℕ) {n : ℕ} → writeOf s m before .says ≡ wrote n
-    → (t : Typed) × (readOf (writeOf s m before .holds) ≡ answered t n) × Same (writeOf s m before .holds) t s (saidOf m)
+    → (t : Typed) × (readOf (writeOf s m before .holds) ≡ answered t n) × Same (writeOf s m before .holds) t s (typedOf m)
 unfolding writeUpTo encodeAll
 written-reads s m before h =
-    let type = saidOf m .type in
-    let ps = saidOf m .pieces in
+    let type = typedOf m .type in
+    let ps = typedOf m .pieces in
     let bytes = frame type (encodeAll s ps) in
     let w = was-written _ _ _ bytes before h in
     let p = both-true (allowedOf m) _ (w .is-right) in
     let q = both-true (leb type greatest) (rightAll s ps) (p .1) in
     let good = all-good s ps (q .1) (w .is-sized) in
     let small = leb-true type greatest (q .0) in
-    let short = leb-true (length (encodeAll s ps)) longest (w .is-short) in
+    let short = leb-true (length (encodeAll s ps)) longestBody (w .is-short) in
     read-from (w .holds) (w .used)
     (frame-back type (map (mean s) ps) (drop (length bytes) before) (known-type s m) small short (shaped s m (p .0) good))

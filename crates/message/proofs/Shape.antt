@@ -12,10 +12,10 @@ use Rattle.layout.specs.Layout.{place, failure, parameters}
 use Rattle.layout.specs.Allowed.{allowed}
 use Rattle.layout.specs.Permitted.{code, permitted}
 use Rattle.layout.specs.Typed.{Typed}
-use Rattle.shortest.proofs.Good.{AllGood}
-use Rattle.shortest.proofs.Fitting.{fitting, fitting-permitted}
-use Rattle.types.specs.Subscriptions.{subscribeUpdate, ending, filter, delivery, subscribe, content, subscribeOk, subscribeError, subscribeDone, only}
-use Rattle.subscription.specs.Told.{filterPieces, contentPieces, saidOf as subscriptionSaid}
+use Rattle.encode.proofs.Good.{AllGood}
+use Rattle.encode.proofs.Fitting.{fitting, fitting-permitted}
+use Rattle.types.specs.Subscriptions.{subscribeUpdate, ending, filter, delivery, subscribe, content, subscribeOk, subscribeError, subscribeDone, idOnly}
+use Rattle.subscription.specs.Told.{filterPieces, contentPieces, typedOf as subscriptionSaid}
 use Rattle.subscription.specs.declared.Filter.{Filter}
 use Rattle.subscription.specs.declared.Filter.the-variants.{Latest, From, Range}
 use Rattle.subscription.specs.declared.Content.{Content}
@@ -23,7 +23,7 @@ use Rattle.subscription.specs.declared.Content.the-variants.{Nothing, Largest}
 use Rattle.subscription.specs.declared.SubscriptionMessage.{SubscriptionMessage}
 use Rattle.subscription.specs.declared.SubscriptionMessage.the-variants.{SubscribeUpdate, Subscribe, SubscribeOk, SubscribeError, Unsubscribe, SubscribeDone, MaxSubscribeId, SubscribesBlocked}
 use Rattle.types.specs.Fetches.{standalone, joining, range, fetch, fetchOk, fetchError, fetchCancel, trackStatusRequest, largest, trackStatus}
-use Rattle.fetch.specs.Told.{rangePieces, saidOf as fetchSaid}
+use Rattle.fetch.specs.Told.{rangePieces, typedOf as fetchSaid}
 use Rattle.fetch.specs.declared.Range.{Range as FetchRange}
 use Rattle.fetch.specs.declared.Range.the-variants.{Standalone, Joining}
 use Rattle.fetch.specs.declared.FetchMessage.{FetchMessage}
@@ -31,16 +31,16 @@ use Rattle.fetch.specs.declared.FetchMessage.the-variants.{Fetch as AFetch, Fet
 use Rattle.types.specs.Announces.{named}
 use Rattle.announce.specs.Kinds.{rest}
 use Rattle.announce.proofs.ByKind.{layout-is}
-use Rattle.announce.specs.Told.{saidOf as announceSaid}
+use Rattle.announce.specs.Told.{typedOf as announceSaid}
 use Rattle.announce.specs.declared.AnnounceMessage.{AnnounceMessage}
 use Rattle.announce.specs.declared.AnnounceMessage.the-variants.{Named, Asked, Refused}
 use Rattle.announce.specs.declared.kinds.AnnounceKind.the-variants.{Named as KindNamed, Asked as KindAsked, Refused as KindRefused}
 use Rattle.types.specs.Sessions.{clientSetup, serverSetup, goAway}
-use Rattle.session.specs.Told.{saidOf as sessionSaid}
+use Rattle.session.specs.Told.{typedOf as sessionSaid}
 use Rattle.session.specs.declared.SessionMessage.{SessionMessage}
 use Rattle.session.specs.declared.SessionMessage.the-variants.{ClientSetup, ServerSetup, GoAway}
-use Rattle.types.specs.Table.{messages, rowIn, rowOf, known, layoutOf}
-use Rattle.message.specs.Types.{numberOf, saidOf}
+use Rattle.types.specs.Table.{messages, typeRowIn, typeRowOf, known, layoutOf}
+use Rattle.message.specs.Types.{numberOf, typedOf}
 use Rattle.message.specs.Writing.{allowedOf}
 use Rattle.message.specs.declared.Message.{Message}
 use Rattle.message.specs.declared.Message.the-variants.{Subscription, Fetch, Announce, Session}
@@ -71,7 +71,7 @@ module _ (s : List ℕ) where
 
   -- a message of subscriptions,
   subscription : (m : SubscriptionMessage) → Fitting s (subscriptionSaid m)
-  unfolding fitting code mean allowed known layoutOf rowOf rowIn messages place failure parameters subscribeUpdate delivery subscribe subscribeOk subscribeError subscribeDone only
+  unfolding fitting code mean allowed known layoutOf typeRowOf typeRowIn messages place failure parameters subscribeUpdate delivery subscribe subscribeOk subscribeError subscribeDone idOnly
   subscription (SubscribeUpdate m) = (refl, refl)
   subscription (Subscribe m) = (refl, rw (asking (m .filter) (m .parameters)))
   subscription (SubscribeOk m) = (refl, rw (existing (m .content) (m .parameters)))
@@ -89,7 +89,7 @@ module _ (s : List ℕ) where
 
   -- a message of fetches,
   retrieval : (m : FetchMessage) → Fitting s (fetchSaid m)
-  unfolding fitting code mean allowed known layoutOf rowOf rowIn messages place failure parameters fetch fetchOk fetchError fetchCancel trackStatusRequest largest trackStatus
+  unfolding fitting code mean allowed known layoutOf typeRowOf typeRowIn messages place failure parameters fetch fetchOk fetchError fetchCancel trackStatusRequest largest trackStatus
   retrieval (AFetch m) = (refl, rw (fetching (m .range) (m .parameters)))
   retrieval (FetchOk m) = (refl, refl)
   retrieval (FetchError m) = (refl, refl)
@@ -106,24 +106,24 @@ module _ (s : List ℕ) where
 
   -- and of a session
   session : (m : SessionMessage) → Fitting s (sessionSaid m)
-  unfolding fitting code mean allowed known layoutOf rowOf rowIn messages parameters clientSetup serverSetup goAway
+  unfolding fitting code mean allowed known layoutOf typeRowOf typeRowIn messages parameters clientSetup serverSetup goAway
   session (ClientSetup m) = (refl, refl)
   session (ServerSetup m) = (refl, refl)
   session (GoAway uri) = (refl, refl)
 
   -- ---- every message
 
-  shape : (m : Message) → Fitting s (saidOf m)
+  shape : (m : Message) → Fitting s (typedOf m)
   shape (Subscription m) = subscription m
   shape (Fetch m) = retrieval m
   shape (Announce m) = announcement m
   shape (Session m) = session m
 
   -- It is of a known type.
-  pub known-type : (m : Message) → known (saidOf m .type) ≡ true
+  pub known-type : (m : Message) → known (typedOf m .type) ≡ true
   known-type m = shape m .0
 
   -- Where its values are allowed and its fields are good, its layout permits it.
-  pub shaped : (m : Message) → allowedOf m ≡ true → AllGood (map (mean s) (saidOf m .pieces)) → permitted (layoutOf (saidOf m .type)) (map (mean s) (saidOf m .pieces)) ≡ true
+  pub shaped : (m : Message) → allowedOf m ≡ true → AllGood (map (mean s) (typedOf m .pieces)) → permitted (layoutOf (typedOf m .type)) (map (mean s) (typedOf m .pieces)) ≡ true
   unfolding allowedOf
-  shaped m h = fitting-permitted (layoutOf (saidOf m .type)) (map (mean s) (saidOf m .pieces)) (shape m .1 ∙ h)
+  shaped m h = fitting-permitted (layoutOf (typedOf m .type)) (map (mean s) (typedOf m .pieces)) (shape m .1 ∙ h)

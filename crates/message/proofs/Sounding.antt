@@ -6,7 +6,7 @@ use Rattle.measure.specs.Small.{smallAll}
 use Rattle.measure.specs.Fields.{placed, fieldsOf}
 use Rattle.measure.specs.declared.Fields.{Fields}
 use Rattle.measure.proofs.Placed.{fields-placed}
-use Rattle.message.specs.Types.{saidOf}
+use Rattle.message.specs.Types.{typedOf}
 use Rattle.message.specs.Writing.{allowedOf}
 use Rattle.message.specs.Sound.{soundOf}
 use Rattle.message.specs.declared.Message.{Message}
@@ -18,6 +18,6 @@ module _ (m : Message) {a : Bool} (judged : a ≡ allowedOf m) where
   unsound h = rw (← judged, not-true a h)
 
   -- or none is, and its numbers tell
-  pub by-numbers : (f : Fields) {b : Bool} → not a ≡ false → f ≡ placed (saidOf m) → b ≡ smallAll (fieldsOf f) → b ≡ soundOf m
+  pub by-numbers : (f : Fields) {b : Bool} → not a ≡ false → f ≡ placed (typedOf m) → b ≡ smallAll (fieldsOf f) → b ≡ soundOf m
   unfolding soundOf
-  by-numbers f h e small = rw (← judged, not-false a h, ← fields-placed (saidOf m), ← e) small
+  by-numbers f h e small = rw (← judged, not-false a h, ← fields-placed (typedOf m), ← e) small

@@ -5,8 +5,8 @@ use mathlib.Core.List.{List, _++_}
 use native.Mathlib.Omega.{arith}
 use lib.ListN.{length, length-append}
 use lib.Seq.{take-append-le}
-use Rattle.integer.specs.Answer.{Answer, whole as answered, refused}
-use Rattle.integer.proofs.Cases.{apart}
+use Rattle.common.specs.Answer.{Answer, whole as answered, refused}
+use Rattle.common.proofs.Cases.{apart}
 use Rattle.field.specs.Outcome.{whole}
 use Rattle.field.specs.Entries.{numberAt}
 use Rattle.field.specs.Fields.{integer}

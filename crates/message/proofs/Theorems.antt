@@ -7,8 +7,8 @@ use mathlib.Core.List.{List, _++_, map}
 use mathlib.Core.Bool.{true}
 use lib.ListN.{length, take}
 use denote.Ref.{RefT}
-use Rattle.integer.specs.Answer.{whole as answered, refused, wrote, Leaves}
-use Rattle.integer.specs.Octets.{Octets}
+use Rattle.common.specs.Answer.{whole as answered, refused, wrote, Leaves}
+use Rattle.common.specs.Octets.{Octets}
 use Rattle.field.specs.Outcome.{whole}
 use Rattle.field.specs.Entries.{numberAt}
 use Rattle.field.specs.Value.{part, mean}
@@ -17,13 +17,13 @@ use Rattle.layout.specs.Permitted.{permitted}
 use Rattle.layout.specs.Inside.{Inside}
 use Rattle.layout.specs.Typed.{Typed}
 use Rattle.layout.specs.Same.{Same}
-use Rattle.shortest.specs.Writing.{answering}
-use Rattle.shortest.specs.declared.Writing.{Writing}
+use Rattle.encode.specs.Writing.{toldWriting}
+use Rattle.encode.specs.declared.Writing.{Writing}
 use Rattle.types.specs.Table.{known, layoutOf}
-use Rattle.message.specs.Types.{saidOf}
-use Rattle.message.specs.Reading.{longest, readOf, told}
+use Rattle.message.specs.Types.{typedOf}
+use Rattle.message.specs.Reading.{longestBody, readOf, told}
 use Rattle.message.specs.Part.{PartOf}
-use Rattle.message.specs.Names.{nameOf, namedSpan}
+use Rattle.message.specs.Names.{nameSpan, namedSpan}
 use Rattle.message.specs.Writing.{writeOf}
 use Rattle.message.specs.declared.Message.{Message}
 use Rattle.message.specs.declared.Reading.{Reading}
@@ -41,59 +41,59 @@ use Rattle.message.proofs.RoundTrip as round-trip
 use Rattle.message.proofs.Again as again
 use Rattle.message.proofs.Only as only
 use Rattle.message.proofs.Alike as alike
-use Rattle.message.proofs.Once as once
+use Rattle.message.proofs.OneAnswer as once
 use Rattle.message.proofs.OneReading.{readingOf}
 use Rattle.message.proofs.OneReading as one-reading
 
 module _ (s : List ℕ) where
   -- 1. Every refusal is one of 1 to 6.
   pub numbers : {n : ℕ} → readOf s ≡ refused n → (1 ≤ n) × (n ≤ 6)
-  numbers = refusals.numbers longest s
+  numbers = refusals.numbers longestBody s
 
   -- 2. Bytes that follow change nothing of a whole message,
   pub whole-stays : (x : List ℕ) {t : Typed} {used : ℕ} → readOf s ≡ answered t used → readOf (s ++ x) ≡ answered t used
-  whole-stays = stable.whole-stays longest s
+  whole-stays = stable.whole-stays longestBody s
 
   -- nor of a refusal from 2 to 6;
   pub refusal-stays : (x : List ℕ) {n : ℕ} → (n ≡ 1 → ⊥) → readOf s ≡ refused n → readOf (s ++ x) ≡ refused n
-  refusal-stays = stable.refusal-stays longest s
+  refusal-stays = stable.refusal-stays longestBody s
 
   -- and where 1 is answered, more bytes can still decide: so it is answered exactly there.
   pub more : readOf s ≡ refused 1 → (x : List ℕ) × (readOf (s ++ x) ≡ refused 1 → ⊥)
-  more _ = enough.more longest s
+  more _ = enough.more longestBody s
 
   -- No more than 16,399 bytes are ever wanted.
-  pub decided : longestMessage longest ≤ length s → readOf s ≡ refused 1 → ⊥
-  decided = enough.decided longest s
+  pub decided : longestMessage longestBody ≤ length s → readOf s ≡ refused 1 → ⊥
+  decided = enough.decided longestBody s
 
   module _ {t : Typed} {used : ℕ} where
     -- 3. A whole message is its Type, its Length, and a body of so many bytes, which its fields fill; those are the bytes used.
-    pub framed : readOf s ≡ answered t used → WholeAt longest s t used
-    framed = front.parts longest s
+    pub framed : readOf s ≡ answered t used → WholeAt longestBody s t used
+    framed = front.parts longestBody s
 
     -- It is of a known type,
     pub is-known : readOf s ≡ answered t used → known (t .type) ≡ true
-    is-known h = front.parts longest s h .head .is-known
+    is-known h = front.parts longestBody s h .head .is-known
 
     -- and its fields are permitted: no number is above the greatest, no value is forbidden, nothing is over a size.
     pub allowed : readOf s ≡ answered t used → permitted (layoutOf (t .type)) (map (mean (take used s)) (t .pieces)) ≡ true
-    allowed h = fields.allowed s (front.parts longest s h)
+    allowed h = fields.allowed s (front.parts longestBody s h)
 
     -- 4. Its bytes are there, and they are two at least;
     pub used-there : readOf s ≡ answered t used → (2 ≤ used) × (used ≤ length s)
-    used-there h = fields.used-there s (front.parts longest s h)
+    used-there h = fields.used-there s (front.parts longestBody s h)
 
     -- every part that was found lies within them, behind Type and Length.
     pub inside : {next size at : ℕ} → numberAt s 0 ≡ whole (t .type) next → numberAt s next ≡ whole size at → readOf s ≡ answered t used → Inside at used (t .pieces)
-    inside e f h = fields.inside s e f (front.parts longest s h)
+    inside e f h = fields.inside s e f (front.parts longestBody s h)
 
   -- 5. What is handed back of a message that was read is the part of the bytes that is its name.
-  pub named : (m : Message) {used : ℕ} → readOf s ≡ answered (saidOf m) used → namedSpan s m ≡ nameOf m
+  pub named : (m : Message) {used : ℕ} → readOf s ≡ answered (typedOf m) used → namedSpan s m ≡ nameSpan m
   named m = naming.name-is s m
 
 -- Its place counts, and not its bytes alone: the name of `0D 05 01 01 61 01 61` is the byte at 6. That at 4, of the namespace, is the
 -- same byte, and is not what is handed back.
-pub by-place : (readOf places.alike ≡ answered (saidOf places.request) 7) × (namedSpan places.alike places.request ≡ byteAt 6) × (part places.alike (byteAt 4) ≡ part places.alike (byteAt 6))
+pub by-place : (readOf places.alike ≡ answered (typedOf places.request) 7) × (namedSpan places.alike places.request ≡ byteAt 6) × (part places.alike (byteAt 4) ≡ part places.alike (byteAt 6))
 by-place = (places.alike-reads, places.alike-named, places.alike-bytes)
 
 pub not-the-like : {s r : RefT (List ℕ)} → s .now ≡ places.alike → PartOf s r (namedSpan (s .now) places.request) → PartOf s r (byteAt 4) → ⊥
@@ -102,10 +102,10 @@ not-the-like = places.not-the-like
 module _ (s : List ℕ) (m : Message) (before : List ℕ) where
   -- 6. What is written reads back as the same message, and exactly the bytes written are used.
   pub reads-back : {n : ℕ} → writeOf s m before .says ≡ wrote n
-      → (t : Typed) × (readOf (writeOf s m before .holds) ≡ answered t n) × Same (writeOf s m before .holds) t s (saidOf m)
+      → (t : Typed) × (readOf (writeOf s m before .holds) ≡ answered t n) × Same (writeOf s m before .holds) t s (typedOf m)
   reads-back = round-trip.written-reads s m before
 
-  module _ {used : ℕ} (read : readOf s ≡ answered (saidOf m) used) where
+  module _ {used : ℕ} (read : readOf s ≡ answered (typedOf m) used) where
     -- 7. What was read is written into no more bytes than it was read from,
     pub no-longer : {n : ℕ} → writeOf s m before .says ≡ wrote n → n ≤ used
     no-longer = again.no-more s m before read
@@ -118,7 +118,7 @@ module _ (s : List ℕ) (m : Message) (before : List ℕ) where
     pub written-again : used ≤ length before → (n : ℕ) × (writeOf s m before .says ≡ wrote n)
     written-again = again.written-again s m before read
 
-  module _ {n : ℕ} (written : writeOf s m before .says ≡ wrote n) (b : List ℕ) {t : Typed} (read : readOf b ≡ answered t (length b)) (same : Same b t s (saidOf m)) where
+  module _ {n : ℕ} (written : writeOf s m before .says ≡ wrote n) (b : List ℕ) {t : Typed} (read : readOf b ≡ answered t (length b)) (same : Same b t s (typedOf m)) where
     -- 8. The written bytes are the only shortest form of that message: no bytes that read as the same message are fewer,
     pub none-shorter : n ≤ length b
     none-shorter = only.none-shorter s m before written b read same
@@ -135,7 +135,7 @@ module _ (s : List ℕ) (m : Message) (before : List ℕ) where
   pub again-alike : writeOf s m (writeOf s m before .holds) ≡ writeOf s m before
   again-alike = alike.again s m before
 
-module _ (s t : List ℕ) (m k : Message) (same : Same s (saidOf m) t (saidOf k)) where
+module _ (s t : List ℕ) (m k : Message) (same : Same s (typedOf m) t (typedOf k)) where
   -- Two messages that are the same take the same bytes, in whatever buffers;
   pub written-twice : (a b : List ℕ) {n j : ℕ} → writeOf s m a .says ≡ wrote n → writeOf t k b .says ≡ wrote j → (n ≡ j) × (take n (writeOf s m a .holds) ≡ take j (writeOf t k b .holds))
   written-twice = alike.alike s t m k same
@@ -158,5 +158,5 @@ pub name-once : {s a b : RefT (List ℕ)} {p : Span} → PartOf s a p → PartOf
 name-once = places.part-once
 
 -- and that of `write` one possible answer and one possible content of the buffer, refusals too.
-pub write-once : (s : List ℕ) (m : Message) (before : List ℕ) (a b : Writing) {x y : List ℕ} → Leaves (writeOf s m before) (answering a) x → Leaves (writeOf s m before) (answering b) y → (a ≡ b) × (x ≡ y)
+pub write-once : (s : List ℕ) (m : Message) (before : List ℕ) (a b : Writing) {x y : List ℕ} → Leaves (writeOf s m before) (toldWriting a) x → Leaves (writeOf s m before) (toldWriting b) y → (a ≡ b) × (x ≡ y)
 write-once = once.write-once

@@ -4,13 +4,13 @@ use mathlib.Core.Path.{_≡_, sym, _∙_}
 use mathlib.Core.List.{List}
 use mathlib.Core.Bool.{Bool, true, false, not}
 use borrow.Author.Tests.{not-true, not-false}
-use Rattle.integer.specs.Answer.{Answer, refused, Nothing, Leaves}
+use Rattle.common.specs.Answer.{Answer, refused, Nothing, Leaves}
 use Rattle.measure.specs.Fields.{placed, fieldsOf}
-use Rattle.shortest.specs.Writing.{writtenOf, framedOf}
+use Rattle.encode.specs.Writing.{writtenOf, framedOf}
 use Rattle.measure.specs.declared.Fields.{Fields}
 use Rattle.measure.proofs.Placed.{fields-placed}
-use Rattle.message.specs.Types.{saidOf}
-use Rattle.message.specs.Reading.{longest}
+use Rattle.message.specs.Types.{typedOf}
+use Rattle.message.specs.Reading.{longestBody}
 use Rattle.message.specs.Writing.{allowedOf, writeUpTo, writeOf}
 use Rattle.message.specs.declared.Message.{Message}
 
@@ -21,8 +21,8 @@ module _ (s : List ℕ) (m : Message) (before : List ℕ) {a : Bool} (judged : a
   not-allowed h = let f : allowedOf m ≡ false = sym judged ∙ not-true a h in record { says = rw f; holds = rw f }
 
   -- or none is, and its fields are written
-  pub is-framed : (f : Fields) {said : Answer Nothing} {after : List ℕ} → not a ≡ false → f ≡ placed (saidOf m) → Leaves (framedOf longest s (f .kind) (fieldsOf f) before) said after → Leaves (writeOf s m before) said after
+  pub is-framed : (f : Fields) {said : Answer Nothing} {after : List ℕ} → not a ≡ false → f ≡ placed (typedOf m) → Leaves (framedOf longestBody s (f .kind) (fieldsOf f) before) said after → Leaves (writeOf s m before) said after
   unfolding writeUpTo framedOf placed
   is-framed f h e l =
       let g : allowedOf m ≡ true = sym judged ∙ not-false a h in
-      rw g (rw (e, fields-placed (saidOf m)) at l)
+      rw g (rw (e, fields-placed (typedOf m)) at l)

@@ -4,27 +4,29 @@ use Prim.Native.Nat.{ℕ, _+_, _-_}
 use mathlib.Core.List.{List}
 use lib.ListN.{length, take}
 use lib.Dec.{leb, eqb}
-use Rattle.integer.specs.Answer.{guard, Answer, whole as answered, refused}
-use Rattle.field.specs.Outcome.{Outcome, whole, no, number}
+use Rattle.common.specs.Choice.{guard}
+use Rattle.common.specs.Answer.{Answer, whole as answered, refused}
+use Rattle.field.specs.Outcome.{Outcome, whole, no, faultNumber}
 use Rattle.field.specs.Entries.{numberAt}
 use Rattle.field.specs.Value.{onFound}
 use Rattle.layout.specs.Layout.{scan}
 use Rattle.layout.specs.Typed.{Typed, typed}
 use Rattle.types.specs.Table.{known, layoutOf}
-use Rattle.message.specs.Types.{saidOf}
+use Rattle.message.specs.Types.{typedOf}
 use Rattle.message.specs.declared.BodyRead.{BodyRead}
 use Rattle.message.specs.declared.BodyRead.the-variants.{Whole as WholeBody, No as NoBody}
+use Rattle.message.specs.declared.Message.{Message}
 use Rattle.message.specs.declared.Reading.{Reading}
 use Rattle.message.specs.declared.Reading.the-variants.{Whole, More, Unknown, TooLong, Unfilled, Forbidden, Oversize}
 
 -- the longest body
-abbrev pub longest : ℕ
-longest = 16_383
+abbrev pub longestBody : ℕ
+longestBody = 16_383
 
 -- a body that ends at `end` must be filled: 4 where its fields end before, or are cut
 abbrev pub filledBy : ℕ → Outcome Typed → Answer Typed
 filledBy end (whole m last) = guard (eqb last end) (refused 4) (answered m end)
-filledBy end (no fault) = refused (number 4 fault)
+filledBy end (no fault) = refused (faultNumber 4 fault)
 
 -- the body of a message, from an offset on, when its type and its Length are known; it may take up to a limit
 unfoldable pub bodyUpTo : ℕ → List ℕ → ℕ → ℕ → ℕ → Answer Typed
@@ -43,12 +45,12 @@ readUpTo limit s =
 
 -- READING, with 01's limit
 abbrev pub readOf : List ℕ → Answer Typed
-readOf s = readUpTo longest s
+readOf s = readUpTo longestBody s
 
 -- ---- 01's number and values of what is answered
 
 abbrev pub told : Reading → Answer Typed
-told (Whole m used) = answered (saidOf m) used
+told (Whole m used) = answered (typedOf m) used
 told More = refused 1
 told Unknown = refused 2
 told TooLong = refused 3
@@ -56,6 +58,16 @@ told Unfilled = refused 4
 told Forbidden = refused 5
 told Oversize = refused 6
 
+-- "Only a whole message reaches the ledger; every other reading ends there": what is done with it, and what else
+abbrev pub onWhole : {A : Type 0} → Reading → (Message → ℕ → A) → A → A
+onWhole (Whole m used) taken rest = taken m used
+onWhole More taken rest = rest
+onWhole Unknown taken rest = rest
+onWhole TooLong taken rest = rest
+onWhole Unfilled taken rest = rest
+onWhole Forbidden taken rest = rest
+onWhole Oversize taken rest = rest
+
 abbrev pub toldBody : BodyRead → Outcome Typed
-toldBody (WholeBody m end) = whole (saidOf m) end
+toldBody (WholeBody m end) = whole (typedOf m) end
 toldBody (NoBody fault) = no fault

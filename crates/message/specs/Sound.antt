@@ -1,10 +1,10 @@
 -- "A ledger call answers 5 for a value forbidden above or a number over the greatest integer."
 use mathlib.Core.Bool.{Bool}
-use Rattle.field.specs.Outcome.{both}
+use Rattle.common.specs.Choice.{both}
 use Rattle.measure.specs.Small.{smallAll}
-use Rattle.message.specs.Types.{saidOf}
+use Rattle.message.specs.Types.{typedOf}
 use Rattle.message.specs.Writing.{allowedOf}
 use Rattle.message.specs.declared.Message.{Message}
 
 unfoldable pub soundOf : Message → Bool
-soundOf m = both (allowedOf m) (smallAll (saidOf m .pieces))
+soundOf m = both (allowedOf m) (smallAll (typedOf m .pieces))

@@ -1,16 +1,17 @@
 -- The kinds of control messages: the number of each, which kind a number stands for, and a message as type and fields.
 use Prim.Native.Nat.{ℕ}
-use Rattle.integer.specs.Answer.{guard, Answer, whole, refused}
+use Rattle.common.specs.Choice.{guard}
+use Rattle.common.specs.Answer.{Answer, whole, refused}
 use Rattle.layout.specs.Typed.{Typed}
 use Rattle.types.specs.Table.{known}
 use Rattle.subscription.specs.Kinds.{numberOf as subscriptionNumber}
-use Rattle.subscription.specs.Told.{saidOf as subscriptionSaid}
+use Rattle.subscription.specs.Told.{typedOf as subscriptionSaid}
 use Rattle.fetch.specs.Kinds.{numberOf as fetchNumber}
-use Rattle.fetch.specs.Told.{saidOf as fetchSaid}
+use Rattle.fetch.specs.Told.{typedOf as fetchSaid}
 use Rattle.announce.specs.Kinds.{numberOf as announceNumber}
-use Rattle.announce.specs.Told.{saidOf as announceSaid}
+use Rattle.announce.specs.Told.{typedOf as announceSaid}
 use Rattle.session.specs.Kinds.{numberOf as sessionNumber}
-use Rattle.session.specs.Told.{saidOf as sessionSaid}
+use Rattle.session.specs.Told.{typedOf as sessionSaid}
 use Rattle.message.specs.declared.Message.{Message}
 use Rattle.message.specs.declared.Message.the-variants.{Subscription as SubscriptionM, Fetch as FetchM, Announce as AnnounceM, Session as SessionM}
 use Rattle.message.specs.declared.Kind.{Kind}
@@ -34,8 +35,8 @@ toldType (Known k) = whole (numberOf k) 0
 toldType Unknown = refused 2
 
 -- a message as the number of its type and its fields
-abbrev pub saidOf : Message → Typed
-saidOf (SubscriptionM m) = subscriptionSaid m
-saidOf (FetchM m) = fetchSaid m
-saidOf (AnnounceM m) = announceSaid m
-saidOf (SessionM m) = sessionSaid m
+abbrev pub typedOf : Message → Typed
+typedOf (SubscriptionM m) = subscriptionSaid m
+typedOf (FetchM m) = fetchSaid m
+typedOf (AnnounceM m) = announceSaid m
+typedOf (SessionM m) = sessionSaid m

@@ -4,29 +4,29 @@ use mathlib.Core.List.{List}
 use mathlib.Core.Bool.{Bool}
 use lib.ListN.{length}
 use lib.Dec.{leb}
-use Rattle.integer.specs.Answer.{Written}
+use Rattle.common.specs.Answer.{Written}
+use Rattle.common.specs.Choice.{both}
 use Rattle.integer.specs.Integer.{greatest}
-use Rattle.field.specs.Outcome.{both}
 use Rattle.layout.specs.Allowed.{allowed}
 use Rattle.measure.specs.Measuring.{rightAll, sizedAll, encodeAll}
-use Rattle.shortest.specs.Writing.{writtenOf, frame}
+use Rattle.encode.specs.Writing.{writtenOf, frame}
 use Rattle.types.specs.Table.{layoutOf}
-use Rattle.message.specs.Types.{saidOf}
-use Rattle.message.specs.Reading.{longest}
+use Rattle.message.specs.Types.{typedOf}
+use Rattle.message.specs.Reading.{longestBody}
 use Rattle.message.specs.declared.Message.{Message}
 
 -- "Forbidden field values (5)": what the layout of its type forbids, none of its fields holds
 unfoldable pub allowedOf : Message → Bool
-allowedOf m = allowed (layoutOf (saidOf m .type)) (saidOf m .pieces)
+allowedOf m = allowed (layoutOf (typedOf m .type)) (typedOf m .pieces)
 
 -- a message over the bytes s, into a buffer, when its body may take up to a limit
 unfoldable pub writeUpTo : ℕ → List ℕ → Message → List ℕ → Written
 writeUpTo limit s m before =
-    let t = saidOf m in
+    let t = typedOf m in
     let body = encodeAll s (t .pieces) in
     let isRight = both (allowedOf m) (both (leb (t .type) greatest) (rightAll s (t .pieces))) in
     writtenOf isRight (sizedAll s (t .pieces)) (leb (length body) limit) (frame (t .type) body) before
 
 -- WRITING, with the limit of reading
 abbrev pub writeOf : List ℕ → Message → List ℕ → Written
-writeOf s m before = writeUpTo longest s m before
+writeOf s m before = writeUpTo longestBody s m before

@@ -1,7 +1,7 @@
 // The name of the track that a message names, handed back as the same part of the caller's bytes.
 ghost use mathlib.Core.Path.{_≡_};
 ghost use Rattle.message.specs.Part.{PartOf};
-ghost use Rattle.message.specs.Names.{nameOf, namedSpan};
+ghost use Rattle.message.specs.Names.{nameSpan, namedSpan};
 use crate::Message;
 use field::Span;
 
@@ -24,7 +24,7 @@ pub fn track_name<'a>(s: &'a [u8], m: Message) -> &'a [u8]
 
 // Where it stands.
 fn name_of(m: Message) -> Span
-    ensures { λ r. ⌜ r ≡ nameOf m ⌝ }
+    ensures { λ r. ⌜ r ≡ nameSpan m ⌝ }
 {
     match m {
         Message::Subscription(m) => subscription::name_of(m),

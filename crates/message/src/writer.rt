@@ -1,38 +1,38 @@
 // A message is written as its shortest form. 5, 6, 3 and 7 in this order, each over the whole message; a refusal writes nothing.
 ghost use mathlib.Core.Path.{_≡_};
-ghost use Rattle.integer.specs.Answer.{Leaves};
+ghost use Rattle.common.specs.Answer.{Leaves};
 ghost use Rattle.measure.specs.Fields.{placed};
-ghost use Rattle.shortest.specs.Writing.{answering};
-ghost use Rattle.message.specs.Types.{saidOf};
+ghost use Rattle.encode.specs.Writing.{toldWriting};
+ghost use Rattle.message.specs.Types.{typedOf};
 ghost use Rattle.message.specs.Writing.{allowedOf, writeOf};
 use crate::LONGEST;
 use crate::Message;
+use encode::Writing;
 use measure::Fields;
-use shortest::Writing;
 
 // bytes is what the parts of the message point into.
 pub fn write(out: &mut [u8], bytes: &[u8], m: Message) -> Writing
-    ensures { λ r. ⌜ Leaves (writeOf (now (bytes .entry)) m (now (out .entry))) (answering r) (now (out .exit)) ⌝ }
+    ensures { λ r. ⌜ Leaves (writeOf (now (bytes .entry)) m (now (out .entry))) (toldWriting r) (now (out .exit)) ⌝ }
 {
     if !is_allowed(m) {
         return Writing::Forbidden;
     }
     match m {
-        Message::Subscription(x) => shortest::write_framed(
+        Message::Subscription(x) => encode::write_framed(
             out,
             bytes,
             subscription::fields(x),
             LONGEST,
         ),
-        Message::Fetch(x) => shortest::write_framed(out, bytes, fetch::fields(x), LONGEST),
-        Message::Announce(x) => shortest::write_framed(out, bytes, announce::fields(x), LONGEST),
-        Message::Session(x) => shortest::write_framed(out, bytes, session::fields(x), LONGEST),
+        Message::Fetch(x) => encode::write_framed(out, bytes, fetch::fields(x), LONGEST),
+        Message::Announce(x) => encode::write_framed(out, bytes, announce::fields(x), LONGEST),
+        Message::Session(x) => encode::write_framed(out, bytes, session::fields(x), LONGEST),
     }
 }
 
 // The fields of a message.
 pub fn fields(m: Message) -> Fields
-    ensures { λ r. ⌜ r ≡ placed (saidOf m) ⌝ }
+    ensures { λ r. ⌜ r ≡ placed (typedOf m) ⌝ }
 {
     match m {
         Message::Subscription(x) => subscription::fields(x),
@@ -44,7 +44,7 @@ pub fn fields(m: Message) -> Fields
 
 // The number of a message's type.
 pub fn number(m: Message) -> u64
-    ensures { λ r. ⌜ r ≡ saidOf m .type ⌝ }
+    ensures { λ r. ⌜ r ≡ typedOf m .type ⌝ }
 {
     match m {
         Message::Subscription(x) => subscription::number(x),

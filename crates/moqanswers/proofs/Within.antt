@@ -4,21 +4,21 @@ use mathlib.Core.Path.{_≡_}
 use mathlib.Core.List.{List}
 use native.Mathlib.Omega.{arith}
 use lib.ListN.{length}
-use Rattle.integer.specs.Answer.{Leaves}
-use Rattle.shortest.proofs.Puts.{lent, given}
-use Rattle.text.specs.Lines.{lineOf, longestLine, placed, itemsOf, putOf, saying}
+use Rattle.common.specs.Answer.{Leaves}
+use Rattle.common.proofs.Puts.{lent, given}
+use Rattle.text.specs.Lines.{lineOf, longestLine, placed, itemsOf, putText, toldPutting}
 use Rattle.text.specs.declared.Line.{Line}
 use Rattle.text.specs.declared.Putting.{Putting}
 use Rattle.text.specs.declared.Putting.the-variants.{Done, TooShort}
 use Rattle.text.proofs.Placing.{items-placed}
 use Rattle.text.proofs.Bounds.{line-bound}
-use Rattle.run.specs.Progressing.{endOf}
-use Rattle.run.specs.declared.Stage.{Stage}
-use Rattle.run.specs.declared.Stage.the-variants.{Empty, Running, Faulty}
-use Rattle.run.specs.declared.Progress.{Progress}
+use Rattle.replay.specs.Progressing.{finishOf}
+use Rattle.replay.specs.declared.Stage.{Stage}
+use Rattle.replay.specs.declared.Stage.the-variants.{Empty, Running, Faulty}
+use Rattle.replay.specs.declared.Progress.{Progress}
 use Rattle.report.proofs.Putting.{put-within}
-use Rattle.answers.specs.Telling.{faultItems, endItems}
-use Rattle.answers.proofs.Added.{lent-length, given-length}
+use Rattle.answers.specs.Answers.{faultItems, endItems}
+use Rattle.answers.proofs.TextAdded.{lent-length, given-length}
 use Rattle.moqanswers.specs.Ending.{Ends}
 
 -- what was not put has no end
@@ -26,11 +26,11 @@ pub short-ends : (room : ℕ) → Ends TooShort room
 short-ends room n e = absurd (let z : _≡_ {A = ℕ} 0 1 = cc in omega arith)
 
 -- a line ends within what is lent,
-pub put-ends : (text before : List ℕ) (r : Putting) {after : List ℕ} → Leaves (putOf text before) (saying r) after → Ends r (length before)
+pub put-ends : (text before : List ℕ) (r : Putting) {after : List ℕ} → Leaves (putText text before) (toldPutting r) after → Ends r (length before)
 put-ends text before r w n e = put-within text before r w e
 
 -- also behind others
-module _ (text before : List ℕ) (at : ℕ) (r : Putting) {t : List ℕ} (k : at ≤ length before) (w : Leaves (putOf text (lent at before)) (saying r) t) where
+module _ (text before : List ℕ) (at : ℕ) (r : Putting) {t : List ℕ} (k : at ≤ length before) (w : Leaves (putText text (lent at before)) (toldPutting r) t) where
   module _ {n : ℕ} (e : r ≡ Done n) where
     pub behind-fits : at + n ≤ length before
     behind-fits = omega (arith, put-within text (lent at before) r w e, lent-length before at)
@@ -50,4 +50,4 @@ fault-bound (Faulty at) = omega (arith, line-bound (faultItems (Faulty at)))
 
 pub end-bound : (p : Progress) (left : ℕ) {line : Line} → line ≡ placed (endItems p left) → length (lineOf (itemsOf line)) ≤ longestLine
 unfolding endItems
-end-bound p left e = rw (items-placed _ e) (fault-bound (endOf p left .stage))
+end-bound p left e = rw (items-placed _ e) (fault-bound (finishOf p left .stage))

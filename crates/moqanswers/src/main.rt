@@ -5,7 +5,7 @@ ghost use lib.ListN.{length};
 ghost use Rattle.moqanswers.specs.Ending.{Ends};
 use libc::STDIN_FILENO;
 use libc::STDOUT_FILENO;
-use run::Progress;
+use replay::Progress;
 use text::Line;
 use text::Putting;
 
@@ -28,7 +28,7 @@ struct Turned {
 // says that an input does: the turns are counted down from a number that no run uses up.
 fn main() {
     let mut buffer = [0u8; 131072];
-    let mut progress = run::begin();
+    let mut progress = replay::begin();
     let mut left: usize = 0;
     let mut turns = u64::MAX;
     while turns > 0 {
@@ -59,7 +59,7 @@ fn turn(p: Progress, buffer: &mut [u8], left: usize) -> Turned
     let end = left + io::count(got, &buffer[left..]);
     let printed = print_fields(p, &buffer[..end]);
     let used = printed.used;
-    run::keep(buffer, used, end);
+    replay::keep(buffer, used, end);
     let progress = printed.progress;
     Turned {
         progress,

@@ -4,10 +4,10 @@ use mathlib.Core.Path.{_≡_, ap, _∙_}
 use mathlib.Core.List.{List}
 use native.Mathlib.Omega.{arith}
 use lib.ListN.{length, take, length-take}
-use Rattle.run.specs.Advancing.{advanceOf, Advances}
-use Rattle.run.specs.declared.Advanced.{Advanced}
-use Rattle.run.specs.declared.Progress.{Progress}
-use Rattle.run.proofs.Rests.{rest-few}
+use Rattle.replay.specs.Advancing.{advanceOf, Advances}
+use Rattle.replay.specs.declared.Advanced.{Advanced}
+use Rattle.replay.specs.declared.Progress.{Progress}
+use Rattle.replay.proofs.Rests.{rest-few}
 
 pub left-within : (p : Progress) (before : List ℕ) (filled : ℕ) {r : Advanced} {after : List ℕ} → Advances (advanceOf p before filled) r after → r .left ≤ length before
 unfolding advanceOf

@@ -2,18 +2,18 @@
 // whatever the trace's length.
 ghost use Prim.Native.Nat.{_≤_};
 ghost use lib.ListN.{length};
-ghost use Rattle.shortest.specs.Putting.{Put};
-ghost use Rattle.run.specs.Progressing.{endOf};
+ghost use Rattle.common.specs.Buffer.{Put};
+ghost use Rattle.replay.specs.Progressing.{finishOf};
 ghost use Rattle.report.specs.Report.{textOf, longestReport};
 use libc::STDIN_FILENO;
 use libc::STDOUT_FILENO;
-use run::Progress;
+use replay::Progress;
 use text::Putting;
 
 // A field has at most 65,538 bytes, so what is left of one always leaves room to read into.
 fn main() {
     let mut buffer = [0u8; 131072];
-    let mut progress = run::begin();
+    let mut progress = replay::begin();
     let mut left: usize = 0;
     // A proved loop has to end, and nothing says that an input does: the turns are counted down from a number that no run uses up.
     let mut turns = u64::MAX;
@@ -45,7 +45,7 @@ fn read_behind(buffer: &mut [u8], left: usize) -> isize
 // The report, where it has room.
 fn put(out: &mut [u8], p: Progress, left: usize) -> usize
     requires { ⌜ longestReport ≤ length (now out) ⌝ }
-    ensures { λ r. ⌜ Put (textOf (endOf p left)) (now (out .entry)) r (now (out .exit)) ⌝ }
+    ensures { λ r. ⌜ Put (textOf (finishOf p left)) (now (out .entry)) r (now (out .exit)) ⌝ }
 {
     let Putting::Done(n) = report::of_progress(p, left, out) else {
         return 0;

@@ -4,28 +4,28 @@ use mathlib.Core.Path.{_≡_, refl, sym, ap, _∙_}
 use mathlib.Core.List.{List}
 use native.Mathlib.Omega.{arith}
 use lib.ListN.{length}
-use Rattle.integer.specs.Answer.{Answer, Nothing, Leaves}
-use Rattle.text.specs.Lines.{lineOf, placed, itemsOf, putOf}
+use Rattle.common.specs.Answer.{Answer, Nothing, Leaves}
+use Rattle.text.specs.Lines.{lineOf, placed, itemsOf, putText}
 use Rattle.text.specs.declared.Line.{Line}
 use Rattle.text.proofs.Placing.{items-placed}
-use Rattle.run.specs.Progressing.{begun, fed, endOf, runOf, fedOf}
-use Rattle.run.proofs.Rests.{rest-few}
-use Rattle.run.specs.declared.Fed.{Fed}
-use Rattle.run.specs.declared.Stage.the-variants.{Empty, Running, Faulty}
-use Rattle.run.specs.declared.Progress.{Progress}
+use Rattle.replay.specs.Progressing.{begun, fed, finishOf, replayOf, fedOf}
+use Rattle.replay.proofs.Rests.{rest-few}
+use Rattle.replay.specs.declared.Fed.{Fed}
+use Rattle.replay.specs.declared.Stage.the-variants.{Empty, Running, Faulty}
+use Rattle.replay.specs.declared.Progress.{Progress}
 use Rattle.report.specs.Rows.{faultLine}
 use Rattle.report.specs.Report.{ledgerText, textOf, reportOf}
 
 module _ (p q : Progress) (e : q ≡ p) (before : List ℕ) {r : Answer Nothing} {after : List ℕ} where
-  pub shows-nothing : (line : Line) → q .stage ≡ Empty → line ≡ placed (faultLine 0) → Leaves (putOf (lineOf (itemsOf line)) before) r after → Leaves (putOf (textOf p) before) r after
+  pub shows-nothing : (line : Line) → q .stage ≡ Empty → line ≡ placed (faultLine 0) → Leaves (putText (lineOf (itemsOf line)) before) r after → Leaves (putText (textOf p) before) r after
   unfolding textOf
   shows-nothing line s f w = rw (← e, s, ← items-placed _ f) w
 
-  pub shows-ledger : q .stage ≡ Running → Leaves (putOf (ledgerText (q .ledger)) before) r after → Leaves (putOf (textOf p) before) r after
+  pub shows-ledger : q .stage ≡ Running → Leaves (putText (ledgerText (q .ledger)) before) r after → Leaves (putText (textOf p) before) r after
   unfolding textOf
   shows-ledger s w = rw (← e, s) w
 
-  pub shows-fault : (at : ℕ) (line : Line) → q .stage ≡ Faulty at → line ≡ placed (faultLine at) → Leaves (putOf (lineOf (itemsOf line)) before) r after → Leaves (putOf (textOf p) before) r after
+  pub shows-fault : (at : ℕ) (line : Line) → q .stage ≡ Faulty at → line ≡ placed (faultLine at) → Leaves (putText (lineOf (itemsOf line)) before) r after → Leaves (putText (textOf p) before) r after
   unfolding textOf
   shows-fault at line s f w = rw (← e, s, ← items-placed _ f) w
 
@@ -35,8 +35,8 @@ module _ (s : List ℕ) (p : Progress) (r : Fed) (b : p ≡ begun) (e : r ≡ fe
   unfolding fedOf
   used-fits = rw e (omega arith)
 
-  pub shows-report : textOf (endOf (r .progress) (length s - r .used)) ≡ reportOf s
-  unfolding fedOf reportOf runOf
+  pub shows-report : textOf (finishOf (r .progress) (length s - r .used)) ≡ reportOf s
+  unfolding fedOf reportOf replayOf
   shows-report =
       let left : length s - (length s - length (fed begun s .rest)) ≡ length (fed begun s .rest) = omega (arith, rest-few begun s) in
       rw (e, b, left)

@@ -4,10 +4,10 @@ use mathlib.Core.Path.{_≡_, refl, sym}
 use mathlib.Core.List.{List, _++_, append-assoc}
 use native.Mathlib.Omega.{arith}
 use lib.ListN.{length, length-append}
+use Rattle.common.specs.Buffer.{Put}
+use Rattle.common.proofs.Puts.{lent, given, Room, first-fits, ends-within, second-fits, both-fit, put-both}
 use Rattle.ledger.specs.Ledgers.{held}
 use Rattle.ledger.specs.declared.Ledger.{Ledger}
-use Rattle.shortest.specs.Putting.{Put}
-use Rattle.shortest.proofs.Puts.{lent, given, Room, first-fits, ends-within, second-fits, both-fit, put-both}
 use Rattle.text.specs.Lines.{lineOf, placed, itemsOf}
 use Rattle.text.specs.declared.Line.{Line}
 use Rattle.text.proofs.Placing.{items-placed}

@@ -8,11 +8,11 @@ use Rattle.ledger.specs.Ledgers.{mostRows}
 use Rattle.ledger.proofs.Facts.{parts}
 use Rattle.text.specs.Lines.{lineOf}
 use Rattle.text.proofs.Bounds.{line-bound}
-use Rattle.run.specs.Progressing.{onFault, begun, fed, endOf, runOf}
-use Rattle.run.specs.declared.Stage.{Stage}
-use Rattle.run.specs.declared.Stage.the-variants.{Empty, Running, Faulty}
-use Rattle.run.specs.declared.Progress.{Progress}
-use Rattle.run.proofs.Theorems.{run-ledger}
+use Rattle.replay.specs.Progressing.{onFault, begun, fed, finishOf, replayOf}
+use Rattle.replay.specs.declared.Stage.{Stage}
+use Rattle.replay.specs.declared.Stage.the-variants.{Empty, Running, Faulty}
+use Rattle.replay.specs.declared.Progress.{Progress}
+use Rattle.replay.proofs.Theorems.{run-ledger}
 use Rattle.report.specs.Rows.{faultLine}
 use Rattle.report.specs.Report.{ledgerText, textOf, reportOf, longestReport}
 use Rattle.report.proofs.Showing.{ledger-bound}
@@ -27,11 +27,11 @@ text-bound p places = go (p .stage)
     go Running = ledger-bound (p .ledger) places
     go (Faulty at) = omega (arith, line-bound (faultLine at))
 
-pub ended-bound : (p : Progress) (left : ℕ) → length (p .ledger .rows) ≡ mostRows → length (textOf (endOf p left)) ≤ longestReport
-unfolding endOf
-ended-bound p left places = text-bound (endOf p left) places
+pub ended-bound : (p : Progress) (left : ℕ) → length (p .ledger .rows) ≡ mostRows → length (textOf (finishOf p left)) ≤ longestReport
+unfolding finishOf
+ended-bound p left places = text-bound (finishOf p left) places
 
 -- THE BOUND, for every trace
 pub report-bound : (s : List ℕ) → length (reportOf s) ≤ longestReport
-unfolding reportOf runOf endOf
-report-bound s = text-bound (runOf s) (parts (fed begun s .soFar .ledger) (run-ledger s) .long)
+unfolding reportOf replayOf finishOf
+report-bound s = text-bound (replayOf s) (parts (fed begun s .soFar .ledger) (run-ledger s) .long)

@@ -4,14 +4,14 @@ use mathlib.Core.Path.{_≡_}
 use mathlib.Core.List.{List}
 use native.Mathlib.Omega.{arith}
 use lib.ListN.{length}
-use Rattle.integer.specs.Answer.{Leaves}
-use Rattle.shortest.specs.Putting.{Put}
-use Rattle.text.specs.Lines.{putOf, saying}
+use Rattle.common.specs.Answer.{Leaves}
+use Rattle.common.specs.Buffer.{Put}
+use Rattle.text.specs.Lines.{putText, toldPutting}
 use Rattle.text.specs.declared.Putting.{Putting}
 use Rattle.text.specs.declared.Putting.the-variants.{Done, TooShort}
 use Rattle.text.proofs.Outcomes.{done-is, short-is}
 
-module _ (text before : List ℕ) (r : Putting) {after : List ℕ} (w : Leaves (putOf text before) (saying r) after) where
+module _ (text before : List ℕ) (r : Putting) {after : List ℕ} (w : Leaves (putText text before) (toldPutting r) after) where
   -- it says so,
   pub was-put : {n : ℕ} → r ≡ Done n → Put text before n after
   was-put e = done-is text before (rw e at w) .1

@@ -7,12 +7,12 @@ use native.Mathlib.Numerals.{add-one}
 use native.Mathlib.Omega.{arith}
 use lib.ListN.{length, getD, take, drop, length-take, length-append, drop-of-length-le}
 use lib.Seq.{drop-cons, getD-take}
+use Rattle.common.proofs.PutLoop.{Next}
 use Rattle.row.specs.declared.Row.{Row}
 use Rattle.ledger.specs.Ledgers.{mostRows, held}
 use Rattle.ledger.specs.declared.Ledger.{Ledger}
 use Rattle.ledger.specs.declared.Session.{Session}
 use Rattle.ledger.specs.declared.Session.the-variants.{Open, Closed}
-use Rattle.shortest.proofs.Going.{Next}
 use Rattle.text.specs.Lines.{lineOf, longestLine, placed, itemsOf}
 use Rattle.text.specs.declared.Line.{Line}
 use Rattle.text.proofs.Placing.{items-placed}

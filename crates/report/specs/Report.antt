@@ -5,8 +5,8 @@ use Rattle.row.specs.declared.Row.{Row}
 use Rattle.ledger.specs.Ledgers.{mostRows, held}
 use Rattle.ledger.specs.declared.Ledger.{Ledger}
 use Rattle.text.specs.Lines.{lineOf, longestLine}
-use Rattle.run.specs.Progressing.{onFault, runOf}
-use Rattle.run.specs.declared.Progress.{Progress}
+use Rattle.replay.specs.Progressing.{onFault, replayOf}
+use Rattle.replay.specs.declared.Progress.{Progress}
 use Rattle.report.specs.Rows.{sessionLine, columnsLine, rowLine, faultLine}
 
 -- a line for each row, in their order
@@ -22,7 +22,7 @@ unfoldable pub textOf : Progress → List ℕ
 textOf p = onFault (p .stage) (λ at. lineOf (faultLine at)) (ledgerText (p .ledger))
 
 unfoldable pub reportOf : List ℕ → List ℕ
-reportOf s = textOf (runOf s)
+reportOf s = textOf (replayOf s)
 
 -- no report is longer: a line for the session, one for the columns, and one for each row
 abbrev pub longestReport : ℕ

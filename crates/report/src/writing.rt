@@ -2,11 +2,11 @@
 ghost use mathlib.Core.Path.{_≡_};
 ghost use Prim.Native.Nat.{_≤_, min};
 ghost use lib.ListN.{length};
-ghost use Rattle.integer.specs.Answer.{Leaves};
-ghost use Rattle.shortest.specs.Putting.{Put};
+ghost use Rattle.common.specs.Answer.{Leaves};
+ghost use Rattle.common.specs.Buffer.{Put};
 ghost use Rattle.ledger.specs.Ledgers.{mostRows, held};
-ghost use Rattle.text.specs.Lines.{itemsOf, lineOf, putOf, saying};
-ghost use Rattle.run.specs.Progressing.{endOf};
+ghost use Rattle.text.specs.Lines.{itemsOf, lineOf, putText, toldPutting};
+ghost use Rattle.replay.specs.Progressing.{finishOf};
 ghost use Rattle.report.specs.Report.{rowsText, ledgerText, textOf, reportOf};
 use crate::lines::columns_line;
 use crate::lines::fault_line;
@@ -14,8 +14,8 @@ use crate::lines::row_line;
 use crate::lines::session_line;
 use ledger::Ledger;
 use ledger::MOST_ROWS;
-use run::Progress;
-use run::Stage;
+use replay::Progress;
+use replay::Stage;
 use text::Line;
 use text::Putting;
 
@@ -100,7 +100,7 @@ fn put_ledger(out: &mut [u8], l: Ledger) -> usize
 
 // It is measured first, and only then put.
 fn write_ledger(out: &mut [u8], l: Ledger) -> Putting
-    ensures { λ r. ⌜ Leaves (putOf (ledgerText l) (now (out .entry))) (saying r) (now (out .exit)) ⌝ }
+    ensures { λ r. ⌜ Leaves (putText (ledgerText l) (now (out .entry))) (toldPutting r) (now (out .exit)) ⌝ }
 {
     if out.len() < measure_ledger(l) {
         return Putting::TooShort;
@@ -111,7 +111,7 @@ fn write_ledger(out: &mut [u8], l: Ledger) -> Putting
 // The report of a trace that was fed, with left bytes behind its last whole field; 7 where out is too short, and then nothing is
 // written.
 pub fn of_progress(p: Progress, left: usize, out: &mut [u8]) -> Putting
-    ensures { λ r. ⌜ Leaves (putOf (textOf (endOf p left)) (now (out .entry))) (saying r) (now (out .exit)) ⌝ }
+    ensures { λ r. ⌜ Leaves (putText (textOf (finishOf p left)) (now (out .entry))) (toldPutting r) (now (out .exit)) ⌝ }
 {
     let ended = p.finish(left);
     let stage = ended.stage;
@@ -124,9 +124,9 @@ pub fn of_progress(p: Progress, left: usize, out: &mut [u8]) -> Putting
 
 // The report of a whole trace.
 pub fn of_trace(s: &[u8], out: &mut [u8]) -> Putting
-    ensures { λ r. ⌜ Leaves (putOf (reportOf (now (s .entry))) (now (out .entry))) (saying r) (now (out .exit)) ⌝ }
+    ensures { λ r. ⌜ Leaves (putText (reportOf (now (s .entry))) (now (out .entry))) (toldPutting r) (now (out .exit)) ⌝ }
 {
-    let fed = run::begin().feed(s);
+    let fed = replay::begin().feed(s);
     let used = fed.used;
     let progress = fed.progress;
     of_progress(progress, s.len() - used, out)

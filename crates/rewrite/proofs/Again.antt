@@ -5,25 +5,25 @@ use mathlib.Core.Bool.{Bool, true}
 use mathlib.Core.List.{List, []}
 use lib.ListN.{length}
 use lib.Dec.{leb}
-use Rattle.integer.specs.Answer.{Answer, whole, refused, Written}
+use Rattle.common.specs.Answer.{Answer, whole, refused, Written}
+use Rattle.common.specs.Choice.{both}
 use Rattle.integer.specs.Integer.{greatest}
-use Rattle.field.specs.Outcome.{both}
 use Rattle.field.specs.Value.{mean}
 use Rattle.layout.specs.Allowed.{allowed}
 use Rattle.measure.specs.Measuring.{rightAll, sizedAll, encodeAll}
-use Rattle.shortest.specs.Writing.{writtenOf}
-use Rattle.message.specs.Types.{saidOf}
-use Rattle.message.specs.Reading.{longest, readOf}
+use Rattle.encode.specs.Writing.{writtenOf}
+use Rattle.message.specs.Types.{typedOf}
+use Rattle.message.specs.Reading.{longestBody, readOf}
 use Rattle.message.specs.Writing.{allowedOf, writeUpTo, writeOf}
 use Rattle.message.proofs.Theorems as messages
 use Rattle.header.specs.Layouts.{layoutOf, datagrams, streams, subgroupObject, fetchObject}
-use Rattle.header.specs.Told.{datagramSaid, streamSaid, subgroupObjectPieces, fetchObjectPieces}
+use Rattle.header.specs.Told.{datagramTyped, streamTyped, subgroupObjectPieces, fetchObjectPieces}
 use Rattle.header.specs.Reading.{datagramOf, streamOf, subgroupObjectOf, fetchObjectOf}
 use Rattle.header_writer.specs.Writing.{headerWritten, datagramWritten, streamWritten, subgroupObjectWritten, fetchObjectWritten}
 use Rattle.header.specs.declared.StreamHeader.{StreamHeader}
 use Rattle.header.specs.declared.StreamHeader.the-variants.{Subgroup, Fetch}
 use Rattle.header_writer.proofs.Theorems as headers
-use Rattle.rewrite.specs.Rewriting.{Doing, Does, rewriting, typeOf, noType, framedForm, typedForm, controlAgain, datagramAgain, streamAgain, subgroupObjectAgain, fetchObjectAgain}
+use Rattle.rewrite.specs.Rewriting.{Doing, Does, rewriting, typeIn, noType, framedForm, typedForm, controlAgain, datagramAgain, streamAgain, subgroupObjectAgain, fetchObjectAgain}
 use Rattle.rewrite.proofs.Ending.{by-room, Ends}
 use Rattle.rewrite.proofs.Ending as ending
 
@@ -58,24 +58,24 @@ module _ {A B : Type 0} {said : A → B} {readOf : List ℕ → Answer B} {write
 
 -- ---- each of the five
 
-pub control : Rewrites saidOf readOf writeOf framedForm typeOf controlAgain
+pub control : Rewrites typedOf readOf writeOf framedForm typeIn controlAgain
 unfolding controlAgain writeUpTo
 control =
     record {
       only-room = λ s m out e r. messages.only-room s m out e r;
-      isRight = λ s m. both (allowedOf m) (both (leb (saidOf m .type) greatest) (rightAll s (saidOf m .pieces)));
-      isSized = λ s m. sizedAll s (saidOf m .pieces);
-      isShort = λ s m. leb (length (encodeAll s (saidOf m .pieces))) longest;
+      isRight = λ s m. both (allowedOf m) (both (leb (typedOf m .type) greatest) (rightAll s (typedOf m .pieces)));
+      isSized = λ s m. sizedAll s (typedOf m .pieces);
+      isShort = λ s m. leb (length (encodeAll s (typedOf m .pieces))) longestBody;
       puts = λ s m out. refl;
       does = λ s out info. refl;
     }
 
-pub datagram : Rewrites datagramSaid datagramOf datagramWritten typedForm typeOf datagramAgain
+pub datagram : Rewrites datagramTyped datagramOf datagramWritten typedForm typeIn datagramAgain
 unfolding datagramAgain datagramWritten headerWritten
 datagram =
     record {
       only-room = headers.datagram-kept .only-room;
-      isRight = λ s d. both (allowed (layoutOf (datagrams (datagramSaid d .type))) (datagramSaid d .pieces)) (rightAll s (datagramSaid d .pieces));
+      isRight = λ s d. both (allowed (layoutOf (datagrams (datagramTyped d .type))) (datagramTyped d .pieces)) (rightAll s (datagramTyped d .pieces));
       isSized = λ s d. true;
       isShort = λ s d. true;
       puts = λ s d out. refl;
@@ -83,17 +83,17 @@ datagram =
     }
 
 -- numbers and bytes are the same over any bytes
-stream-anywhere : (s : List ℕ) (h : StreamHeader) → encodeAll [] (streamSaid h .pieces) ≡ encodeAll s (streamSaid h .pieces)
+stream-anywhere : (s : List ℕ) (h : StreamHeader) → encodeAll [] (streamTyped h .pieces) ≡ encodeAll s (streamTyped h .pieces)
 unfolding encodeAll mean
 stream-anywhere s (Subgroup h) = refl
 stream-anywhere s (Fetch id) = refl
 
-pub stream : Rewrites streamSaid streamOf (λ s h before. streamWritten h before) typedForm typeOf streamAgain
+pub stream : Rewrites streamTyped streamOf (λ s h before. streamWritten h before) typedForm typeIn streamAgain
 unfolding streamAgain streamWritten headerWritten
 stream =
     record {
       only-room = headers.stream-kept .only-room;
-      isRight = λ s h. both (allowed (layoutOf (streams (streamSaid h .type))) (streamSaid h .pieces)) (rightAll [] (streamSaid h .pieces));
+      isRight = λ s h. both (allowed (layoutOf (streams (streamTyped h .type))) (streamTyped h .pieces)) (rightAll [] (streamTyped h .pieces));
       isSized = λ s h. true;
       isShort = λ s h. true;
       puts = λ s h out. rw (stream-anywhere s h);

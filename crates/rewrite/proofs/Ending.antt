@@ -7,11 +7,12 @@ use native.Mathlib.Omega.{arith}
 use lib.ListN.{length}
 use lib.Dec.{leb}
 use borrow.Author.Tests.{le-leb, lt-leb}
-use Rattle.integer.specs.Answer.{pick, Answer, whole, refused, Nothing, wrote, Written, Leaves}
-use Rattle.integer.specs.Integer.{over}
-use Rattle.shortest.specs.Writing.{writtenOf}
+use Rattle.common.specs.Choice.{pick}
+use Rattle.common.specs.Answer.{Answer, whole, refused, Nothing, wrote, Written, Leaves}
+use Rattle.common.specs.Buffer.{over}
+use Rattle.encode.specs.Writing.{writtenOf}
 use Rattle.rewrite.specs.Rewriting.{Does, putting, rewriting}
-use Rattle.rewrite.specs.Telling.{endOf, toldIn}
+use Rattle.rewrite.specs.Ends.{endNumber, endInfo}
 
 -- ---- the writer
 
@@ -43,18 +44,18 @@ module _ {A : Type 0} {read : Answer A} (form : A → List ℕ) (type : A → �
 pub record Ends (w : Written) (used type : ℕ) (info : List ℕ) (n : ℕ) (after told : List ℕ) : Type 0 where
   pub said : Answer Nothing
   pub leaves : Leaves w said after
-  pub ends : n ≡ endOf said
-  pub tells : told ≡ toldIn said used type info
+  pub ends : n ≡ endNumber said
+  pub tells : told ≡ endInfo said used type info
 
 -- something was written, or there was no room
 room : (b : Bool) (bytes : List ℕ) (used type : ℕ) (out info : List ℕ) {n : ℕ} {after told : List ℕ}
     → Ends (pick b (record { says = wrote (length bytes); holds = over bytes out }) (record { says = refused 7; holds = out })) used type info n after told
     → Does (pick b (record { says = 0; out = over bytes out; info = over (used ∷ length bytes ∷ type ∷ []) info }) (record { says = 7; out = out; info = info })) n after told
-unfolding endOf toldIn
+unfolding endNumber endInfo
 room true bytes used type out info x =
-    record { says = x .ends ∙ ap endOf (x .leaves .says); leaves = x .leaves .holds; tells = x .tells ∙ ap (λ y. toldIn y used type info) (x .leaves .says) }
+    record { says = x .ends ∙ ap endNumber (x .leaves .says); leaves = x .leaves .holds; tells = x .tells ∙ ap (λ y. endInfo y used type info) (x .leaves .says) }
 room false bytes used type out info x =
-    record { says = x .ends ∙ ap endOf (x .leaves .says); leaves = x .leaves .holds; tells = x .tells ∙ ap (λ y. toldIn y used type info) (x .leaves .says) }
+    record { says = x .ends ∙ ap endNumber (x .leaves .says); leaves = x .leaves .holds; tells = x .tells ∙ ap (λ y. endInfo y used type info) (x .leaves .says) }
 
 -- `info` is long enough, and the writer was called
 pub writing : {A : Type 0} {read : Answer A} (form : A → List ℕ) (type : A → ℕ) (out info : List ℕ) {a : A} {used n : ℕ} {after told : List ℕ} → read ≡ whole a used → 3 ≤ length info

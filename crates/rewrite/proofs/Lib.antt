@@ -1,4 +1,4 @@
 pub mod Told
 pub mod Ending
 pub mod Again
-pub mod Once
+pub mod OneAnswer

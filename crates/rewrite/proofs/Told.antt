@@ -6,12 +6,12 @@ use native.Mathlib.Omega.{arith}
 use lib.ListN.{length, set}
 use denote.Enum.Declared.{tagOf}
 use types.Run.{OneOf, miss}
-use Rattle.integer.specs.Integer.{over}
-use Rattle.shortest.specs.Writing.{answering}
-use Rattle.shortest.proofs.Writing.{the-type}
-use Rattle.shortest.specs.declared.Writing.{Writing}
-use Rattle.shortest.specs.declared.Writing.the-variants.{Done, Forbidden, Oversize, TooLong, TooShort}
-use Rattle.rewrite.specs.Telling.{endOf, toldIn}
+use Rattle.common.specs.Buffer.{over}
+use Rattle.encode.specs.Writing.{toldWriting}
+use Rattle.encode.proofs.Writing.{the-type}
+use Rattle.encode.specs.declared.Writing.{Writing}
+use Rattle.encode.specs.declared.Writing.the-variants.{Done, Forbidden, Oversize, TooLong, TooShort}
+use Rattle.rewrite.specs.Ends.{endNumber, endInfo}
 
 -- three values at the front
 pub three : (info : List ℕ) (a b c : ℕ) → 3 ≤ length info → set (set (set info 0 a) 1 b) 2 c ≡ over (a ∷ b ∷ c ∷ []) info
@@ -21,8 +21,8 @@ three (x ∷ []) a b c h = absurd (omega (arith, h))
 three [] a b c h = absurd (omega (arith, h))
 
 -- nothing was written
-pub not-done : (w : Writing) (used type : ℕ) (info : List ℕ) → OneOf (1 ∷ 2 ∷ 3 ∷ 4 ∷ []) (tagOf the-type w) → (7 ≡ endOf (answering w)) × (info ≡ toldIn (answering w) used type info)
-unfolding endOf toldIn
+pub not-done : (w : Writing) (used type : ℕ) (info : List ℕ) → OneOf (1 ∷ 2 ∷ 3 ∷ 4 ∷ []) (tagOf the-type w) → (7 ≡ endNumber (toldWriting w)) × (info ≡ endInfo (toldWriting w) used type info)
+unfolding endNumber endInfo
 not-done (Done n) used type info h = absurd (miss (1 ∷ 2 ∷ 3 ∷ 4 ∷ []) 0 tt h)
 not-done Forbidden used type info h = (refl, refl)
 not-done Oversize used type info h = (refl, refl)

@@ -1,2 +1,2 @@
 pub mod Rewriting
-pub mod Telling
+pub mod Ends

@@ -5,12 +5,14 @@ use mathlib.Core.Path.{_≡_}
 use mathlib.Core.List.{List, [], _∷_, _++_}
 use lib.ListN.{length}
 use lib.Dec.{leb}
-use Rattle.integer.specs.Answer.{guard, Answer, whole, refused}
-use Rattle.integer.specs.Integer.{encOf, over}
+use Rattle.common.specs.Choice.{guard}
+use Rattle.common.specs.Answer.{Answer, whole, refused}
+use Rattle.common.specs.Buffer.{over}
+use Rattle.integer.specs.Integer.{encOf}
 use Rattle.field.specs.declared.Piece.{Piece}
 use Rattle.layout.specs.Typed.{Typed}
 use Rattle.measure.specs.Measuring.{encodeAll}
-use Rattle.shortest.specs.Writing.{frame}
+use Rattle.encode.specs.Writing.{frame}
 use Rattle.message.specs.Reading.{readOf}
 use Rattle.header.specs.Reading.{datagramOf, streamOf, subgroupObjectOf, fetchObjectOf}
 
@@ -37,8 +39,8 @@ rewriting (refused number) form type out info = refusing number out info
 
 -- ---- each of the five
 
-abbrev pub typeOf : Typed → ℕ
-typeOf t = t .type
+abbrev pub typeIn : Typed → ℕ
+typeIn t = t .type
 
 abbrev pub noType : List Piece → ℕ
 noType ps = 0
@@ -48,17 +50,17 @@ abbrev pub framedForm : List ℕ → Typed → List ℕ
 framedForm s t = frame (t .type) (encodeAll s (t .pieces))
 
 unfoldable pub controlAgain : List ℕ → List ℕ → List ℕ → Doing
-controlAgain s = rewriting (readOf s) (framedForm s) typeOf
+controlAgain s = rewriting (readOf s) (framedForm s) typeIn
 
 -- a header that has a type
 abbrev pub typedForm : List ℕ → Typed → List ℕ
 typedForm s t = encOf (t .type) ++ encodeAll s (t .pieces)
 
 unfoldable pub datagramAgain : List ℕ → List ℕ → List ℕ → Doing
-datagramAgain s = rewriting (datagramOf s) (typedForm s) typeOf
+datagramAgain s = rewriting (datagramOf s) (typedForm s) typeIn
 
 unfoldable pub streamAgain : List ℕ → List ℕ → List ℕ → Doing
-streamAgain s = rewriting (streamOf s) (typedForm s) typeOf
+streamAgain s = rewriting (streamOf s) (typedForm s) typeIn
 
 unfoldable pub subgroupObjectAgain : List ℕ → List ℕ → List ℕ → Doing
 subgroupObjectAgain s = rewriting (subgroupObjectOf s) (encodeAll s) noType

@@ -1,6 +1,6 @@
 // Data headers.
 ghost use mathlib.Core.Path.{_≡_};
-ghost use Rattle.header.specs.Told.{datagramSaid, streamSaid};
+ghost use Rattle.header.specs.Told.{datagramTyped, streamTyped};
 ghost use Rattle.rewrite.specs.Rewriting.{datagramAgain, streamAgain, subgroupObjectAgain, fetchObjectAgain, Does};
 use crate::telling::tell;
 use header::Datagram;
@@ -30,7 +30,7 @@ pub fn datagram(s: &[u8], out: &mut [u8], info: &mut [u64]) -> u8
 }
 
 fn datagram_type(d: Datagram) -> u64
-    ensures { λ r. ⌜ r ≡ datagramSaid d .type ⌝ }
+    ensures { λ r. ⌜ r ≡ datagramTyped d .type ⌝ }
 {
     match d {
         Datagram::Object(_) => 0x1,
@@ -57,7 +57,7 @@ pub fn stream(s: &[u8], out: &mut [u8], info: &mut [u64]) -> u8
 }
 
 fn stream_type(h: StreamHeader) -> u64
-    ensures { λ r. ⌜ r ≡ streamSaid h .type ⌝ }
+    ensures { λ r. ⌜ r ≡ streamTyped h .type ⌝ }
 {
     match h {
         StreamHeader::Subgroup(_) => 0x4,

@@ -4,10 +4,10 @@ use mathlib.Core.Path.{_≡_}
 use mathlib.Core.Bool.{true}
 use borrow.Author.Tests.{leb-true, le-leb}
 use lib.Dec.{leb}
-use Rattle.measure.proofs.Tests.{both-first, both-second}
+use Rattle.common.proofs.Tests.{both-first, both-second}
 use Rattle.row.specs.Places.{small}
 use Rattle.row.specs.Ranges.{smallRange}
-use Rattle.row.specs.Rows.{top, agree, suits, isRow}
+use Rattle.row.specs.Rows.{top, countAgrees, suits, isRow}
 use Rattle.row.specs.declared.Row.{Row}
 
 pub record IsRow (r : Row) : Type 0 where
@@ -15,7 +15,7 @@ pub record IsRow (r : Row) : Type 0 where
   pub alias : small (r .alias) ≡ true
   pub count : r .count ≤ top
   pub range : smallRange (r .range) ≡ true
-  pub agrees : agree (r .greatest) (r .count) ≡ true
+  pub agrees : countAgrees (r .greatest) (r .count) ≡ true
   pub suited : suits (r .state) (r .range) (r .count) ≡ true
 
 pub row-parts : (r : Row) → isRow r ≡ true → IsRow r
@@ -25,7 +25,7 @@ row-parts r e =
     let t₂ = small (r .alias) in
     let t₃ = leb (r .count) top in
     let t₄ = smallRange (r .range) in
-    let t₅ = agree (r .greatest) (r .count) in
+    let t₅ = countAgrees (r .greatest) (r .count) in
     let e₁ = both-second t₁ _ e in
     let e₂ = both-second t₂ _ e₁ in
     let e₃ = both-second t₃ _ e₂ in

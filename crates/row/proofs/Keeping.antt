@@ -5,14 +5,14 @@ use mathlib.Core.Bool.{Bool, true, false, not}
 use native.Mathlib.Omega.{arith}
 use borrow.Author.Tests.{ltb-true, ltb-false, ne-eqb}
 use lib.Dec.{ltb, eqb}
-use Rattle.integer.proofs.Cases.{pick-by}
+use Rattle.common.proofs.Cases.{pick-by}
+use Rattle.common.proofs.Tests.{both-first, both-second}
 use Rattle.field.specs.declared.Place.{Place}
 use Rattle.subscription.specs.declared.Content.{Content}
 use Rattle.subscription.specs.declared.Content.the-variants.{Nothing, Largest}
-use Rattle.measure.proofs.Tests.{both-first, both-second}
 use Rattle.row.specs.Places.{before, small, smallPlace}
 use Rattle.row.specs.Ranges.{inRange, isKnown, smallRange, latest, moved, settledOf}
-use Rattle.row.specs.Rows.{top, agree, suits, isRow, pendingRow, greater, risen, isPending, countedRow, AtRow, leaving, arriveOf, activeRow, breaksR6, openOf}
+use Rattle.row.specs.Rows.{top, countAgrees, suits, isRow, pendingRow, greater, risen, isPending, countedRow, AtRow, leaving, arriveOf, activeRow, breaksR6, openOf}
 use Rattle.row.specs.declared.State.{State}
 use Rattle.row.specs.declared.State.the-variants.{Pending, Active}
 use Rattle.row.specs.declared.Range.{Range}
@@ -25,7 +25,7 @@ use Rattle.row.proofs.Facts.{IsRow, row-parts, row-whole}
 -- ---- a pending row
 
 pub pending-is : (id alias : ℕ) (range : Range) → small id ≡ true → small alias ≡ true → smallRange range ≡ true → isRow (pendingRow id alias range) ≡ true
-unfolding isRow agree suits
+unfolding isRow countAgrees suits
 pending-is id alias range i a s = rw (i, a, s)
 
 -- ---- the row behind an arrival
@@ -67,14 +67,14 @@ risen-some : (n : ℕ) → risen n ≡ 0 → ⊥
 unfolding risen
 risen-some n = pick-by (λ (k : ℕ). k ≡ 0 → ⊥) (ltb n top) (λ _ z. omega arith) (λ e z. omega (arith, ltb-false n top e))
 
-greater-small : (g : Greatest) (n : ℕ) (place : Place) → agree g n ≡ true → smallPlace place ≡ true → smallPlace (greater g place) ≡ true
-unfolding greater agree
+greater-small : (g : Greatest) (n : ℕ) (place : Place) → countAgrees g n ≡ true → smallPlace place ≡ true → smallPlace (greater g place) ≡ true
+unfolding greater countAgrees
 greater-small Nowhere n place a s = s
 greater-small (At held) n place a s =
     pick-by (λ (p : Place). smallPlace p ≡ true) (before held place) (λ _. s) (λ _. both-second (not (eqb n 0)) (smallPlace held) a)
 
 counted-is : (place : Place) (r : Row) → smallPlace place ≡ true → IsRow r → r .state ≡ Active → IsRow (countedRow r place)
-unfolding countedRow agree suits
+unfolding countedRow countAgrees suits
 counted-is place r s w e =
     record {
       id = w .id;

@@ -3,5 +3,5 @@ pub mod Counts
 pub mod Endings
 pub mod Facts
 pub mod Keeping
-pub mod Once
+pub mod OneAnswer
 pub mod Ordering

@@ -6,8 +6,8 @@ use mathlib.Core.Logic.{_⊎_, inl, inr}
 use native.Mathlib.Omega.{arith}
 use borrow.Author.Tests.{ltb-true, ltb-false, eqb-true, eqb-false, lt-ltb, le-ltb, eq-eqb, ne-eqb}
 use lib.Dec.{eqb}
-use Rattle.integer.proofs.Cases.{pick-by}
-use Rattle.integer.specs.Answer.{pick}
+use Rattle.common.proofs.Cases.{pick-by}
+use Rattle.common.specs.Choice.{pick}
 use Rattle.field.specs.declared.Place.{Place}
 use Rattle.row.specs.Places.{before}
 use Rattle.row.specs.Rows.{greater}

@@ -2,9 +2,8 @@
 use Prim.Native.Nat.{ℕ}
 use mathlib.Core.Bool.{Bool}
 use lib.Dec.{leb, ltb, eqb}
-use Rattle.integer.specs.Answer.{pick}
+use Rattle.common.specs.Choice.{pick, both}
 use Rattle.integer.specs.Integer.{greatest}
-use Rattle.field.specs.Outcome.{both}
 use Rattle.field.specs.declared.Place.{Place}
 
 -- whether a place stands before another

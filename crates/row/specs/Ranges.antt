@@ -2,8 +2,7 @@
 use Prim.Native.Nat.{ℕ}
 use mathlib.Core.Bool.{Bool, true, false, not}
 use lib.Dec.{leb, ltb}
-use Rattle.integer.specs.Answer.{pick}
-use Rattle.field.specs.Outcome.{both}
+use Rattle.common.specs.Choice.{pick, both}
 use Rattle.field.specs.declared.Place.{Place}
 use Rattle.subscription.specs.declared.Filter.{Filter}
 use Rattle.subscription.specs.declared.Filter.the-variants.{Latest, From, Range as Until}

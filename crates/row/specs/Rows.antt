@@ -2,8 +2,7 @@
 use Prim.Native.Nat.{ℕ, _+_}
 use mathlib.Core.Bool.{Bool, true, false, not}
 use lib.Dec.{leb, ltb, eqb}
-use Rattle.integer.specs.Answer.{guard, pick}
-use Rattle.field.specs.Outcome.{both}
+use Rattle.common.specs.Choice.{guard, pick, both}
 use Rattle.field.specs.declared.Place.{Place}
 use Rattle.subscription.specs.declared.Content.{Content}
 use Rattle.row.specs.Places.{before, small, smallPlace}
@@ -29,9 +28,9 @@ abbrev pub top : ℕ
 top = 4_294_967_295
 
 -- "count is 0 exactly when no place is held"
-unfoldable pub agree : Greatest → ℕ → Bool
-agree Nowhere count = eqb count 0
-agree (At place) count = both (not (eqb count 0)) (smallPlace place)
+unfoldable pub countAgrees : Greatest → ℕ → Bool
+countAgrees Nowhere count = eqb count 0
+countAgrees (At place) count = both (not (eqb count 0)) (smallPlace place)
 
 -- "a pending row has count 0; an active row's range is known"
 unfoldable pub suits : State → Range → ℕ → Bool
@@ -44,7 +43,7 @@ isRow r =
     both (small (r .id))
     (both (small (r .alias))
     (both (leb (r .count) top)
-    (both (smallRange (r .range)) (both (agree (r .greatest) (r .count)) (suits (r .state) (r .range) (r .count))))))
+    (both (smallRange (r .range)) (both (countAgrees (r .greatest) (r .count)) (suits (r .state) (r .range) (r .count))))))
 
 -- "unused rows are pending, without range or place, all numbers 0"
 abbrev pub unusedRow : Row

@@ -1,6 +1,6 @@
 // What a row is, and what becomes of it.
 ghost use mathlib.Core.Path.{_≡_};
-ghost use Rattle.row.specs.Rows.{agree, suits, isRow, unusedRow, isPending, isNowhere, isUnused, pendingRow, greater, risen, countedRow, arriveOf, openOf, mayEnd, toldArriving, toldOpening};
+ghost use Rattle.row.specs.Rows.{countAgrees, suits, isRow, unusedRow, isPending, isNowhere, isUnused, pendingRow, greater, risen, countedRow, arriveOf, openOf, mayEnd, toldArriving, toldOpening};
 use crate::Arriving;
 use crate::Ending;
 use crate::Greatest;
@@ -22,7 +22,7 @@ use subscription::Content;
 
 // A count is 0 exactly when no place is held.
 fn do_agree(g: Greatest, count: u64) -> bool
-    ensures { λ r. ⌜ r ≡ agree g count ⌝ }
+    ensures { λ r. ⌜ r ≡ countAgrees g count ⌝ }
 {
     match g {
         Greatest::Nowhere => count == 0,

@@ -1,17 +1,17 @@
 -- The message that a type and fields say. Made of any fields that the layout of its type reads, it says them. Assumes nothing.
 use mathlib.Core.Path.{_≡_, refl}
 use lib.Dec.{eqb}
-use Rattle.integer.specs.Answer.{pick}
-use Rattle.layout.specs.Parts.{numberIn, bytesIn, entriesIn}
+use Rattle.common.specs.Choice.{pick}
+use Rattle.layout.proofs.Parts.{numberIn, bytesIn, entriesIn}
 use Rattle.layout.specs.Typed.{Typed}
 use Rattle.layout.specs.Layout.{parameters}
 use Rattle.layout.proofs.Every.{Every}
-use Rattle.types.specs.Table.{ofRow, «CLIENT_SETUP», «SERVER_SETUP»}
+use Rattle.types.specs.Table.{typedAs, «CLIENT_SETUP», «SERVER_SETUP»}
 use Rattle.types.specs.Sessions.{clientSetup, serverSetup, goAway}
 use Rattle.session.specs.declared.SessionMessage.{SessionMessage}
 use Rattle.session.specs.declared.SessionMessage.the-variants.{ClientSetup, ServerSetup, GoAway}
-use Rattle.session.specs.Kinds.{rowOf}
-use Rattle.session.specs.Told.{saidOf}
+use Rattle.session.specs.Kinds.{typeRow}
+use Rattle.session.specs.Told.{typedOf}
 use Rattle.session.specs.declared.kinds.SessionKind.{SessionKind}
 use Rattle.session.specs.declared.kinds.SessionKind.the-variants as kinds
 
@@ -23,8 +23,8 @@ messageOf t =
     (GoAway (bytesIn ps 0)))
 
 -- whatever fields the layout of a kind reads, the message that is made of them says them
-pub made-says : (k : SessionKind) → Every (rowOf k .layout) (λ ps. saidOf (messageOf (ofRow (rowOf k) ps)) ≡ ofRow (rowOf k) ps)
-unfolding rowOf messageOf parameters clientSetup serverSetup goAway
+pub made-says : (k : SessionKind) → Every (typeRow k .layout) (λ ps. typedOf (messageOf (typedAs (typeRow k) ps)) ≡ typedAs (typeRow k) ps)
+unfolding typeRow messageOf parameters clientSetup serverSetup goAway
 made-says kinds.ClientSetup = λ versions ps. refl
 made-says kinds.ServerSetup = λ version ps. refl
 made-says kinds.GoAway = λ uri. refl

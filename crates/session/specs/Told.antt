@@ -5,7 +5,7 @@ use Rattle.field.specs.declared.Kind.the-variants.{Parameters, Versions}
 use Rattle.field.specs.declared.Piece.{Piece}
 use Rattle.field.specs.declared.Piece.the-variants.{Number, Bytes, List as Listing}
 use Rattle.layout.specs.Typed.{Typed}
-use Rattle.types.specs.Table.{ofRow, «CLIENT_SETUP», «SERVER_SETUP», GOAWAY}
+use Rattle.types.specs.Table.{typedAs, «CLIENT_SETUP», «SERVER_SETUP», GOAWAY}
 use Rattle.session.specs.declared.ClientSetup.{ClientSetup}
 use Rattle.session.specs.declared.ServerSetup.{ServerSetup}
 use Rattle.session.specs.declared.SessionMessage.{SessionMessage}
@@ -19,11 +19,11 @@ clientPieces m = Listing Versions (m .versions) ∷ Listing Parameters (m .param
 abbrev pub serverPieces : ServerSetup → List Piece
 serverPieces m = Number (m .version) ∷ Listing Parameters (m .parameters) ∷ []
 
-abbrev pub saidOf : SessionMessage → Typed
-saidOf (AClientSetup m) = ofRow «CLIENT_SETUP» (clientPieces m)
-saidOf (AServerSetup m) = ofRow «SERVER_SETUP» (serverPieces m)
-saidOf (AGoAway uri) = ofRow GOAWAY (Bytes uri ∷ [])
+abbrev pub typedOf : SessionMessage → Typed
+typedOf (AClientSetup m) = typedAs «CLIENT_SETUP» (clientPieces m)
+typedOf (AServerSetup m) = typedAs «SERVER_SETUP» (serverPieces m)
+typedOf (AGoAway uri) = typedAs GOAWAY (Bytes uri ∷ [])
 
 abbrev pub told : SessionRead → Outcome Typed
-told (Whole m end) = whole (saidOf m) end
+told (Whole m end) = whole (typedOf m) end
 told (No fault) = no fault

@@ -1,7 +1,7 @@
 // A message as its fields, in the order of its layout.
 ghost use mathlib.Core.Path.{_≡_};
 ghost use Rattle.measure.specs.Fields.{placed};
-ghost use Rattle.session.specs.Told.{saidOf};
+ghost use Rattle.session.specs.Told.{typedOf};
 use crate::SessionMessage;
 use field::Kind;
 use field::Piece;
@@ -10,7 +10,7 @@ use measure::places;
 
 // The number of its type.
 pub fn number(m: SessionMessage) -> u64
-    ensures { λ r. ⌜ r ≡ saidOf m .type ⌝ }
+    ensures { λ r. ⌜ r ≡ typedOf m .type ⌝ }
 {
     match m {
         SessionMessage::ClientSetup(_) => 0x40,
@@ -20,7 +20,7 @@ pub fn number(m: SessionMessage) -> u64
 }
 
 pub fn fields(m: SessionMessage) -> Fields
-    ensures { λ r. ⌜ r ≡ placed (saidOf m) ⌝ }
+    ensures { λ r. ⌜ r ≡ placed (typedOf m) ⌝ }
 {
     let kind = number(m);
     match m {

@@ -14,8 +14,8 @@ use Rattle.layout.specs.Allowed.{allowed}
 use Rattle.layout.proofs.Allowed.{test-alone}
 use Rattle.types.specs.Rules.{endsAfter}
 use Rattle.types.specs.Subscriptions.{ending, filter, delivery, subscribe, content, subscribeOk}
-use Rattle.subscription.specs.Kinds.{rowOf, layoutOf, kindOf}
-use Rattle.subscription.specs.Told.{filterPieces, contentPieces, subscribePieces, saidOf}
+use Rattle.subscription.specs.Kinds.{typeRow, layoutOf, kindOf}
+use Rattle.subscription.specs.Told.{filterPieces, contentPieces, subscribePieces, typedOf}
 use Rattle.subscription.specs.declared.Content.{Content}
 use Rattle.subscription.specs.declared.Content.the-variants.{Nothing, Largest}
 use Rattle.subscription.specs.declared.Filter.{Filter}
@@ -54,8 +54,8 @@ content-any (Largest p) e = refl
 
 -- what its layout allows
 abbrev pub judged : SubscriptionMessage → Bool
-judged m = allowed (layoutOf (kindOf m)) (saidOf m .pieces)
+judged m = allowed (layoutOf (kindOf m)) (typedOf m .pieces)
 
 pub ok-is : {m : SubscriptionMessage} {x : SubscribeOk} {a : Bool} → m ≡ ASubscribeOk x → a ≡ givable (x .order) → a ≡ judged m
-unfolding allowed subscribeOk rowOf
+unfolding allowed subscribeOk typeRow
 ok-is {x = x} which h = rw (which, content-any (x .content) (x .parameters), test-alone (givable (x .order))) h

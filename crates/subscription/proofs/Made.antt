@@ -4,14 +4,14 @@ use mathlib.Core.Path.{_≡_, refl}
 use mathlib.Core.List.{List}
 use borrow.Author.Tests.{eqb-true}
 use lib.Dec.{eqb}
-use Rattle.integer.specs.Answer.{pick}
+use Rattle.common.specs.Choice.{pick}
 use Rattle.field.specs.declared.Piece.{Piece}
-use Rattle.layout.specs.Parts.{numberIn, trackIn, bytesIn, entriesIn, placeIn, failureIn}
+use Rattle.layout.proofs.Parts.{numberIn, trackIn, bytesIn, entriesIn, placeIn, failureIn}
 use Rattle.layout.specs.Typed.{Typed}
 use Rattle.layout.specs.Layout.{place, failure, parameters}
 use Rattle.layout.proofs.Every.{Every}
-use Rattle.types.specs.Table.{ofRow, «MAX_SUBSCRIBE_ID», SUBSCRIBE, «SUBSCRIBE_OK», «SUBSCRIBE_ERROR», UNSUBSCRIBE, «SUBSCRIBE_UPDATE», «SUBSCRIBE_DONE»}
-use Rattle.types.specs.Subscriptions.{subscribeUpdate, ending, filter, delivery, subscribe, content, subscribeOk, subscribeError, subscribeDone, only}
+use Rattle.types.specs.Table.{typedAs, «MAX_SUBSCRIBE_ID», SUBSCRIBE, «SUBSCRIBE_OK», «SUBSCRIBE_ERROR», UNSUBSCRIBE, «SUBSCRIBE_UPDATE», «SUBSCRIBE_DONE»}
+use Rattle.types.specs.Subscriptions.{subscribeUpdate, ending, filter, delivery, subscribe, content, subscribeOk, subscribeError, subscribeDone, idOnly}
 use Rattle.subscription.specs.declared.Filter.{Filter}
 use Rattle.subscription.specs.declared.Filter.the-variants.{Latest, From, Range}
 use Rattle.subscription.specs.declared.Content.{Content}
@@ -20,8 +20,8 @@ use Rattle.subscription.specs.declared.Subscribe.{Subscribe}
 use Rattle.subscription.specs.declared.SubscribeOk.{SubscribeOk}
 use Rattle.subscription.specs.declared.SubscriptionMessage.{SubscriptionMessage}
 use Rattle.subscription.specs.declared.SubscriptionMessage.the-variants.{SubscribeUpdate as ASubscribeUpdate, Subscribe as ASubscribe, SubscribeOk as ASubscribeOk, SubscribeError as ASubscribeError, Unsubscribe as AUnsubscribe, SubscribeDone as ASubscribeDone, MaxSubscribeId as AMaxSubscribeId, SubscribesBlocked as ASubscribesBlocked}
-use Rattle.subscription.specs.Kinds.{rowOf}
-use Rattle.subscription.specs.Told.{saidOf}
+use Rattle.subscription.specs.Kinds.{typeRow}
+use Rattle.subscription.specs.Told.{typedOf}
 use Rattle.subscription.specs.declared.kinds.SubscriptionKind.{SubscriptionKind}
 use Rattle.subscription.specs.declared.kinds.SubscriptionKind.the-variants as kinds
 
@@ -58,8 +58,8 @@ unfoldable pub messageOf : Typed → SubscriptionMessage
 messageOf t = messageIn (t .pieces) (t .type)
 
 -- whatever fields the layout of a kind reads, the message that is made of them says them
-pub made-says : (k : SubscriptionKind) → Every (rowOf k .layout) (λ ps. saidOf (messageOf (ofRow (rowOf k) ps)) ≡ ofRow (rowOf k) ps)
-unfolding rowOf messageOf place failure parameters subscribeUpdate ending filter delivery subscribe content subscribeOk subscribeError subscribeDone only
+pub made-says : (k : SubscriptionKind) → Every (typeRow k .layout) (λ ps. typedOf (messageOf (typedAs (typeRow k) ps)) ≡ typedAs (typeRow k) ps)
+unfolding typeRow messageOf place failure parameters subscribeUpdate ending filter delivery subscribe content subscribeOk subscribeError subscribeDone idOnly
 made-says kinds.SubscribeUpdate = λ id group object endGroup priority ps. refl
 made-says kinds.Subscribe =
     λ id alias track priority order. (

@@ -1,28 +1,28 @@
 -- The kinds of message, and the row of the table that each stands in.
 use Prim.Native.Nat.{ℕ}
 use Rattle.layout.specs.Layout.{Layout}
-use Rattle.types.specs.Table.{Row, «MAX_SUBSCRIBE_ID», «SUBSCRIBES_BLOCKED», SUBSCRIBE, «SUBSCRIBE_OK», «SUBSCRIBE_ERROR», UNSUBSCRIBE, «SUBSCRIBE_UPDATE», «SUBSCRIBE_DONE»}
+use Rattle.types.specs.Table.{TypeRow, «MAX_SUBSCRIBE_ID», «SUBSCRIBES_BLOCKED», SUBSCRIBE, «SUBSCRIBE_OK», «SUBSCRIBE_ERROR», UNSUBSCRIBE, «SUBSCRIBE_UPDATE», «SUBSCRIBE_DONE»}
 use Rattle.subscription.specs.declared.kinds.SubscriptionKind.{SubscriptionKind}
 use Rattle.subscription.specs.declared.kinds.SubscriptionKind.the-variants.{SubscribeUpdate, Subscribe, SubscribeOk, SubscribeError, Unsubscribe, SubscribeDone, MaxSubscribeId, SubscribesBlocked}
 use Rattle.subscription.specs.declared.SubscriptionMessage.{SubscriptionMessage}
 use Rattle.subscription.specs.declared.SubscriptionMessage.the-variants.{SubscribeUpdate as ASubscribeUpdate, Subscribe as ASubscribe, SubscribeOk as ASubscribeOk, SubscribeError as ASubscribeError, Unsubscribe as AUnsubscribe, SubscribeDone as ASubscribeDone, MaxSubscribeId as AMaxSubscribeId, SubscribesBlocked as ASubscribesBlocked}
 
-unfoldable pub rowOf : SubscriptionKind → Row
-rowOf SubscribeUpdate = «SUBSCRIBE_UPDATE»
-rowOf Subscribe = SUBSCRIBE
-rowOf SubscribeOk = «SUBSCRIBE_OK»
-rowOf SubscribeError = «SUBSCRIBE_ERROR»
-rowOf Unsubscribe = UNSUBSCRIBE
-rowOf SubscribeDone = «SUBSCRIBE_DONE»
-rowOf MaxSubscribeId = «MAX_SUBSCRIBE_ID»
-rowOf SubscribesBlocked = «SUBSCRIBES_BLOCKED»
+unfoldable pub typeRow : SubscriptionKind → TypeRow
+typeRow SubscribeUpdate = «SUBSCRIBE_UPDATE»
+typeRow Subscribe = SUBSCRIBE
+typeRow SubscribeOk = «SUBSCRIBE_OK»
+typeRow SubscribeError = «SUBSCRIBE_ERROR»
+typeRow Unsubscribe = UNSUBSCRIBE
+typeRow SubscribeDone = «SUBSCRIBE_DONE»
+typeRow MaxSubscribeId = «MAX_SUBSCRIBE_ID»
+typeRow SubscribesBlocked = «SUBSCRIBES_BLOCKED»
 
 -- its number, and the layout of its body
 abbrev pub numberOf : SubscriptionKind → ℕ
-numberOf kind = rowOf kind .number
+numberOf kind = typeRow kind .number
 
 abbrev pub layoutOf : SubscriptionKind → Layout
-layoutOf kind = rowOf kind .layout
+layoutOf kind = typeRow kind .layout
 
 -- the kind that a message is of
 abbrev pub kindOf : SubscriptionMessage → SubscriptionKind

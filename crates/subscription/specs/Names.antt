@@ -5,12 +5,12 @@ use Rattle.subscription.specs.declared.SubscriptionMessage.{Subscription
 use Rattle.subscription.specs.declared.SubscriptionMessage.the-variants.{SubscribeUpdate, Subscribe, SubscribeOk, SubscribeError, Unsubscribe, SubscribeDone, MaxSubscribeId, SubscribesBlocked}
 
 -- SUBSCRIBE names one
-abbrev pub nameOf : SubscriptionMessage → Span
-nameOf (SubscribeUpdate m) = nowhere
-nameOf (Subscribe m) = m .track .name
-nameOf (SubscribeOk m) = nowhere
-nameOf (SubscribeError m) = nowhere
-nameOf (Unsubscribe id) = nowhere
-nameOf (SubscribeDone m) = nowhere
-nameOf (MaxSubscribeId id) = nowhere
-nameOf (SubscribesBlocked id) = nowhere
+abbrev pub nameSpan : SubscriptionMessage → Span
+nameSpan (SubscribeUpdate m) = nowhere
+nameSpan (Subscribe m) = m .track .name
+nameSpan (SubscribeOk m) = nowhere
+nameSpan (SubscribeError m) = nowhere
+nameSpan (Unsubscribe id) = nowhere
+nameSpan (SubscribeDone m) = nowhere
+nameSpan (MaxSubscribeId id) = nowhere
+nameSpan (SubscribesBlocked id) = nowhere

@@ -5,7 +5,7 @@ use Rattle.field.specs.declared.Kind.the-variants.{Parameters}
 use Rattle.field.specs.declared.Piece.{Piece}
 use Rattle.field.specs.declared.Piece.the-variants.{Number, Byte, Bytes, List as Listing, Track as Tracked}
 use Rattle.layout.specs.Typed.{Typed}
-use Rattle.types.specs.Table.{ofRow, «MAX_SUBSCRIBE_ID», «SUBSCRIBES_BLOCKED», SUBSCRIBE, «SUBSCRIBE_OK», «SUBSCRIBE_ERROR», UNSUBSCRIBE, «SUBSCRIBE_UPDATE», «SUBSCRIBE_DONE»}
+use Rattle.types.specs.Table.{typedAs, «MAX_SUBSCRIBE_ID», «SUBSCRIBES_BLOCKED», SUBSCRIBE, «SUBSCRIBE_OK», «SUBSCRIBE_ERROR», UNSUBSCRIBE, «SUBSCRIBE_UPDATE», «SUBSCRIBE_DONE»}
 use Rattle.subscription.specs.declared.parameters.Head.{Head}
 use Rattle.subscription.specs.declared.parameters.Granted.{Granted}
 use Rattle.subscription.specs.declared.parameters.Front.{Front}
@@ -66,25 +66,25 @@ updatePieces m =
 abbrev pub donePieces : SubscribeDone → List Piece
 donePieces m = Number (m .id) ∷ Number (m .status) ∷ Number (m .streams) ∷ Bytes (m .reason) ∷ []
 
-abbrev pub saidOf : SubscriptionMessage → Typed
-saidOf (ASubscribeUpdate m) = ofRow «SUBSCRIBE_UPDATE» (updatePieces m)
-saidOf (ASubscribe m) = ofRow SUBSCRIBE (subscribePieces m)
-saidOf (ASubscribeOk m) = ofRow «SUBSCRIBE_OK» (okPieces m)
-saidOf (ASubscribeError m) = ofRow «SUBSCRIBE_ERROR» (errorPieces m)
-saidOf (AUnsubscribe id) = ofRow UNSUBSCRIBE (Number id ∷ [])
-saidOf (ASubscribeDone m) = ofRow «SUBSCRIBE_DONE» (donePieces m)
-saidOf (AMaxSubscribeId id) = ofRow «MAX_SUBSCRIBE_ID» (Number id ∷ [])
-saidOf (ASubscribesBlocked id) = ofRow «SUBSCRIBES_BLOCKED» (Number id ∷ [])
+abbrev pub typedOf : SubscriptionMessage → Typed
+typedOf (ASubscribeUpdate m) = typedAs «SUBSCRIBE_UPDATE» (updatePieces m)
+typedOf (ASubscribe m) = typedAs SUBSCRIBE (subscribePieces m)
+typedOf (ASubscribeOk m) = typedAs «SUBSCRIBE_OK» (okPieces m)
+typedOf (ASubscribeError m) = typedAs «SUBSCRIBE_ERROR» (errorPieces m)
+typedOf (AUnsubscribe id) = typedAs UNSUBSCRIBE (Number id ∷ [])
+typedOf (ASubscribeDone m) = typedAs «SUBSCRIBE_DONE» (donePieces m)
+typedOf (AMaxSubscribeId id) = typedAs «MAX_SUBSCRIBE_ID» (Number id ∷ [])
+typedOf (ASubscribesBlocked id) = typedAs «SUBSCRIBES_BLOCKED» (Number id ∷ [])
 
 abbrev pub told : SubscriptionRead → Outcome Typed
-told (Whole m end) = whole (saidOf m) end
+told (Whole m end) = whole (typedOf m) end
 told (No fault) = no fault
 
 -- ---- what a reader hands on: what stands before the parameters
 
 abbrev pub frontOf : Front → Typed
 frontOf (FrontOfUpdate id start endGroup priority) =
-    ofRow «SUBSCRIBE_UPDATE»
+    typedAs «SUBSCRIBE_UPDATE»
     (Number id ∷ Number (start .group) ∷ Number (start .object) ∷ Number endGroup ∷ Byte priority ∷ [])
-frontOf (FrontOfSubscribe head filter) = ofRow SUBSCRIBE (headPieces head ++ filterPieces filter)
-frontOf (FrontOfOk granted content) = ofRow «SUBSCRIBE_OK» (grantedPieces granted ++ contentPieces content)
+frontOf (FrontOfSubscribe head filter) = typedAs SUBSCRIBE (headPieces head ++ filterPieces filter)
+frontOf (FrontOfOk granted content) = typedAs «SUBSCRIBE_OK» (grantedPieces granted ++ contentPieces content)

@@ -5,7 +5,7 @@ ghost use Rattle.field.specs.declared.Kind.the-variants.{Parameters};
 ghost use Rattle.field.specs.declared.Piece.the-variants.{List as Listing};
 ghost use Rattle.layout.specs.Layout.{scan, parameters};
 ghost use Rattle.layout.specs.Typed.{led, typed};
-ghost use Rattle.subscription.specs.Told.{frontOf, saidOf, told};
+ghost use Rattle.subscription.specs.Told.{frontOf, typedOf, told};
 use crate::Content;
 use crate::Filter;
 use crate::Subscribe;
@@ -53,7 +53,7 @@ pub fn read_parameters(s: &[u8], at: usize, front: Front) -> Answer
 
 // The message, with its parameters.
 fn complete(front: Front, parameters: Entries) -> Message
-    ensures { λ r. ⌜ saidOf r ≡ record { type = frontOf front .type; pieces = frontOf front .pieces ++ Listing Parameters parameters ∷ [] } ⌝ }
+    ensures { λ r. ⌜ typedOf r ≡ record { type = frontOf front .type; pieces = frontOf front .pieces ++ Listing Parameters parameters ∷ [] } ⌝ }
 {
     match front {
         Front::SubscribeUpdate(id, start, end_group, priority) => {

@@ -4,7 +4,7 @@ ghost use Rattle.layout.specs.Allowed.{allowed};
 ghost use Rattle.measure.specs.Fields.{placed};
 ghost use Rattle.types.specs.Subscriptions.{subscribe};
 ghost use Rattle.subscription.specs.Kinds.{layoutOf, kindOf};
-ghost use Rattle.subscription.specs.Told.{subscribePieces, okPieces, updatePieces, saidOf};
+ghost use Rattle.subscription.specs.Told.{subscribePieces, okPieces, updatePieces, typedOf};
 use crate::Content;
 use crate::Filter;
 use crate::Subscribe;
@@ -19,7 +19,7 @@ use measure::places;
 
 // The number of its type.
 pub fn number(m: SubscriptionMessage) -> u64
-    ensures { λ r. ⌜ r ≡ saidOf m .type ⌝ }
+    ensures { λ r. ⌜ r ≡ typedOf m .type ⌝ }
 {
     match m {
         SubscriptionMessage::SubscribeUpdate(_) => 0x2,
@@ -34,7 +34,7 @@ pub fn number(m: SubscriptionMessage) -> u64
 }
 
 pub fn fields(m: SubscriptionMessage) -> Fields
-    ensures { λ r. ⌜ r ≡ placed (saidOf m) ⌝ }
+    ensures { λ r. ⌜ r ≡ placed (typedOf m) ⌝ }
 {
     let kind = number(m);
     match m {
@@ -155,7 +155,7 @@ fn ok_fields(kind: u64, x: SubscribeOk) -> Fields
 
 // Whether a message holds no value that its layout forbids.
 pub fn is_allowed(m: SubscriptionMessage) -> bool
-    ensures { λ r. ⌜ r ≡ allowed (layoutOf (kindOf m)) (saidOf m .pieces) ⌝ }
+    ensures { λ r. ⌜ r ≡ allowed (layoutOf (kindOf m)) (typedOf m .pieces) ⌝ }
 {
     match m {
         SubscriptionMessage::SubscribeUpdate(_) => true,

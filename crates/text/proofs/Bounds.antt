@@ -8,10 +8,10 @@ use native.Mathlib.Omega.{arith}
 use borrow.Author.Tests.{leb-true}
 use lib.Dec.{leb, eqb, lit≤}
 use lib.ListN.{length, length-append}
-use Rattle.integer.specs.Answer.{pick}
-use Rattle.integer.proofs.Cases.{pick-by}
+use Rattle.common.specs.Choice.{pick}
+use Rattle.common.proofs.Cases.{pick-by}
 use Rattle.types.specs.Letters.{letters}
-use Rattle.types.specs.Table.{Row, Listed, onListed, messages, rowIn, rowOf, nameOf}
+use Rattle.types.specs.Table.{TypeRow, InTable, onListed, messages, typeRowIn, typeRowOf, nameOf}
 use Rattle.text.specs.Decimals.{decimalOf}
 use Rattle.text.specs.Words.{wordOf}
 use Rattle.text.specs.Lines.{itemOf, endedOf, isNone, lineOf, longestLine, itemsOf}
@@ -46,23 +46,23 @@ word-bound Malformed = lit≤ tt
 word-bound Arrival = lit≤ tt
 
 -- every name of a table takes so many bytes at most
-areWithin : ℕ → List Row → Bool
+areWithin : ℕ → List TypeRow → Bool
 areWithin n [] = true
 areWithin n (row ∷ rows) = pick (leb (length (letters (row .name))) n) (areWithin n rows) false
 
-nameIn : Listed → List ℕ
+nameIn : InTable → List ℕ
 nameIn l = onListed l (λ r. letters (r .name)) []
 
-within : (n : ℕ) (rows : List Row) (type : ℕ) → areWithin n rows ≡ true → length (nameIn (rowIn rows type)) ≤ n
-unfolding areWithin nameIn rowIn
+within : (n : ℕ) (rows : List TypeRow) (type : ℕ) → areWithin n rows ≡ true → length (nameIn (typeRowIn rows type)) ≤ n
+unfolding areWithin nameIn typeRowIn
 within n [] type = λ h. omega arith
 within n (row ∷ rows) type =
-    pick-by (λ (t : Bool). t ≡ true → length (nameIn (rowIn (row ∷ rows) type)) ≤ n) (leb (length (letters (row .name))) n)
-    (λ e h. pick-by (λ (l : Listed). length (nameIn l) ≤ n) (eqb type (row .number)) (λ t. leb-true (length (letters (row .name))) n e) (λ t. within n rows type h))
+    pick-by (λ (t : Bool). t ≡ true → length (nameIn (typeRowIn (row ∷ rows) type)) ≤ n) (leb (length (letters (row .name))) n)
+    (λ e h. pick-by (λ (l : InTable). length (nameIn l) ≤ n) (eqb type (row .number)) (λ t. leb-true (length (letters (row .name))) n e) (λ t. within n rows type h))
     (λ e h. absurd (let z : _≡_ {A = ℕ} 0 1 = cc in omega arith))
 
 pub name-bound : (type : ℕ) → length (nameOf type) ≤ 25
-unfolding nameOf rowOf messages nameIn areWithin letters
+unfolding nameOf typeRowOf messages nameIn areWithin letters
 name-bound type = within 25 messages type refl
 
 -- so no item is longer than the columns,

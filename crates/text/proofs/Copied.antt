@@ -7,7 +7,7 @@ use native.Mathlib.Numerals.{add-one}
 use native.Mathlib.Omega.{arith}
 use lib.ListN.{length, getD, set, take, drop}
 use lib.Seq.{paste-suc, take-length}
-use Rattle.shortest.specs.Putting.{Put}
+use Rattle.common.specs.Buffer.{Put}
 
 module _ (before s : List ℕ) {out : List ℕ} (i : ℕ) (e : out ≡ take i s ++ drop i before) where
   -- a turn of the loop

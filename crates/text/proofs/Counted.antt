@@ -4,7 +4,7 @@ use mathlib.Core.Path.{_≡_, ap}
 use mathlib.Core.List.{List, []}
 use native.Mathlib.Omega.{arith}
 use lib.ListN.{length, length-append}
-use Rattle.shortest.proofs.Going.{Next}
+use Rattle.common.proofs.PutLoop.{Next}
 
 -- all is so many bytes, and then what is left
 pub record Counted (all : List ℕ) (sum : ℕ) (left : List ℕ) : Type 0 where

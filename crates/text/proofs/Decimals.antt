@@ -9,9 +9,9 @@ use borrow.Author.Tests.{ltb-true, ltb-false, lt-ltb, le-ltb}
 use lib.Dec.{ltb}
 use lib.ListN.{length, set, drop, length-append, length-set}
 use lib.Seq.{drop-cons, getD-set-same, drop-set-lt}
-use Rattle.integer.proofs.Cases.{pick-by}
-use Rattle.shortest.specs.Putting.{Put}
-use Rattle.text.specs.Decimals.{decimalIn, decimalOf, spelled, numberIn}
+use Rattle.common.proofs.Cases.{pick-by}
+use Rattle.common.specs.Buffer.{Put}
+use Rattle.text.specs.Decimals.{decimalIn, decimalOf, spelled, spelledNumber}
 
 -- ---- how many there are
 
@@ -113,10 +113,10 @@ spelled-back (suc k) n h =
     (λ e. rw (spelled-more, spelled-back k (n / 10) (div-lt-iff-lt-mul (zero-lt-suc 9) .1 (rw pow-suc at h))) (omega arith))
 
 -- The digits of a number spell it, if twenty are enough.
-pub digits-spell : (n : ℕ) → n < 10 ^ 20 → numberIn (decimalOf n) ≡ n
-unfolding numberIn decimalOf
+pub digits-spell : (n : ℕ) → n < 10 ^ 20 → spelledNumber (decimalOf n) ≡ n
+unfolding spelledNumber decimalOf
 digits-spell n h = spelled-back 20 n h
 
 -- so no two have the same
 pub digits-once : (m n : ℕ) → m < 10 ^ 20 → n < 10 ^ 20 → decimalOf m ≡ decimalOf n → m ≡ n
-digits-once m n h k e = sym (digits-spell m h) ∙ ap numberIn e ∙ digits-spell n k
+digits-once m n h k e = sym (digits-spell m h) ∙ ap spelledNumber e ∙ digits-spell n k

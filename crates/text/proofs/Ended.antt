@@ -7,9 +7,9 @@ use native.Mathlib.Numerals.{add-one}
 use native.Mathlib.Omega.{arith}
 use lib.ListN.{length, getD, set, drop, length-append}
 use lib.Seq.{drop-cons, set-at, append-snoc}
-use Rattle.integer.specs.Answer.{pick}
-use Rattle.shortest.specs.Putting.{Put}
-use Rattle.shortest.proofs.Puts.{lent, given, put-length, Room, first-fits, ends-within, second-fits, both-fit, put-both, byte-put}
+use Rattle.common.specs.Choice.{pick}
+use Rattle.common.specs.Buffer.{Put}
+use Rattle.common.proofs.Puts.{lent, given, put-length, Room, first-fits, ends-within, second-fits, both-fit, put-both, byte-put}
 use Rattle.types.specs.Letters.{letters}
 use Rattle.types.specs.Table.{nameOf}
 use Rattle.text.specs.Decimals.{decimalOf}

@@ -11,8 +11,8 @@ use borrow.Author.Tests.{eq-eqb, ne-eqb}
 use lib.Dec.{eqb}
 use lib.ListN.{length, getD, take, drop, length-append, length-map, length-take, drop-of-length-le, List·getD-map}
 use lib.Seq.{drop-cons, getD-take, append-snoc}
-use Rattle.integer.specs.Answer.{pick}
-use Rattle.shortest.proofs.Going.{Next}
+use Rattle.common.specs.Choice.{pick}
+use Rattle.common.proofs.PutLoop.{Next}
 use Rattle.text.specs.Lines.{itemOf, endedOf, isNone, lineOf, slot, itemsOf}
 use Rattle.text.specs.declared.Item.{Item}
 use Rattle.text.specs.declared.Slot.{Slot}

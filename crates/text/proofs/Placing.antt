@@ -4,7 +4,7 @@ use mathlib.Core.Path.{_≡_, refl, sym}
 use mathlib.Core.List.{List, map}
 use lib.ListN.{length, take, drop, replicate}
 use lib.Seq.{length-take-le}
-use Rattle.measure.proofs.Placed.{filled, taken-out}
+use Rattle.common.proofs.Places.{filled, taken-out}
 use Rattle.text.specs.Lines.{slot, inSlot, placed, itemsOf}
 use Rattle.text.specs.declared.Item.{Item}
 use Rattle.text.specs.declared.Item.the-variants.{Number}

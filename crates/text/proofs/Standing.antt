@@ -8,8 +8,8 @@ use borrow.Author.Tests.{leb-true}
 use lib.Dec.{leb}
 use lib.ListN.{length, drop, length-drop}
 use lib.Seq.{length-take-le}
-use Rattle.shortest.specs.Putting.{Put}
-use Rattle.text.specs.Parts.{partOf, Lies, Stands}
+use Rattle.common.specs.Buffer.{Put}
+use Rattle.text.specs.Parts.{partOf, LiesWithin, Stands}
 
 -- a part by its two numbers, which are compared by computing
 pub standing : (start end : ℕ) {all word : List ℕ} → leb start end ≡ true → leb end (length all) ≡ true → partOf all start end ≡ word → Stands all word start end
@@ -24,7 +24,7 @@ module _ {all word : List ℕ} {start end : ℕ} (s : Stands all word start end)
       sym (length-take-le (end - start) (drop start all) fits) ∙ ap length (s .is)
 
   -- has room where these have,
-  pub stands-fits : {n : ℕ} → length word ≤ n → Lies all start end × (end - start ≤ n)
+  pub stands-fits : {n : ℕ} → length word ≤ n → LiesWithin all start end × (end - start ≤ n)
   stands-fits h = (s .lies, omega (arith, stands-length))
 
   -- and is put where its part is

@@ -2,7 +2,7 @@
 use Prim.Native.Nat.{ℕ, zero, suc, _+_, _-_, _*_, _/_, _%_}
 use mathlib.Core.List.{List, [], _∷_, _++_}
 use lib.Dec.{ltb}
-use Rattle.integer.specs.Answer.{pick}
+use Rattle.common.specs.Choice.{pick}
 
 -- a number in decimal digits, if so many are enough for it: one below ten is its digit, another is its tenth part and
 -- then its last digit
@@ -22,5 +22,5 @@ spelled n [] = n
 spelled n (digit ∷ digits) = spelled (n * 10 + (digit - 48)) digits
 
 -- the number that digits spell
-unfoldable pub numberIn : List ℕ → ℕ
-numberIn digits = spelled 0 digits
+unfoldable pub spelledNumber : List ℕ → ℕ
+spelledNumber digits = spelled 0 digits

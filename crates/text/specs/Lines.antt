@@ -4,9 +4,10 @@ use mathlib.Core.Bool.{Bool, true, false}
 use mathlib.Core.List.{List, [], _∷_, _++_, map}
 use lib.ListN.{length, take}
 use lib.Dec.{leb}
-use Rattle.integer.specs.Answer.{guard, unwritten, pick, Answer, refused, Nothing, wrote, Written}
-use Rattle.integer.specs.Integer.{over}
-use Rattle.measure.specs.Placing.{upTo}
+use Rattle.common.specs.Choice.{guard, pick}
+use Rattle.common.specs.Answer.{unwritten, Answer, refused, Nothing, wrote, Written}
+use Rattle.common.specs.Buffer.{over}
+use Rattle.common.specs.Lists.{upTo}
 use Rattle.types.specs.Letters.{letters}
 use Rattle.types.specs.Table.{nameOf}
 use Rattle.text.specs.Decimals.{decimalOf}
@@ -61,12 +62,12 @@ itemsOf line = map slot (take (line .used) (line .at))
 -- ---- a text in a buffer
 
 -- text put into a buffer: 7 where it is too short
-unfoldable pub putOf : List ℕ → List ℕ → Written
-putOf text before =
+unfoldable pub putText : List ℕ → List ℕ → Written
+putText text before =
     guard (leb (length text) (length before)) (unwritten 7 before)
     (record { says = wrote (length text); holds = over text before })
 
 -- 01's number and values of what is answered
-abbrev pub saying : Putting → Answer Nothing
-saying (Done used) = wrote used
-saying TooShort = refused 7
+abbrev pub toldPutting : Putting → Answer Nothing
+toldPutting (Done used) = wrote used
+toldPutting TooShort = refused 7

@@ -12,26 +12,26 @@ use Rattle.text.specs.declared.Word.the-variants.{Open, Closed, Columns,
 unfoldable pub words : List Word
 words = Open ∷ Closed ∷ Columns ∷ Pending ∷ Active ∷ Nothing ∷ TraceFaultAt ∷ Start ∷ Malformed ∷ Arrival ∷ []
 
-unfoldable pub joined : List (List ℕ) → List ℕ
-joined [] = []
-joined (text ∷ texts) = text ++ joined texts
+unfoldable pub inOneText : List (List ℕ) → List ℕ
+inOneText [] = []
+inOneText (text ∷ texts) = text ++ inOneText texts
 
 -- all of them, one behind the other
 unfoldable pub wordsText : List ℕ
-wordsText = joined (map wordOf words)
+wordsText = inOneText (map wordOf words)
 
 unfoldable pub namesText : List ℕ
-namesText = joined (map (λ row. letters (row .name)) messages)
+namesText = inOneText (map (λ row. letters (row .name)) messages)
 
 -- the part of a text from start up to end
 abbrev pub partOf : List ℕ → ℕ → ℕ → List ℕ
 partOf all start end = take (end - start) (drop start all)
 
-pub record Lies (all : List ℕ) (start end : ℕ) : Type 0 where
+pub record LiesWithin (all : List ℕ) (start end : ℕ) : Type 0 where
   pub rises : start ≤ end
   pub within : end ≤ length all
 
 -- a word is the part from start up to end
 pub record Stands (all word : List ℕ) (start end : ℕ) : Type 0 where
-  pub lies : Lies all start end
+  pub lies : LiesWithin all start end
   pub is : partOf all start end ≡ word

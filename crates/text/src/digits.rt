@@ -2,8 +2,8 @@
 ghost use mathlib.Core.Path.{_≡_};
 ghost use Prim.Native.Nat.{_≤_};
 ghost use lib.ListN.{length};
+ghost use Rattle.common.specs.Buffer.{Put};
 ghost use Rattle.text.specs.Decimals.{decimalOf};
-ghost use Rattle.shortest.specs.Putting.{Put};
 
 // How many digits n has.
 pub fn places(n: u64) -> usize

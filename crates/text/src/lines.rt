@@ -3,9 +3,9 @@ ghost use mathlib.Core.Path.{_≡_};
 ghost use mathlib.Core.List.{[], _∷_};
 ghost use Prim.Native.Nat.{_≤_, _-_, min};
 ghost use lib.ListN.{length, take, drop, replicate};
-ghost use Rattle.integer.specs.Answer.{Leaves};
-ghost use Rattle.shortest.specs.Putting.{Put};
-ghost use Rattle.text.specs.Lines.{itemOf, endedOf, lineOf, placed, itemsOf, putOf, saying};
+ghost use Rattle.common.specs.Answer.{Leaves};
+ghost use Rattle.common.specs.Buffer.{Put};
+ghost use Rattle.text.specs.Lines.{itemOf, endedOf, lineOf, placed, itemsOf, putText, toldPutting};
 ghost use Rattle.text.specs.declared.Item.the-variants.{Number};
 use crate::Item;
 use crate::Line;
@@ -172,7 +172,7 @@ fn put_items(out: &mut [u8], line: Line) -> usize
 
 // A line at the front of out; every byte after it stays, and where it doesn't fit none is changed.
 pub fn put(out: &mut [u8], line: Line) -> Putting
-    ensures { λ r. ⌜ Leaves (putOf (lineOf (itemsOf line)) (now (out .entry))) (saying r) (now (out .exit)) ⌝ }
+    ensures { λ r. ⌜ Leaves (putText (lineOf (itemsOf line)) (now (out .entry))) (toldPutting r) (now (out .exit)) ⌝ }
 {
     if out.len() < measure(line) {
         return Putting::TooShort;

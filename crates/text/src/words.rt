@@ -3,10 +3,10 @@
 ghost use mathlib.Core.Path.{_≡_};
 ghost use Prim.Native.Nat.{_≤_, _-_};
 ghost use lib.ListN.{length};
-ghost use Rattle.shortest.specs.Putting.{Put};
+ghost use Rattle.common.specs.Buffer.{Put};
 ghost use Rattle.types.specs.Table.{nameOf};
 ghost use Rattle.text.specs.Words.{wordOf};
-ghost use Rattle.text.specs.Parts.{wordsText, namesText, partOf, Lies, Stands};
+ghost use Rattle.text.specs.Parts.{wordsText, namesText, partOf, LiesWithin, Stands};
 use crate::Word;
 
 // A part of a text: from the first number up to the second.
@@ -87,7 +87,7 @@ fn copy(out: &mut [u8], s: &[u8]) -> usize
 
 // A part of a text, at the front of out.
 fn put_part(out: &mut [u8], s: &[u8], part: Part) -> usize
-    requires { ⌜ Lies (now s) (part .0) (part .1) × (part .1 - part .0 ≤ length (now out)) ⌝ }
+    requires { ⌜ LiesWithin (now s) (part .0) (part .1) × (part .1 - part .0 ≤ length (now out)) ⌝ }
     ensures { λ r. ⌜ Put (partOf (now (s .entry)) (part .0) (part .1)) (now (out .entry)) r (now (out .exit)) ⌝ }
 {
     let start = part.0;

@@ -9,8 +9,8 @@ use borrow.Author.Tests.{le-leb, lt-leb, leb-true, leb-false}
 use lib.Dec.{leb}
 use lib.ListN.{length, getD, take, drop, take-append-drop, length-drop}
 use lib.Seq.{length-take-le, getD-take, take-suc, take-all}
-use Rattle.field.specs.Outcome.{both}
-use Rattle.trace.specs.Fields.{sizeOf, isWhole}
+use Rattle.common.specs.Choice.{both}
+use Rattle.trace.specs.Fields.{fieldSize, isWhole}
 use Rattle.trace.specs.Feeding.{Held, feedByte, feed}
 
 -- true is not false
@@ -20,55 +20,55 @@ differ e = let z : _≡_ {A = ℕ} 0 1 = cc in omega arith
 -- ---- what begins a field
 
 -- three bytes tell its size
-pub size-take : (k : ℕ) (s : List ℕ) → 3 ≤ k → sizeOf (take k s) ≡ sizeOf s
-unfolding sizeOf
+pub size-take : (k : ℕ) (s : List ℕ) → 3 ≤ k → fieldSize (take k s) ≡ fieldSize s
+unfolding fieldSize
 size-take k s h = rw (getD-take k s 1 0 (omega arith), getD-take k s 2 0 (omega arith))
 
 -- fewer bytes than three, or than its size, are none yet
-not-yet : (s : List ℕ) (k : ℕ) → k ≤ length s → (3 ≤ k → k < sizeOf s) → isWhole (take k s) ≡ false
+not-yet : (s : List ℕ) (k : ℕ) → k ≤ length s → (3 ≤ k → k < fieldSize s) → isWhole (take k s) ≡ false
 unfolding isWhole
 not-yet s k fits less = go (leb 3 k) refl
   where
     len : length (take k s) ≡ k
     len = length-take-le k s fits
 
-    go : (b : Bool) → leb 3 k ≡ b → both (leb 3 (length (take k s))) (leb (sizeOf (take k s)) (length (take k s))) ≡ false
+    go : (b : Bool) → leb 3 k ≡ b → both (leb 3 (length (take k s))) (leb (fieldSize (take k s)) (length (take k s))) ≡ false
     go false e = rw (len, e)
     go true e =
         let h = leb-true 3 k e in
-        rw (len, e, size-take k s h, lt-leb (sizeOf s) k (less h))
+        rw (len, e, size-take k s h, lt-leb (fieldSize s) k (less h))
 
 -- bytes at whose front a field stands have three, and its size
-pub whole-fits : (s : List ℕ) → isWhole s ≡ true → (3 ≤ length s) × (sizeOf s ≤ length s)
+pub whole-fits : (s : List ℕ) → isWhole s ≡ true → (3 ≤ length s) × (fieldSize s ≤ length s)
 unfolding isWhole
-whole-fits s e = go (leb 3 (length s)) refl (leb (sizeOf s) (length s)) refl
+whole-fits s e = go (leb 3 (length s)) refl (leb (fieldSize s) (length s)) refl
   where
-    go : (b : Bool) → leb 3 (length s) ≡ b → (d : Bool) → leb (sizeOf s) (length s) ≡ d → (3 ≤ length s) × (sizeOf s ≤ length s)
-    go true f true g = (leb-true 3 (length s) f, leb-true (sizeOf s) (length s) g)
+    go : (b : Bool) → leb 3 (length s) ≡ b → (d : Bool) → leb (fieldSize s) (length s) ≡ d → (3 ≤ length s) × (fieldSize s ≤ length s)
+    go true f true g = (leb-true 3 (length s) f, leb-true (fieldSize s) (length s) g)
     go true f false g = absurd (differ (sym (rw (f, g) at e)))
     go false f d g = absurd (differ (sym (rw f at e)))
 
 -- and where none stands they have less than its size
-pub cut-short : (s : List ℕ) → isWhole s ≡ false → 3 ≤ length s → length s < sizeOf s
+pub cut-short : (s : List ℕ) → isWhole s ≡ false → 3 ≤ length s → length s < fieldSize s
 unfolding isWhole
-cut-short s e h = go (leb (sizeOf s) (length s)) refl
+cut-short s e h = go (leb (fieldSize s) (length s)) refl
   where
-    go : (d : Bool) → leb (sizeOf s) (length s) ≡ d → length s < sizeOf s
+    go : (d : Bool) → leb (fieldSize s) (length s) ≡ d → length s < fieldSize s
     go true g = absurd (differ (rw (le-leb 3 (length s) h, g) at e))
-    go false g = leb-false (sizeOf s) (length s) g
+    go false g = leb-false (fieldSize s) (length s) g
 
 -- a size is three at least
-pub size-head : (s : List ℕ) → 3 ≤ sizeOf s
-unfolding sizeOf
+pub size-head : (s : List ℕ) → 3 ≤ fieldSize s
+unfolding fieldSize
 size-head s = omega arith
 
 -- a field is whole with its last byte
-whole-then : (s : List ℕ) → isWhole s ≡ true → isWhole (take (sizeOf s) s) ≡ true
+whole-then : (s : List ℕ) → isWhole s ≡ true → isWhole (take (fieldSize s) s) ≡ true
 unfolding isWhole
 whole-then s e =
     let w = whole-fits s e in
-    let len = length-take-le (sizeOf s) s (w .1) in
-    rw (len, size-take (sizeOf s) s (size-head s), le-leb 3 (sizeOf s) (size-head s), le-leb (sizeOf s) (sizeOf s) (omega arith))
+    let len = length-take-le (fieldSize s) s (w .1) in
+    rw (len, size-take (fieldSize s) s (size-head s), le-leb 3 (fieldSize s) (size-head s), le-leb (fieldSize s) (fieldSize s) (omega arith))
 
 -- ---- feeding
 
@@ -113,10 +113,10 @@ module _ {A : Type 0} (step : A → List ℕ → A) where
       ∙ ap (holding a) all
 
   -- Where one does, it is a step, and what is behind it is fed on.
-  pub fed-field : (a : A) (s : List ℕ) → isWhole s ≡ true → feed step (holding a []) s ≡ feed step (holding (step a (take (sizeOf s) s)) []) (drop (sizeOf s) s)
-  fed-field a s e = go (sizeOf s) refl
+  pub fed-field : (a : A) (s : List ℕ) → isWhole s ≡ true → feed step (holding a []) s ≡ feed step (holding (step a (take (fieldSize s) s)) []) (drop (fieldSize s) s)
+  fed-field a s e = go (fieldSize s) refl
     where
-      go : (n : ℕ) → sizeOf s ≡ n → feed step (holding a []) s ≡ feed step (holding (step a (take n s)) []) (drop n s)
+      go : (n : ℕ) → fieldSize s ≡ n → feed step (holding a []) s ≡ feed step (holding (step a (take n s)) []) (drop n s)
       go zero z = absurd (not-suc-le-zero (rw z at (size-head s)))
       go (suc n) z =
           let w = whole-fits s e in
@@ -131,9 +131,9 @@ module _ {A : Type 0} (step : A → List ℕ → A) where
   module _
       (P : A → List ℕ → Held A → Type 0)
       (none : (a : A) (s : List ℕ) → isWhole s ≡ false → P a s (holding a s))
-      (more : (a : A) (s : List ℕ) (h : Held A) → isWhole s ≡ true → P (step a (take (sizeOf s) s)) (drop (sizeOf s) s) h → P a s h)
+      (more : (a : A) (s : List ℕ) (h : Held A) → isWhole s ≡ true → P (step a (take (fieldSize s) s)) (drop (fieldSize s) s) h → P a s h)
     where
-      front : (a : A) (s : List ℕ) → (isWhole s ≡ true → P (step a (take (sizeOf s) s)) (drop (sizeOf s) s) (feed step (holding (step a (take (sizeOf s) s)) []) (drop (sizeOf s) s))) → P a s (feed step (holding a []) s)
+      front : (a : A) (s : List ℕ) → (isWhole s ≡ true → P (step a (take (fieldSize s) s)) (drop (fieldSize s) s) (feed step (holding (step a (take (fieldSize s) s)) []) (drop (fieldSize s) s))) → P a s (feed step (holding a []) s)
       front a s behind = go (isWhole s) refl
         where
           go : (b : Bool) → isWhole s ≡ b → P a s (feed step (holding a []) s)
@@ -143,7 +143,7 @@ module _ {A : Type 0} (step : A → List ℕ → A) where
       up-to : (n : ℕ) (a : A) (s : List ℕ) → length s ≤ n → P a s (feed step (holding a []) s)
       up-to zero a s h = front a s (λ e. absurd (omega (arith, whole-fits s e .0)))
       up-to (suc n) a s h =
-          front a s (λ e. up-to n (step a (take (sizeOf s) s)) (drop (sizeOf s) s) (omega (arith, length-drop (sizeOf s) s, size-head s, whole-fits s e .0)))
+          front a s (λ e. up-to n (step a (take (fieldSize s) s)) (drop (fieldSize s) s) (omega (arith, length-drop (fieldSize s) s, size-head s, whole-fits s e .0)))
 
       pub fed-by : (a : A) (s : List ℕ) → P a s (feed step (holding a []) s)
       fed-by a s = up-to (length s) a s (omega arith)

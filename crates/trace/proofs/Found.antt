@@ -7,7 +7,7 @@ use native.Mathlib.Omega.{arith}
 use borrow.Author.Tests.{le-leb, lt-leb}
 use lib.ListN.{length, getD, drop, length-drop}
 use lib.Seq.{getD-drop}
-use Rattle.trace.specs.Fields.{tagOf, sizeOf, isWhole, fieldOf}
+use Rattle.trace.specs.Fields.{tagOf, fieldSize, isWhole, fieldOf}
 use Rattle.trace.specs.declared.FieldRead.the-variants.{Whole, Cut}
 
 module _ (s : List ℕ) (at : ℕ) where
@@ -15,8 +15,8 @@ module _ (s : List ℕ) (at : ℕ) where
   abbrev pub sizeAt : ℕ
   sizeAt = 3 + (getD s (at + 1) 0 * 256 + getD s (at + 2) 0)
 
-  size-at : sizeOf (drop at s) ≡ sizeAt
-  unfolding sizeOf
+  size-at : fieldSize (drop at s) ≡ sizeAt
+  unfolding fieldSize
   size-at = rw (getD-drop at s 1 0, getD-drop at s 2 0)
 
   tag-at : tagOf (drop at s) ≡ getD s at 0
@@ -32,10 +32,10 @@ module _ (s : List ℕ) (at : ℕ) where
   pub no-value : at + 3 ≤ length s → length s < at + sizeAt → fieldOf s at ≡ Cut
   unfolding fieldOf isWhole
   no-value k h =
-      rw (le-leb 3 (length (drop at s)) (omega (arith, length-drop at s)), lt-leb (sizeOf (drop at s)) (length (drop at s)) (omega (arith, length-drop at s, size-at)))
+      rw (le-leb 3 (length (drop at s)) (omega (arith, length-drop at s)), lt-leb (fieldSize (drop at s)) (length (drop at s)) (omega (arith, length-drop at s, size-at)))
 
   -- else it is there
   pub there : at + 3 ≤ length s → at + sizeAt ≤ length s → fieldOf s at ≡ Whole (record { tag = getD s at 0; start = at + 3; end = at + sizeAt })
   unfolding fieldOf isWhole
   there k h =
-      rw (le-leb 3 (length (drop at s)) (omega (arith, length-drop at s)), le-leb (sizeOf (drop at s)) (length (drop at s)) (omega (arith, length-drop at s, size-at)), tag-at, size-at)
+      rw (le-leb 3 (length (drop at s)) (omega (arith, length-drop at s)), le-leb (fieldSize (drop at s)) (length (drop at s)) (omega (arith, length-drop at s, size-at)), tag-at, size-at)

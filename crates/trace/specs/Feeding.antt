@@ -1,7 +1,7 @@
 -- A trace comes byte by byte: each field that becomes whole is a step. So it doesn't matter how the bytes are cut.
 use Prim.Native.Nat.{ℕ}
 use mathlib.Core.List.{List, [], _∷_, _++_}
-use Rattle.integer.specs.Answer.{pick}
+use Rattle.common.specs.Choice.{pick}
 use Rattle.trace.specs.Fields.{isWhole}
 
 -- what the fields so far came to, and the bytes of one that isn't whole yet

@@ -7,37 +7,37 @@ use mathlib.Core.List.{List, [], _∷_, _++_, map, headD, tail, append-assoc, ap
 use native.Mathlib.Omega.{arith}
 use lib.ListN.{length}
 use Rattle.ledger.specs.Ledgers.{mostRows}
-use Rattle.ledger.specs.Answers.{Said, only}
+use Rattle.ledger.specs.Answers.{Verdict, noRule}
 use Rattle.ledger.specs.Steps.{startOf}
 use Rattle.ledger.specs.declared.Ledger.{Ledger}
 use Rattle.ledger.specs.declared.Part.{Part}
 use Rattle.row.specs.Places.{small}
-use Rattle.history.specs.Events.{run, told}
-use Rattle.trace.specs.Fields.{tagOf, valueOf, sizeOf}
+use Rattle.history.specs.Events.{ledgerAfter, logOf}
+use Rattle.trace.specs.Fields.{tagOf, valueOf, fieldSize}
 use Rattle.text.specs.Lines.{lineOf}
-use Rattle.run.specs.Progressing.{begun, heardOf, stepOf, step, offsetOf, fed, endStage, endOf, runOf}
-use Rattle.run.specs.declared.Event.{Event as FieldEvent}
-use Rattle.run.specs.declared.Event.the-variants.{Start, Control, Malformed, Arrived, Fault}
-use Rattle.run.specs.declared.Stage.{Stage}
-use Rattle.run.specs.declared.Stage.the-variants.{Empty, Running, Faulty}
-use Rattle.run.specs.declared.Progress.{Progress}
-use Rattle.run.proofs.Ledgers.{Startable, event-fits}
-use Rattle.answers.specs.Telling.{lineBy, lineIn, Telling, tell, telling, faultItems, endItems, lastText, answersOf}
-use Rattle.trace_history.specs.Histories.{fieldsOf, eventIn, Faultless, Started, startBy, startIn, happens, happeningIn, historyOf, answered, linesOf}
+use Rattle.replay.specs.Progressing.{begun, heardOf, stepOf, step, offsetOf, fed, endStage, finishOf, replayOf}
+use Rattle.replay.specs.declared.Event.{Event as FieldEvent}
+use Rattle.replay.specs.declared.Event.the-variants.{Start, Control, Malformed, Arrived, Fault}
+use Rattle.replay.specs.declared.Stage.{Stage}
+use Rattle.replay.specs.declared.Stage.the-variants.{Empty, Running, Faulty}
+use Rattle.replay.specs.declared.Progress.{Progress}
+use Rattle.replay.proofs.Ledgers.{Startable, event-fits}
+use Rattle.answers.specs.Answers.{lineBy, lineIn, SoFar, addLine, withText, faultItems, endItems, lastText, answersOf}
+use Rattle.trace_history.specs.Histories.{traceFields, eventIn, Faultless, Started, startBy, startIn, happens, happeningIn, historyOf, verdictIn, linesOf}
 use Rattle.trace_history.proofs.Cutting.{steps, fed-steps, restOf, cut-so}
 
-abbrev stands : Ledger → Stage → ℕ → List ℕ → Telling
-stands l stage offset text = telling (record { ledger = l; stage = stage; offset = offset }) text
+abbrev stands : Ledger → Stage → ℕ → List ℕ → SoFar
+stands l stage offset text = withText (record { ledger = l; stage = stage; offset = offset }) text
 
 -- ---- a fault stays
 
-stays : (fields : List (List ℕ)) (l : Ledger) (at offset : ℕ) (text : List ℕ) → steps tell (stands l (Faulty at) offset text) fields .progress .stage ≡ Faulty at
-unfolding steps tell stepOf
+stays : (fields : List (List ℕ)) (l : Ledger) (at offset : ℕ) (text : List ℕ) → steps addLine (stands l (Faulty at) offset text) fields .progress .stage ≡ Faulty at
+unfolding steps addLine stepOf
 stays [] l at offset text = refl
 stays (field ∷ fields) l at offset text = stays fields _ at _ _
 
 -- so where there is none at the end, there was none
-no-fault : {A : Type 0} (fields : List (List ℕ)) (l : Ledger) (at offset : ℕ) (text : List ℕ) → steps tell (stands l (Faulty at) offset text) fields .progress .stage ≡ Running → A
+no-fault : {A : Type 0} (fields : List (List ℕ)) (l : Ledger) (at offset : ℕ) (text : List ℕ) → steps addLine (stands l (Faulty at) offset text) fields .progress .stage ≡ Running → A
 no-fault fields l at offset text h =
     let f = stays fields l at offset text in
     absurd (let z : _≡_ {A = ℕ} 0 1 = cc in omega arith)
@@ -45,30 +45,30 @@ no-fault fields l at offset text h =
 -- ---- behind a start
 
 -- the line of what a field is, and those behind it
-abbrev linesBy : ℕ → FieldEvent → ℕ → List (List ℕ) → List Said → List ℕ
+abbrev linesBy : ℕ → FieldEvent → ℕ → List (List ℕ) → List Verdict → List ℕ
 linesBy offset e size fields says =
-    lineOf (lineBy offset e (headD says (only 0))) ++ linesOf (offsetOf offset size) fields (tail says)
+    lineOf (lineBy offset e (headD says (noRule 0))) ++ linesOf (offsetOf offset size) fields (tail says)
 
 -- what fields come to, without a fault
-record Follows (end : Telling) (l : Ledger) (text : List ℕ) : Type 0 where
+record Follows (end : SoFar) (l : Ledger) (text : List ℕ) : Type 0 where
   ledger : end .progress .ledger ≡ l
   lines : end .text ≡ text
 
-abbrev Unbroken : List (List ℕ) → Telling → Type 0
-Unbroken fields t = steps tell t fields .progress .stage ≡ Running
+abbrev Unbroken : List (List ℕ) → SoFar → Type 0
+Unbroken fields t = steps addLine t fields .progress .stage ≡ Running
 
 -- what a field comes to, by what it is
-abbrev tellBy : Telling → FieldEvent → ℕ → Telling
+abbrev tellBy : SoFar → FieldEvent → ℕ → SoFar
 tellBy t e size =
     let stepped = stepOf (t .progress) e size in
-    telling (stepped .next) (t .text ++ lineOf (lineBy (t .progress .offset) (stepped .event) (stepped .says)))
+    withText (stepped .next) (t .text ++ lineOf (lineBy (t .progress .offset) (stepped .event) (stepped .says)))
 
-follows : (fields : List (List ℕ)) (l : Ledger) (offset : ℕ) (text : List ℕ) → Unbroken fields (stands l Running offset text) → Follows (steps tell (stands l Running offset text) fields) (run l (happeningIn fields)) (text ++ linesOf offset fields (map answered (told l (happeningIn fields))))
-unfolding steps tell stepOf lineIn happeningIn run told eventIn linesOf headD
+follows : (fields : List (List ℕ)) (l : Ledger) (offset : ℕ) (text : List ℕ) → Unbroken fields (stands l Running offset text) → Follows (steps addLine (stands l Running offset text) fields) (ledgerAfter l (happeningIn fields)) (text ++ linesOf offset fields (map verdictIn (logOf l (happeningIn fields))))
+unfolding steps addLine stepOf lineIn happeningIn ledgerAfter logOf eventIn linesOf headD
 follows [] l offset text h = record { ledger = refl; lines = sym (append-nil text) }
 follows (field ∷ fields) l offset text h = go (eventIn field) h (λ m o t. follows fields m o t)
   where
-    go : (e : FieldEvent) → Unbroken fields (tellBy (stands l Running offset text) e (sizeOf field)) → ((m : Ledger) (o : ℕ) (t : List ℕ) → Unbroken fields (stands m Running o t) → Follows (steps tell (stands m Running o t) fields) (run m (happeningIn fields)) (t ++ linesOf o fields (map answered (told m (happeningIn fields))))) → Follows (steps tell (tellBy (stands l Running offset text) e (sizeOf field)) fields) (run l (happens e ++ happeningIn fields)) (text ++ linesBy offset e (sizeOf field) fields (map answered (told l (happens e ++ happeningIn fields))))
+    go : (e : FieldEvent) → Unbroken fields (tellBy (stands l Running offset text) e (fieldSize field)) → ((m : Ledger) (o : ℕ) (t : List ℕ) → Unbroken fields (stands m Running o t) → Follows (steps addLine (stands m Running o t) fields) (ledgerAfter m (happeningIn fields)) (t ++ linesOf o fields (map verdictIn (logOf m (happeningIn fields))))) → Follows (steps addLine (tellBy (stands l Running offset text) e (fieldSize field)) fields) (ledgerAfter l (happens e ++ happeningIn fields)) (text ++ linesBy offset e (fieldSize field) fields (map verdictIn (logOf l (happens e ++ happeningIn fields))))
     go (Start part maximum) k ih = no-fault fields _ _ _ _ k
     go (Control m) k ih =
         let f = ih _ _ _ k in
@@ -84,16 +84,16 @@ follows (field ∷ fields) l offset text h = go (eventIn field) h (λ m o t. fol
 -- ---- from the first field on
 
 -- what it is answered
-abbrev startSaid : List (List ℕ) → Said
-startSaid [] = only 0
+abbrev startSaid : List (List ℕ) → Verdict
+startSaid [] = noRule 0
 startSaid (field ∷ fields) = heardOf begun (eventIn field) .says
 
-from-first : (fields : List (List ℕ)) → Unbroken fields (telling begun []) → Follows (steps tell (telling begun []) fields) (run (startBy fields) (happeningIn fields)) (linesOf 0 fields (startSaid fields ∷ map answered (told (startBy fields) (happeningIn fields))))
-unfolding steps tell stepOf lineIn happeningIn eventIn linesOf headD
+from-first : (fields : List (List ℕ)) → Unbroken fields (withText begun []) → Follows (steps addLine (withText begun []) fields) (ledgerAfter (startBy fields) (happeningIn fields)) (linesOf 0 fields (startSaid fields ∷ map verdictIn (logOf (startBy fields) (happeningIn fields))))
+unfolding steps addLine stepOf lineIn happeningIn eventIn linesOf headD
 from-first [] h = absurd (let z : _≡_ {A = ℕ} 0 1 = cc in omega arith)
 from-first (field ∷ fields) h = go (eventIn field) h
   where
-    go : (e : FieldEvent) → Unbroken fields (tellBy (telling begun []) e (sizeOf field)) → Follows (steps tell (tellBy (telling begun []) e (sizeOf field)) fields) (run (heardOf begun e .ledger) (happens e ++ happeningIn fields)) (linesBy 0 e (sizeOf field) fields (heardOf begun e .says ∷ map answered (told (heardOf begun e .ledger) (happens e ++ happeningIn fields))))
+    go : (e : FieldEvent) → Unbroken fields (tellBy (withText begun []) e (fieldSize field)) → Follows (steps addLine (tellBy (withText begun []) e (fieldSize field)) fields) (ledgerAfter (heardOf begun e .ledger) (happens e ++ happeningIn fields)) (linesBy 0 e (fieldSize field) fields (heardOf begun e .says ∷ map verdictIn (logOf (heardOf begun e .ledger) (happens e ++ happeningIn fields))))
     go (Start part maximum) k = follows fields _ _ _ k
     go (Control m) k = no-fault fields _ _ _ _ k
     go (Malformed number) k = no-fault fields _ _ _ _ k
@@ -101,16 +101,16 @@ from-first (field ∷ fields) h = go (eventIn field) h
     go Fault k = no-fault fields _ _ _ _ k
 
 -- the first is a start, and it is accepted
-small-starts : (part : Part) (maximum : ℕ) → small maximum ≡ true → startOf part mostRows maximum .says ≡ only 8
+small-starts : (part : Part) (maximum : ℕ) → small maximum ≡ true → startOf part mostRows maximum .says ≡ noRule 8
 unfolding startOf
 small-starts part maximum e = rw e
 
-starts : (fields : List (List ℕ)) → Unbroken fields (telling begun []) → Started (startBy fields) × (startSaid fields ≡ only 8)
-unfolding steps tell stepOf lineIn eventIn
+starts : (fields : List (List ℕ)) → Unbroken fields (withText begun []) → Started (startBy fields) × (startSaid fields ≡ noRule 8)
+unfolding steps addLine stepOf lineIn eventIn
 starts [] h = absurd (let z : _≡_ {A = ℕ} 0 1 = cc in omega arith)
 starts (field ∷ fields) h = go (eventIn field) (event-fits (tagOf field) (valueOf field)) h
   where
-    go : (e : FieldEvent) → Startable e → Unbroken fields (tellBy (telling begun []) e (sizeOf field)) → Started (heardOf begun e .ledger) × (heardOf begun e .says ≡ only 8)
+    go : (e : FieldEvent) → Startable e → Unbroken fields (tellBy (withText begun []) e (fieldSize field)) → Started (heardOf begun e .ledger) × (heardOf begun e .says ≡ noRule 8)
     go (Start part maximum) fits k =
         let accepted = small-starts part maximum fits in
         (record { part = part; maximum = maximum; accepted = accepted; ledger = refl }, accepted)
@@ -122,10 +122,10 @@ starts (field ∷ fields) h = go (eventIn field) (event-fits (tagOf field) (valu
 -- ---- the whole trace
 
 -- the lines follow the run
-progress-is : (fields : List (List ℕ)) (t : Telling) → steps tell t fields .progress ≡ steps step (t .progress) fields
-unfolding steps step tell
+progress-is : (fields : List (List ℕ)) (t : SoFar) → steps addLine t fields .progress ≡ steps step (t .progress) fields
+unfolding steps step addLine
 progress-is [] t = refl
-progress-is (field ∷ fields) t = progress-is fields (tell t field)
+progress-is (field ∷ fields) t = progress-is fields (addLine t field)
 
 went : (stage : Stage) (offset left : ℕ) → endStage stage offset left ≡ Running → stage ≡ Running
 went Empty offset left h = absurd (let z : _≡_ {A = ℕ} 0 1 = cc in omega arith)
@@ -133,38 +133,38 @@ went Running offset left h = refl
 went (Faulty at) offset left h = absurd (let z : _≡_ {A = ℕ} 0 1 = cc in omega arith)
 
 module _ (s : List ℕ) where
-  all-told : Telling
-  all-told = steps tell (telling begun []) (fieldsOf s)
+  all-told : SoFar
+  all-told = steps addLine (withText begun []) (traceFields s)
 
-  run-is : runOf s ≡ endOf (all-told .progress) (length (restOf s))
-  unfolding runOf fed all-told
-  run-is = rw (fed-steps step begun (cut-so s), progress-is (fieldsOf s) (telling begun []))
+  run-is : replayOf s ≡ finishOf (all-told .progress) (length (restOf s))
+  unfolding replayOf fed all-told
+  run-is = rw (fed-steps step begun (cut-so s), progress-is (traceFields s) (withText begun []))
 
   module _ (h : Faultless s) where
     ended : endStage (all-told .progress .stage) (all-told .progress .offset) (length (restOf s)) ≡ Running
-    unfolding endOf
+    unfolding finishOf
     ended = rw run-is at h
 
     runs : all-told .progress .stage ≡ Running
     runs = went (all-told .progress .stage) (all-told .progress .offset) (length (restOf s)) ended
 
-    all-follows : Follows all-told (run (startIn s) (historyOf s)) (linesOf 0 (fieldsOf s) (startSaid (fieldsOf s) ∷ map answered (told (startIn s) (historyOf s))))
+    all-follows : Follows all-told (ledgerAfter (startIn s) (historyOf s)) (linesOf 0 (traceFields s) (startSaid (traceFields s) ∷ map verdictIn (logOf (startIn s) (historyOf s))))
     unfolding startIn historyOf all-told
-    all-follows = from-first (fieldsOf s) runs
+    all-follows = from-first (traceFields s) runs
 
-    first : Started (startBy (fieldsOf s)) × (startSaid (fieldsOf s) ≡ only 8)
+    first : Started (startBy (traceFields s)) × (startSaid (traceFields s) ≡ noRule 8)
     unfolding all-told
-    first = starts (fieldsOf s) runs
+    first = starts (traceFields s) runs
 
     pub trace-starts : Started (startIn s)
     unfolding startIn
     trace-starts = first .0
 
-    pub run-follows : runOf s .ledger ≡ run (startIn s) (historyOf s)
-    unfolding endOf all-told
+    pub run-follows : replayOf s .ledger ≡ ledgerAfter (startIn s) (historyOf s)
+    unfolding finishOf all-told
     run-follows = rw run-is (all-follows .ledger)
 
-    pub answers-follow : answersOf s ≡ linesOf 0 (fieldsOf s) (only 8 ∷ map answered (told (startIn s) (historyOf s)))
-    unfolding answersOf lastText endItems endOf lineOf all-told
+    pub answers-follow : answersOf s ≡ linesOf 0 (traceFields s) (noRule 8 ∷ map verdictIn (logOf (startIn s) (historyOf s)))
+    unfolding answersOf lastText endItems finishOf lineOf all-told
     answers-follow =
-        rw (fed-steps tell (telling begun []) (cut-so s), ended, ← first .1) (append-nil _ ∙ all-follows .lines)
+        rw (fed-steps addLine (withText begun []) (cut-so s), ended, ← first .1) (append-nil _ ∙ all-follows .lines)

@@ -2,18 +2,18 @@
 use Prim.Native.Nat.{ℕ}
 use mathlib.Core.Path.{_≡_, sym, ap, _∙_}
 use mathlib.Core.List.{List, _∷_, map}
-use Rattle.ledger.specs.Answers.{only}
+use Rattle.ledger.specs.Answers.{noRule}
 use Rattle.ledger.specs.Ledgers.{mostRows, held}
 use Rattle.ledger.specs.declared.Ledger.{Ledger}
 use Rattle.view.specs.Events.{Event}
-use Rattle.history.specs.Events.{run, told}
+use Rattle.history.specs.Events.{ledgerAfter, logOf}
 use Rattle.history.specs.Orders.{Exchanged}
 use Rattle.history.specs.Rows.{rowsOf}
 use Rattle.history.proofs.Theorems.{exchanged-histories-agree, rows-told-by-their-history}
-use Rattle.run.specs.Progressing.{runOf}
+use Rattle.replay.specs.Progressing.{replayOf}
 use Rattle.report.specs.Report.{ledgerText, textOf, reportOf}
-use Rattle.answers.specs.Telling.{answersOf}
-use Rattle.trace_history.specs.Histories.{fieldsOf, Faultless, Started, startIn, historyOf, answered, linesOf}
+use Rattle.answers.specs.Answers.{answersOf}
+use Rattle.trace_history.specs.Histories.{traceFields, Faultless, Started, startIn, historyOf, verdictIn, linesOf}
 use Rattle.trace_history.proofs.Following.{trace-starts, run-follows, answers-follow}
 
 -- 1. Its first field starts a ledger of 64 rows.
@@ -21,20 +21,20 @@ pub trace-starts-a-ledger : (s : List ℕ) → Faultless s → Started (startIn 
 trace-starts-a-ledger = trace-starts
 
 -- 2. Its run leaves that ledger as the history of its events does.
-pub trace-is-a-history : (s : List ℕ) → Faultless s → runOf s .ledger ≡ run (startIn s) (historyOf s)
+pub trace-is-a-history : (s : List ℕ) → Faultless s → replayOf s .ledger ≡ ledgerAfter (startIn s) (historyOf s)
 trace-is-a-history = run-follows
 
 -- 3. Its answers are those of that history, one by one: 8 for the start, and then each event's.
-pub answers-of-a-history : (s : List ℕ) → Faultless s → answersOf s ≡ linesOf 0 (fieldsOf s) (only 8 ∷ map answered (told (startIn s) (historyOf s)))
+pub answers-of-a-history : (s : List ℕ) → Faultless s → answersOf s ≡ linesOf 0 (traceFields s) (noRule 8 ∷ map verdictIn (logOf (startIn s) (historyOf s)))
 answers-of-a-history = answers-follow
 
 -- 4. Its report shows the ledger behind that history.
-pub report-of-a-history : (s : List ℕ) → Faultless s → reportOf s ≡ ledgerText (run (startIn s) (historyOf s))
+pub report-of-a-history : (s : List ℕ) → Faultless s → reportOf s ≡ ledgerText (ledgerAfter (startIn s) (historyOf s))
 unfolding reportOf textOf
 report-of-a-history s h = rw (h, run-follows s h)
 
 -- 5. The rows that it shows are those that the history and its answers tell.
-pub rows-of-a-history : (s : List ℕ) → Faultless s → held (runOf s .ledger) ≡ rowsOf (told (startIn s) (historyOf s))
+pub rows-of-a-history : (s : List ℕ) → Faultless s → held (replayOf s .ledger) ≡ rowsOf (logOf (startIn s) (historyOf s))
 rows-of-a-history s h =
     let started = trace-starts s h in
     rw (run-follows s h, started .ledger) (rows-told-by-their-history (started .part) mostRows (started .maximum) (historyOf s))
@@ -43,5 +43,5 @@ rows-of-a-history s h =
 pub exchanged-traces-report-alike : (s t : List ℕ) → Faultless s → Faultless t → startIn s ≡ startIn t → Exchanged (startIn s) (historyOf s) (historyOf t) → reportOf s ≡ reportOf t
 exchanged-traces-report-alike s t h k starts x =
     report-of-a-history s h
-    ∙ ap ledgerText (exchanged-histories-agree x ∙ ap (λ (l : Ledger). run l (historyOf t)) starts)
+    ∙ ap ledgerText (exchanged-histories-agree x ∙ ap (λ (l : Ledger). ledgerAfter l (historyOf t)) starts)
     ∙ sym (report-of-a-history t k)

@@ -3,21 +3,21 @@ use Prim.Native.Nat.{ℕ}
 use mathlib.Core.Path.{_≡_}
 use mathlib.Core.List.{List, [], _∷_, _++_, headD, tail}
 use Rattle.ledger.specs.Ledgers.{mostRows}
-use Rattle.ledger.specs.Answers.{Said, only}
+use Rattle.ledger.specs.Answers.{Verdict, noRule}
 use Rattle.ledger.specs.Steps.{startOf}
 use Rattle.ledger.specs.declared.Ledger.{Ledger}
 use Rattle.ledger.specs.declared.Part.{Part}
 use Rattle.view.specs.Events.{Event, message, malformed, arrival}
-use Rattle.history.specs.Events.{Told}
-use Rattle.trace.specs.Fields.{tagOf, valueOf, sizeOf}
+use Rattle.history.specs.Events.{Logged}
+use Rattle.trace.specs.Fields.{tagOf, valueOf, fieldSize}
 use Rattle.trace.specs.Feeding.{Held, feed}
 use Rattle.text.specs.Lines.{lineOf}
-use Rattle.run.specs.Events.{eventOf}
-use Rattle.run.specs.Progressing.{begun, heardOf, offsetOf, runOf}
-use Rattle.run.specs.declared.Event.{Event as FieldEvent}
-use Rattle.run.specs.declared.Event.the-variants.{Start, Control, Malformed, Arrived, Fault}
-use Rattle.run.specs.declared.Stage.the-variants.{Running}
-use Rattle.answers.specs.Telling.{lineBy}
+use Rattle.replay.specs.Events.{eventOf}
+use Rattle.replay.specs.Progressing.{begun, heardOf, offsetOf, replayOf}
+use Rattle.replay.specs.declared.Event.{Event as FieldEvent}
+use Rattle.replay.specs.declared.Event.the-variants.{Start, Control, Malformed, Arrived, Fault}
+use Rattle.replay.specs.declared.Stage.the-variants.{Running}
+use Rattle.answers.specs.Answers.{lineBy}
 
 -- ---- the fields
 
@@ -26,8 +26,8 @@ abbrev pub gathered : List (List ℕ) → List ℕ → List (List ℕ)
 gathered fields field = fields ++ (field ∷ [])
 
 -- the fields of a trace, each all of its bytes
-unfoldable pub fieldsOf : List ℕ → List (List ℕ)
-fieldsOf s = feed gathered (record { soFar = []; rest = [] }) s .soFar
+unfoldable pub traceFields : List ℕ → List (List ℕ)
+traceFields s = feed gathered (record { soFar = []; rest = [] }) s .soFar
 
 -- what a field is
 unfoldable pub eventIn : List ℕ → FieldEvent
@@ -35,7 +35,7 @@ eventIn field = eventOf (tagOf field) (valueOf field)
 
 -- its run ends without a fault
 abbrev pub Faultless : List ℕ → Type 0
-Faultless s = runOf s .stage ≡ Running
+Faultless s = replayOf s .stage ≡ Running
 
 -- ---- the start, and what happens then
 
@@ -45,13 +45,13 @@ startBy [] = begun .ledger
 startBy (field ∷ fields) = heardOf begun (eventIn field) .ledger
 
 unfoldable pub startIn : List ℕ → Ledger
-startIn s = startBy (fieldsOf s)
+startIn s = startBy (traceFields s)
 
 -- it is one that was accepted: of the part and the maximum that the field has, and "64 rows"
 pub record Started (l : Ledger) : Type 0 where
   pub part : Part
   pub maximum : ℕ
-  pub accepted : startOf part mostRows maximum .says ≡ only 8
+  pub accepted : startOf part mostRows maximum .says ≡ noRule 8
   pub ledger : l ≡ startOf part mostRows maximum .next
 
 -- what happens to it by a field
@@ -68,16 +68,16 @@ happeningIn (field ∷ fields) = happens (eventIn field) ++ happeningIn fields
 
 -- THE HISTORY of a trace
 unfoldable pub historyOf : List ℕ → List Event
-historyOf s = happeningIn (fieldsOf s)
+historyOf s = happeningIn (traceFields s)
 
 -- ---- the lines of answers
 
 -- what an event is answered
-abbrev pub answered : Told → Said
-answered t = t .says
+abbrev pub verdictIn : Logged → Verdict
+verdictIn t = t .says
 
 -- a line for each field, with the offset of its tag, and what it was answered
-unfoldable pub linesOf : ℕ → List (List ℕ) → List Said → List ℕ
+unfoldable pub linesOf : ℕ → List (List ℕ) → List Verdict → List ℕ
 linesOf offset [] says = []
 linesOf offset (field ∷ fields) says =
-    lineOf (lineBy offset (eventIn field) (headD says (only 0))) ++ linesOf (offsetOf offset (sizeOf field)) fields (tail says)
+    lineOf (lineBy offset (eventIn field) (headD says (noRule 0))) ++ linesOf (offsetOf offset (fieldSize field)) fields (tail says)

@@ -8,26 +8,25 @@ use native.Mathlib.Nat.{le-refl}
 use native.Mathlib.Omega.{arith}
 use borrow.Author.Tests.{eqb-true, ne-eqb, le-leb}
 use lib.Dec.{leb, eqb}
-use Rattle.integer.specs.Answer.{pick}
-use Rattle.integer.proofs.Cases.{pick-by}
-use Rattle.field.specs.Outcome.{both}
-use Rattle.types.specs.Table.{Row, Listed, unlisted, rowIn, messages, rowOf, known, nameOf}
+use Rattle.common.specs.Choice.{pick, both}
+use Rattle.common.proofs.Cases.{pick-by}
+use Rattle.types.specs.Table.{TypeRow, InTable, unlisted, typeRowIn, messages, typeRowOf, known, nameOf}
 
 -- ---- a test that no row passes
 
 -- whether no row's number passes a test
-abbrev pub none : (ℕ → Bool) → List Row → Bool
+abbrev pub none : (ℕ → Bool) → List TypeRow → Bool
 none test [] = true
 none test (r ∷ rs) = pick (test (r .number)) false (none test rs)
 
 -- then a number that passes it stands in no row
-unlisted-by : (test : ℕ → Bool) (rows : List Row) (type : ℕ) → none test rows ≡ true → test type ≡ true → rowIn rows type ≡ unlisted
-unfolding rowIn
+unlisted-by : (test : ℕ → Bool) (rows : List TypeRow) (type : ℕ) → none test rows ≡ true → test type ≡ true → typeRowIn rows type ≡ unlisted
+unfolding typeRowIn
 unlisted-by test [] type h t = refl
 unlisted-by test (r ∷ rs) type h t =
-    pick-by (λ (b : Bool). b ≡ true → rowIn (r ∷ rs) type ≡ unlisted) (test (r .number))
+    pick-by (λ (b : Bool). b ≡ true → typeRowIn (r ∷ rs) type ≡ unlisted) (test (r .number))
     (λ e k. absurd (apart k))
-    (λ e k. pick-by (λ (l : Listed). l ≡ unlisted) (eqb type (r .number))
+    (λ e k. pick-by (λ (l : InTable). l ≡ unlisted) (eqb type (r .number))
     (λ same. absurd (apart (sym e ∙ ap test (sym (eqb-true type (r .number) same)) ∙ t)))
     (λ other. unlisted-by test rs type k t))
     h
@@ -36,8 +35,8 @@ unlisted-by test (r ∷ rs) type h t =
     apart e = let z : _≡_ {A = ℕ} 0 1 = cc in omega arith
 
 module _ (test : ℕ → Bool) (h : none test messages ≡ true) {type : ℕ} (t : test type ≡ true) where
-  stands-nowhere : rowOf type ≡ unlisted
-  unfolding rowOf
+  stands-nowhere : typeRowOf type ≡ unlisted
+  unfolding typeRowOf
   stands-nowhere = unlisted-by test messages type h t
 
   -- it is not known,

@@ -1,2 +1,2 @@
 pub mod Gaps
-pub mod Said
+pub mod TypedAs

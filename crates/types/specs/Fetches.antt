@@ -5,7 +5,7 @@ use lib.Dec.{eqb}
 use Rattle.field.specs.Fields.{integer, byte, track}
 use Rattle.field.specs.Rules.{askable, givable}
 use Rattle.layout.specs.Layout.{Layout, done, forbidden, field, when, place, failure, parameters}
-use Rattle.types.specs.Rules.{isStatus, mayHold}
+use Rattle.types.specs.Rules.{isTrackStatus, mayHold}
 
 -- Track Namespace, Track Name, StartGroup, StartObject, EndGroup, EndObject
 unfoldable pub standalone : Layout
@@ -52,4 +52,4 @@ largest status =
 
 -- Track Namespace, Track Name, Status Code
 unfoldable pub trackStatus : Layout
-trackStatus = field track λ _. field integer λ status. when (isStatus status) (largest status) forbidden
+trackStatus = field track λ _. field integer λ status. when (isTrackStatus status) (largest status) forbidden

@@ -51,5 +51,5 @@ unfoldable pub subscribeDone : Layout
 subscribeDone = field integer λ id. field integer λ status. field integer λ streams. field bytes λ _. done
 
 -- a Subscribe ID alone
-unfoldable pub only : Layout
-only = field integer λ id. done
+unfoldable pub idOnly : Layout
+idOnly = field integer λ id. done

@@ -5,13 +5,13 @@ use Prim.Native.String.{String}
 use mathlib.Core.Bool.{Bool, true, false}
 use mathlib.Core.List.{List, [], _∷_}
 use lib.Dec.{eqb}
-use Rattle.integer.specs.Answer.{pick}
+use Rattle.common.specs.Choice.{pick}
 use Rattle.field.specs.declared.Piece.{Piece}
 use Rattle.layout.specs.Layout.{Layout, done, forbidden, failure, parameters}
 use Rattle.layout.specs.Typed.{Typed}
 use Rattle.types.specs.Letters.{letters}
 use Rattle.types.specs.Sessions.{clientSetup, serverSetup, goAway}
-use Rattle.types.specs.Subscriptions.{subscribeUpdate, subscribe, subscribeOk, subscribeError, subscribeDone, only}
+use Rattle.types.specs.Subscriptions.{subscribeUpdate, subscribe, subscribeOk, subscribeError, subscribeDone, idOnly}
 use Rattle.types.specs.Fetches.{fetch, fetchOk, fetchError, fetchCancel, trackStatusRequest, trackStatus}
 use Rattle.types.specs.Announces.{named}
 
@@ -22,101 +22,101 @@ pub data Family : Type 0 where
   retrieving : Family
   announcing : Family
 
-pub record Row : Type 0 where
+pub record TypeRow : Type 0 where
   pub number : ℕ
   pub name : String
   pub family : Family
   pub layout : Layout
 
-abbrev row : ℕ → String → Family → Layout → Row
+abbrev row : ℕ → String → Family → Layout → TypeRow
 row number name family layout = record { number = number; name = name; family = family; layout = layout }
 
 -- a message of a row: the number of its type, and its fields
-abbrev pub ofRow : Row → List Piece → Typed
-ofRow r ps = record { type = r .number; pieces = ps }
+abbrev pub typedAs : TypeRow → List Piece → Typed
+typedAs r ps = record { type = r .number; pieces = ps }
 
 -- ---- the rows
 
-abbrev pub «CLIENT_SETUP» : Row
+abbrev pub «CLIENT_SETUP» : TypeRow
 «CLIENT_SETUP» = row 0x40 "CLIENT_SETUP" setting clientSetup
 
-abbrev pub «SERVER_SETUP» : Row
+abbrev pub «SERVER_SETUP» : TypeRow
 «SERVER_SETUP» = row 0x41 "SERVER_SETUP" setting serverSetup
 
-abbrev pub GOAWAY : Row
+abbrev pub GOAWAY : TypeRow
 GOAWAY = row 0x10 "GOAWAY" setting goAway
 
-abbrev pub «MAX_SUBSCRIBE_ID» : Row
-«MAX_SUBSCRIBE_ID» = row 0x15 "MAX_SUBSCRIBE_ID" subscribing only
+abbrev pub «MAX_SUBSCRIBE_ID» : TypeRow
+«MAX_SUBSCRIBE_ID» = row 0x15 "MAX_SUBSCRIBE_ID" subscribing idOnly
 
-abbrev pub «SUBSCRIBES_BLOCKED» : Row
-«SUBSCRIBES_BLOCKED» = row 0x1A "SUBSCRIBES_BLOCKED" subscribing only
+abbrev pub «SUBSCRIBES_BLOCKED» : TypeRow
+«SUBSCRIBES_BLOCKED» = row 0x1A "SUBSCRIBES_BLOCKED" subscribing idOnly
 
-abbrev pub SUBSCRIBE : Row
+abbrev pub SUBSCRIBE : TypeRow
 SUBSCRIBE = row 0x3 "SUBSCRIBE" subscribing subscribe
 
-abbrev pub «SUBSCRIBE_OK» : Row
+abbrev pub «SUBSCRIBE_OK» : TypeRow
 «SUBSCRIBE_OK» = row 0x4 "SUBSCRIBE_OK" subscribing subscribeOk
 
-abbrev pub «SUBSCRIBE_ERROR» : Row
+abbrev pub «SUBSCRIBE_ERROR» : TypeRow
 «SUBSCRIBE_ERROR» = row 0x5 "SUBSCRIBE_ERROR" subscribing subscribeError
 
-abbrev pub UNSUBSCRIBE : Row
-UNSUBSCRIBE = row 0xA "UNSUBSCRIBE" subscribing only
+abbrev pub UNSUBSCRIBE : TypeRow
+UNSUBSCRIBE = row 0xA "UNSUBSCRIBE" subscribing idOnly
 
-abbrev pub «SUBSCRIBE_UPDATE» : Row
+abbrev pub «SUBSCRIBE_UPDATE» : TypeRow
 «SUBSCRIBE_UPDATE» = row 0x2 "SUBSCRIBE_UPDATE" subscribing subscribeUpdate
 
-abbrev pub «SUBSCRIBE_DONE» : Row
+abbrev pub «SUBSCRIBE_DONE» : TypeRow
 «SUBSCRIBE_DONE» = row 0xB "SUBSCRIBE_DONE" subscribing subscribeDone
 
-abbrev pub FETCH : Row
+abbrev pub FETCH : TypeRow
 FETCH = row 0x16 "FETCH" retrieving fetch
 
-abbrev pub «FETCH_OK» : Row
+abbrev pub «FETCH_OK» : TypeRow
 «FETCH_OK» = row 0x18 "FETCH_OK" retrieving fetchOk
 
-abbrev pub «FETCH_ERROR» : Row
+abbrev pub «FETCH_ERROR» : TypeRow
 «FETCH_ERROR» = row 0x19 "FETCH_ERROR" retrieving fetchError
 
-abbrev pub «FETCH_CANCEL» : Row
+abbrev pub «FETCH_CANCEL» : TypeRow
 «FETCH_CANCEL» = row 0x17 "FETCH_CANCEL" retrieving fetchCancel
 
-abbrev pub «TRACK_STATUS_REQUEST» : Row
+abbrev pub «TRACK_STATUS_REQUEST» : TypeRow
 «TRACK_STATUS_REQUEST» = row 0xD "TRACK_STATUS_REQUEST" retrieving trackStatusRequest
 
-abbrev pub «TRACK_STATUS» : Row
+abbrev pub «TRACK_STATUS» : TypeRow
 «TRACK_STATUS» = row 0xE "TRACK_STATUS" retrieving trackStatus
 
-abbrev pub ANNOUNCE : Row
+abbrev pub ANNOUNCE : TypeRow
 ANNOUNCE = row 0x6 "ANNOUNCE" announcing (named parameters)
 
-abbrev pub «ANNOUNCE_OK» : Row
+abbrev pub «ANNOUNCE_OK» : TypeRow
 «ANNOUNCE_OK» = row 0x7 "ANNOUNCE_OK" announcing (named done)
 
-abbrev pub «ANNOUNCE_ERROR» : Row
+abbrev pub «ANNOUNCE_ERROR» : TypeRow
 «ANNOUNCE_ERROR» = row 0x8 "ANNOUNCE_ERROR" announcing (named (failure done))
 
-abbrev pub UNANNOUNCE : Row
+abbrev pub UNANNOUNCE : TypeRow
 UNANNOUNCE = row 0x9 "UNANNOUNCE" announcing (named done)
 
-abbrev pub «ANNOUNCE_CANCEL» : Row
+abbrev pub «ANNOUNCE_CANCEL» : TypeRow
 «ANNOUNCE_CANCEL» = row 0xC "ANNOUNCE_CANCEL" announcing (named (failure done))
 
-abbrev pub «SUBSCRIBE_ANNOUNCES» : Row
+abbrev pub «SUBSCRIBE_ANNOUNCES» : TypeRow
 «SUBSCRIBE_ANNOUNCES» = row 0x11 "SUBSCRIBE_ANNOUNCES" announcing (named parameters)
 
-abbrev pub «SUBSCRIBE_ANNOUNCES_OK» : Row
+abbrev pub «SUBSCRIBE_ANNOUNCES_OK» : TypeRow
 «SUBSCRIBE_ANNOUNCES_OK» = row 0x12 "SUBSCRIBE_ANNOUNCES_OK" announcing (named done)
 
-abbrev pub «SUBSCRIBE_ANNOUNCES_ERROR» : Row
+abbrev pub «SUBSCRIBE_ANNOUNCES_ERROR» : TypeRow
 «SUBSCRIBE_ANNOUNCES_ERROR» = row 0x13 "SUBSCRIBE_ANNOUNCES_ERROR" announcing (named (failure done))
 
-abbrev pub «UNSUBSCRIBE_ANNOUNCES» : Row
+abbrev pub «UNSUBSCRIBE_ANNOUNCES» : TypeRow
 «UNSUBSCRIBE_ANNOUNCES» = row 0x14 "UNSUBSCRIBE_ANNOUNCES" announcing (named done)
 
 -- all of them, in the order of 004
-unfoldable pub messages : List Row
+unfoldable pub messages : List TypeRow
 messages =
     «CLIENT_SETUP» ∷ «SERVER_SETUP» ∷ GOAWAY ∷ «MAX_SUBSCRIBE_ID» ∷ «SUBSCRIBES_BLOCKED» ∷ SUBSCRIBE ∷ «SUBSCRIBE_OK»
     ∷ «SUBSCRIBE_ERROR» ∷ UNSUBSCRIBE ∷ «SUBSCRIBE_UPDATE» ∷ «SUBSCRIBE_DONE» ∷ FETCH ∷ «FETCH_OK» ∷ «FETCH_ERROR»
@@ -127,29 +127,29 @@ messages =
 -- ---- a type, looked up
 
 -- the row that a number stands in, or that it stands in none
-pub data Listed : Type 0 where
-  listed : Row → Listed
-  unlisted : Listed
+pub data InTable : Type 0 where
+  listed : TypeRow → InTable
+  unlisted : InTable
 
-abbrev pub onListed : {A : Type 0} → Listed → (Row → A) → A → A
+abbrev pub onListed : {A : Type 0} → InTable → (TypeRow → A) → A → A
 onListed (listed r) f none = f r
 onListed unlisted f none = none
 
-unfoldable pub rowIn : List Row → ℕ → Listed
-rowIn [] type = unlisted
-rowIn (r ∷ rs) type = pick (eqb type (r .number)) (listed r) (rowIn rs type)
+unfoldable pub typeRowIn : List TypeRow → ℕ → InTable
+typeRowIn [] type = unlisted
+typeRowIn (r ∷ rs) type = pick (eqb type (r .number)) (listed r) (typeRowIn rs type)
 
-unfoldable pub rowOf : ℕ → Listed
-rowOf type = rowIn messages type
+unfoldable pub typeRowOf : ℕ → InTable
+typeRowOf type = typeRowIn messages type
 
 -- "Types fall into known numbers, gaps between them and numbers beyond the last"
 unfoldable pub known : ℕ → Bool
-known type = onListed (rowOf type) (λ r. true) false
+known type = onListed (typeRowOf type) (λ r. true) false
 
 -- the body of a message of a type
 unfoldable pub layoutOf : ℕ → Layout
-layoutOf type = onListed (rowOf type) (λ r. r .layout) forbidden
+layoutOf type = onListed (typeRowOf type) (λ r. r .layout) forbidden
 
 -- and its name, as 004 spells it
 unfoldable pub nameOf : ℕ → List ℕ
-nameOf type = onListed (rowOf type) (λ r. letters (r .name)) []
+nameOf type = onListed (typeRowOf type) (λ r. letters (r .name)) []

@@ -6,7 +6,7 @@ use mathlib.Core.List.{List, [], _∷_, _++_}
 use native.Mathlib.Omega.{arith}
 use borrow.Author.Tests.{leb-false}
 use lib.Dec.{leb, ltb, eqb}
-use Rattle.integer.specs.Answer.{pick}
+use Rattle.common.specs.Choice.{pick}
 use Rattle.field.specs.declared.Arrival.{Arrival}
 use Rattle.subscription.specs.declared.Subscribe.{Subscribe}
 use Rattle.subscription.specs.declared.SubscribeOk.{SubscribeOk}
@@ -19,7 +19,7 @@ use Rattle.row.specs.declared.Ending.{Ending}
 use Rattle.row.specs.declared.Ending.the-variants.{SubscribeError as Erring, SubscribeDone as Ended, Unsubscribe as Leaving}
 use Rattle.row.proofs.Keeping.{after, opened, open-by}
 use Rattle.ledger.specs.Ledgers.{held, hasAlias, isLedger, isOpen}
-use Rattle.ledger.specs.Answers.{Came, only, same, done, isOwn, breaks, gated, gateOf, stops}
+use Rattle.ledger.specs.Answers.{Came, noRule, same, done, isOwn, breaks, gated, gateOf, stops}
 use Rattle.ledger.specs.Steps.{idOf, aliasOf, rowAt, changed, added, freed, subscribeStep, maximumStep, okStep, endStep, arrivalStep, subscriptionStep, messageStep, takeOf, malformedOf, arrivalOf, noRow as noRowAt, newRow}
 use Rattle.ledger.specs.declared.Ledger.{Ledger}
 use Rattle.ledger.specs.declared.Part.{Part}
@@ -31,10 +31,10 @@ use Rattle.ledger.proofs.Finds.{HasNone, IsFirst, on-place, first-used}
 use Rattle.ledger.proofs.Parts.{held-long}
 use Rattle.ledger.proofs.HeldRows.{held-at, held-changed-by, held-added, held-freed-by}
 use Rattle.ledger.proofs.Changes.{within-places, within-room}
-use Rattle.ledger.specs.Keys.{Looked, one, look, found, Change, gone, now, turn}
+use Rattle.ledger.specs.Keys.{Looked, one, look, onLooked, Change, gone, now, turn}
 use Rattle.view.specs.Views.{View, Seen, standingOf, viewOf, seenOf}
 use Rattle.view.specs.Events.{Event, message, malformed, arrival, comes, isSound}
-use Rattle.view.specs.Steps.{Reply, answer, broken, saidBy, closing, replied, unchanged, withHighest, subscribeSeen, RowStep, named, noRow, breaksR6, okAt, endAt, byId, maximumSeen, arriveAt, byAlias, subscriptionSeen, eventSeen, viewStep}
+use Rattle.view.specs.Steps.{Reply, answer, broken, verdictBy, standingAfter, replied, unchanged, withHighest, subscribeSeen, RowStep, byKey, noRow, breaksR6, okAt, endAt, byId, maximumSeen, arriveAt, byAlias, subscriptionSeen, eventSeen, viewStep}
 use Rattle.view.proofs.SameLedger.{same-ledger}
 use Rattle.view.proofs.Turns.{look-none, look-at, turn-found, turn-same}
 
@@ -65,23 +65,23 @@ module _ (l : Ledger) (key : Row → ℕ) (n : ℕ) where
   -- what is seen where something is replied, and each row is turned that has the number
   turned : Bool → (Row → Change Row) → Reply → Seen
   turned own row reply =
-      record { says = saidBy reply; next = record { standing = closing own reply (standingOf l); rows = turn key n row (held l) } }
+      record { says = verdictBy reply; next = record { standing = standingAfter own reply (standingOf l); rows = turn key n row (held l) } }
 
-  named-by : (own : Bool) (missing : Reply) (at : Row → RowStep) {looked : Looked Row} → look key n (held l) ≡ looked → turned own (λ r. at r .row) (found missing (λ r. at r .reply) looked) ≡ named (viewOf l) own key n missing at
-  unfolding named turned
+  named-by : (own : Bool) (missing : Reply) (at : Row → RowStep) {looked : Looked Row} → look key n (held l) ≡ looked → turned own (λ r. at r .row) (onLooked missing (λ r. at r .reply) looked) ≡ byKey (viewOf l) own key n missing at
+  unfolding byKey turned
   named-by own missing at e = rw e
 
-  first-named : (own : Bool) (missing : Reply) (at : Row → RowStep) {i : ℕ} → IsFirst key n (held l) i → turned own (λ r. at r .row) (at (rowAt l i) .reply) ≡ named (viewOf l) own key n missing at
+  first-named : (own : Bool) (missing : Reply) (at : Row → RowStep) {i : ℕ} → IsFirst key n (held l) i → turned own (λ r. at r .row) (at (rowAt l i) .reply) ≡ byKey (viewOf l) own key n missing at
   first-named own missing at h = named-by own missing at (looked-at h)
 
   -- rows that stay as they are
   stays : (own : Bool) (row : Row → Change Row) (reply : Reply) → ((r : Row) → look key n (held l) ≡ one r → row r ≡ now r) → replied (viewOf l) own reply ≡ turned own row reply
   unfolding turned
   stays own row reply e =
-      ap (λ (rs : List Row). record { says = saidBy reply; next = record { standing = closing own reply (standingOf l); rows = rs } })
+      ap (λ (rs : List Row). record { says = verdictBy reply; next = record { standing = standingAfter own reply (standingOf l); rows = rs } })
       (sym (turn-same key n row (held l) e))
 
-  missing-named : (own : Bool) (missing : Reply) (at : Row → RowStep) → HasNone key n (held l) → replied (viewOf l) own missing ≡ named (viewOf l) own key n missing at
+  missing-named : (own : Bool) (missing : Reply) (at : Row → RowStep) → HasNone key n (held l) → replied (viewOf l) own missing ≡ byKey (viewOf l) own key n missing at
   missing-named own missing at h =
       let e = look-none key n h in
       stays own (λ r. at r .row) missing (λ r k. absurd (let z : _≡_ {A = ℕ} 0 1 = cc in omega arith)) ∙ named-by own missing at e
@@ -108,14 +108,14 @@ module _ (l : Ledger) where
       go false = refl
 
   -- a row changed
-  changed-follows : (key : Row → ℕ) (n i : ℕ) → IsFirst key n (held l) i → (f : Row → Row) (number : ℕ) (own : Bool) → seenOf (record { says = only number; next = changed l i (f (rowAt l i)) }) ≡ turned l key n own (λ r. now (f r)) (answer number)
+  changed-follows : (key : Row → ℕ) (n i : ℕ) → IsFirst key n (held l) i → (f : Row → Row) (number : ℕ) (own : Bool) → seenOf (record { says = noRule number; next = changed l i (f (rowAt l i)) }) ≡ turned l key n own (λ r. now (f r)) (answer number)
   unfolding turned changed
   changed-follows key n i e f number own =
-      ap (λ (rs : List Row). record { says = only number; next = record { standing = standingOf l; rows = rs } })
+      ap (λ (rs : List Row). record { says = noRule number; next = record { standing = standingOf l; rows = rs } })
       (held-changed-by l key n i e f)
 
   -- an arrival
-  arrived-follows : (a : Arrival) (i : ℕ) → IsFirst aliasOf (a .alias) (held l) i → let at = arriveOf (rowAt l i) (a .place) in seenOf (record { says = only (at .number); next = changed l i (at .row) }) ≡ byAlias (viewOf l) (a .alias) (arriveAt (a .place))
+  arrived-follows : (a : Arrival) (i : ℕ) → IsFirst aliasOf (a .alias) (held l) i → let at = arriveOf (rowAt l i) (a .place) in seenOf (record { says = noRule (at .number); next = changed l i (at .row) }) ≡ byAlias (viewOf l) (a .alias) (arriveAt (a .place))
   unfolding after arriveAt
   arrived-follows a i h =
       changed-follows aliasOf (a .alias) i h (after (a .place)) (arriveOf (rowAt l i) (a .place) .number) (isOwn (l .part) Publisher)
@@ -169,7 +169,7 @@ module _ (l : Ledger) where
     freed-follows : (id i : ℕ) → IsFirst idOf id (held l) i → (own : Bool) → seenOf (done (freed l i)) ≡ turned l idOf id own (λ _. gone) (answer 8)
     unfolding turned freed
     freed-follows id i e own =
-        ap (λ (rs : List Row). record { says = only 8; next = record { standing = standingOf l; rows = rs } })
+        ap (λ (rs : List Row). record { says = noRule 8; next = record { standing = standingOf l; rows = rs } })
         (held-freed-by l idOf id i e (within-places l (parts l w)))
 
     -- what ends a subscription
@@ -190,7 +190,7 @@ module _ (l : Ledger) where
         go : (b : Bool) → mayEnd ending (rowAt l i .state) ≡ b → seenOf (pick b (done (freed l i)) (breaks l own R6)) ≡ turned l idOf id own row (pick {A = RowStep} b (record { reply = answer 8; row = gone }) (breaksR6 (rowAt l i)) .reply)
         go true h =
             freed-follows id i f own
-            ∙ ap (λ (rs : List Row). record { says = only 8; next = record { standing = standingOf l; rows = rs } })
+            ∙ ap (λ (rs : List Row). record { says = noRule 8; next = record { standing = standingOf l; rows = rs } })
             (turn-found idOf id (λ _. gone) row (held l) (λ r k. let e = looked-at l idOf id f in let is : rowAt l i ≡ r = cc in rw (sym is) (sym (ap (λ (x : RowStep). x .row) (end-by ending (rowAt l i) h)))))
         go false h =
             breaks-follow own R6 ∙ first-stays l idOf id own row (broken R6) f (ap (λ (x : RowStep). x .row) (end-by ending (rowAt l i) h))
@@ -202,10 +202,10 @@ module _ (l : Ledger) where
         (missing-follows by id (endAt ending)) (λ i h. first-follows by id (endAt ending) _ h (ended-follows by ending id i h))
 
     -- SUBSCRIBE
-    added-follows : (m : Subscribe) → leb (l .capacity) (l .used) ≡ false → seenOf (done (added l (newRow m))) ≡ record { says = only 8; next = record { standing = withHighest (standingOf l) (m .id); rows = held l ++ (newRow m ∷ []) } }
+    added-follows : (m : Subscribe) → leb (l .capacity) (l .used) ≡ false → seenOf (done (added l (newRow m))) ≡ record { says = noRule 8; next = record { standing = withHighest (standingOf l) (m .id); rows = held l ++ (newRow m ∷ []) } }
     unfolding added
     added-follows m free =
-        ap (λ (rs : List Row). record { says = only 8; next = record { standing = withHighest (standingOf l) (m .id); rows = rs } })
+        ap (λ (rs : List Row). record { says = noRule 8; next = record { standing = withHighest (standingOf l) (m .id); rows = rs } })
         (held-added l (newRow m) (within-room l (parts l w) (leb-false (l .capacity) (l .used) free)))
 
     subscribe-follows : (m : Subscribe) → seenOf (subscribeStep l m) ≡ subscribeSeen (viewOf l) m

@@ -1,8 +1,7 @@
 -- What an arrival makes of a row does not depend on the arrivals before it. Assumes nothing.
 use mathlib.Core.Path.{_≡_, refl, sym, ap, _∙_}
 use mathlib.Core.Bool.{Bool, true, false, not}
-use Rattle.integer.specs.Answer.{pick}
-use Rattle.field.specs.Outcome.{both}
+use Rattle.common.specs.Choice.{pick, both}
 use Rattle.field.specs.declared.Place.{Place}
 use Rattle.row.proofs.Keeping.{after, arrive-by}
 use Rattle.row.proofs.Ordering.{greater-either}

@@ -8,8 +8,8 @@ use mathlib.Core.Logic.{_⊎_, inl, inr}
 use native.Mathlib.Omega.{arith}
 use borrow.Author.Tests.{eqb-true, eqb-false}
 use lib.Dec.{eqb}
-use Rattle.integer.specs.Answer.{pick}
-use Rattle.integer.proofs.Cases.{pick-by}
+use Rattle.common.specs.Choice.{pick}
+use Rattle.common.proofs.Cases.{pick-by}
 use Rattle.field.specs.declared.Arrival.{Arrival}
 use Rattle.subscription.specs.declared.Content.{Content}
 use Rattle.message.specs.declared.Message.{Message}
@@ -18,16 +18,16 @@ use Rattle.row.specs.declared.Row.{Row}
 use Rattle.row.specs.declared.Ending.{Ending}
 use Rattle.row.specs.declared.Ending.the-variants.{SubscribeError as Erring, SubscribeDone as Ended, Unsubscribe as Leaving}
 use Rattle.row.proofs.Keeping.{after, after-alias, opened, opened-id}
-use Rattle.ledger.specs.Answers.{only, isOwn}
+use Rattle.ledger.specs.Answers.{noRule, isOwn}
 use Rattle.ledger.specs.Ledgers.{isOpen}
 use Rattle.ledger.specs.Steps.{idOf, aliasOf}
 use Rattle.ledger.specs.declared.Part.{Part}
 use Rattle.ledger.specs.declared.Part.the-variants.{Subscriber, Publisher}
-use Rattle.ledger.specs.Keys.{Looked, none, one, look, found, Change, now, turn}
+use Rattle.ledger.specs.Keys.{Looked, none, one, look, onLooked, Change, now, turn}
 use Rattle.ledger.proofs.Keyed.{Known}
 use Rattle.view.specs.Views.{Standing, View, Seen}
 use Rattle.view.specs.Events.{Event, message, arrival, isSound}
-use Rattle.view.specs.Steps.{Reply, answer, broken, saidBy, closing, unchanged, RowStep, named, noRow, okAt, endAt, byId, arriveAt, eventSeen, viewStep}
+use Rattle.view.specs.Steps.{Reply, answer, broken, verdictBy, standingAfter, unchanged, RowStep, byKey, noRow, okAt, endAt, byId, arriveAt, eventSeen, viewStep}
 use Rattle.view.specs.Orders.{Names, ok, error, finished, left, updated, NotKept, blocked, fetch, announce, session, Apart, different, first-not-kept, second-not-kept, SeenInEitherOrder}
 use Rattle.view.proofs.Guards.{passed, forbidden, closed-stays, open-before}
 use Rattle.view.proofs.Turns.{look-other, turn-other, found-turned, turn-twice}
@@ -80,14 +80,14 @@ record ByKey (key : Row → ℕ) (e : Event) : Type 0 where
   own : Part → Bool
   missing : Standing → Reply
   at : Row → RowStep
-  is : (v : View) → eventSeen v e ≡ named v (own (v .standing .part)) key number (missing (v .standing)) at
+  is : (v : View) → eventSeen v e ≡ byKey v (own (v .standing .part)) key number (missing (v .standing)) at
 
 module _ {key : Row → ℕ} {e : Event} (x : ByKey key e) where
   abbrev replyOf : Standing → List Row → Reply
-  replyOf s rows = found (x .missing s) (λ r. x .at r .reply) (look key (x .number) rows)
+  replyOf s rows = onLooked (x .missing s) (λ r. x .at r .reply) (look key (x .number) rows)
 
   abbrev closingOf : Standing → List Row → Standing
-  closingOf s rows = closing (x .own (s .part)) (replyOf s rows) s
+  closingOf s rows = standingAfter (x .own (s .part)) (replyOf s rows) s
 
   abbrev rowOf : Row → Change Row
   rowOf r = x .at r .row
@@ -95,8 +95,8 @@ module _ {key : Row → ℕ} {e : Event} (x : ByKey key e) where
   abbrev rowsOf : List Row → List Row
   rowsOf = turn key (x .number) rowOf
 
-  seen-is : (v : View) → isSound e ≡ true → isOpen (v .standing .session) ≡ true → viewStep v e ≡ record { says = saidBy (replyOf (v .standing) (v .rows)); next = record { standing = closingOf (v .standing) (v .rows); rows = rowsOf (v .rows) } }
-  unfolding named
+  seen-is : (v : View) → isSound e ≡ true → isOpen (v .standing .session) ≡ true → viewStep v e ≡ record { says = verdictBy (replyOf (v .standing) (v .rows)); next = record { standing = closingOf (v .standing) (v .rows); rows = rowsOf (v .rows) } }
+  unfolding byKey
   seen-is v s o = passed v e s o ∙ x .is v
 
 -- what the first does leaves the second's reply as it was
@@ -113,11 +113,11 @@ module _ (v : View) (o : isOpen (v .standing .session) ≡ true) {key : Row → 
     first-leaves =
         ap (λ (c : Seen). c .next) (seen-is x v s o) ∙ ap (λ (k : Standing). record { standing = k; rows = rowsOf x (v .rows) }) goes
 
-    second-seen : viewStep (viewStep v e .next) f ≡ record { says = saidBy (replyOf y st (v .rows)); next = record { standing = closingOf y st (v .rows); rows = rowsOf y (rowsOf x (v .rows)) } }
+    second-seen : viewStep (viewStep v e .next) f ≡ record { says = verdictBy (replyOf y st (v .rows)); next = record { standing = closingOf y st (v .rows); rows = rowsOf y (rowsOf x (v .rows)) } }
     second-seen =
         ap (λ (w : View). viewStep w f) first-leaves
         ∙ seen-is y (record { standing = st; rows = rowsOf x (v .rows) }) t o
-        ∙ ap (λ (reply : Reply). record { says = saidBy reply; next = record { standing = closing (y .own (st .part)) reply st; rows = rowsOf y (rowsOf x (v .rows)) } }) (unmoved st (v .rows))
+        ∙ ap (λ (reply : Reply). record { says = verdictBy reply; next = record { standing = standingAfter (y .own (st .part)) reply st; rows = rowsOf y (rowsOf x (v .rows)) } }) (unmoved st (v .rows))
 
     second-says : viewStep (viewStep v e .next) f .says ≡ viewStep v f .says
     second-says =
@@ -161,9 +161,9 @@ module _ (a b : Arrival) where
   unfolding arrives arriveAt after
   arrival-unmoved s rows =
       by-alias (a .alias) (b .alias)
-      (λ n. found (answer 18) (λ r. arriveAt (b .place) r .reply) (look aliasOf n (turn aliasOf (a .alias) (λ r. now (after (a .place) r)) rows)) ≡ found (answer 18) (λ r. arriveAt (b .place) r .reply) (look aliasOf n rows))
+      (λ n. onLooked (answer 18) (λ r. arriveAt (b .place) r .reply) (look aliasOf n (turn aliasOf (a .alias) (λ r. now (after (a .place) r)) rows)) ≡ onLooked (answer 18) (λ r. arriveAt (b .place) r .reply) (look aliasOf n rows))
       (found-turned aliasOf (a .alias) (after (a .place)) (after-alias (a .place)) (answer 18) (λ r. arriveAt (b .place) r .reply) (λ r. ap answer (number-after (a .place) (b .place) r)) rows)
-      (λ other. ap (found (answer 18) (λ r. arriveAt (b .place) r .reply)) (look-other aliasOf (b .alias) (a .alias) (λ e. other (sym e)) (λ r. now (after (a .place) r)) (after-alias (a .place)) rows))
+      (λ other. ap (onLooked (answer 18) (λ r. arriveAt (b .place) r .reply)) (look-other aliasOf (b .alias) (a .alias) (λ e. other (sym e)) (λ r. now (after (a .place) r)) (after-alias (a .place)) rows))
 
   arrival-turns : (rows : List Row) → rowsOf (arrives b) (rowsOf (arrives a) rows) ≡ rowsOf (arrives a) (rowsOf (arrives b) rows)
   unfolding arrives arriveAt after
@@ -178,7 +178,7 @@ arrival-goes : (a : Arrival) (s : Standing) (rows : List Row) → closingOf (arr
 unfolding arrives arriveAt
 arrival-goes a s rows = go (look aliasOf (a .alias) rows)
   where
-    go : (looked : Looked Row) → closing (isOwn (s .part) Publisher) (found (answer 18) (λ r. arriveAt (a .place) r .reply) looked) s ≡ s
+    go : (looked : Looked Row) → standingAfter (isOwn (s .part) Publisher) (onLooked (answer 18) (λ r. arriveAt (a .place) r .reply) looked) s ≡ s
     go none = refl
     go (one r) = refl
 
@@ -207,11 +207,11 @@ module _ {m : Message} (x : NotKept m) where
       (λ _. pick-by (λ (c : Seen). c .next ≡ v) (isOpen (v .standing .session)) (λ _. ap (λ (c : Seen). c .next) (not-kept x v)) (λ _. refl))
       (λ _. refl)
 
-  nine-says : (v : View) → isOpen (v .standing .session) ≡ true → viewStep v (message m) .says ≡ only (pick (isSound (message m)) 9 5)
+  nine-says : (v : View) → isOpen (v .standing .session) ≡ true → viewStep v (message m) .says ≡ noRule (pick (isSound (message m)) 9 5)
   unfolding viewStep
   nine-says v o =
       rw o
-      (pick-by (λ (c : Seen). c .says ≡ only (pick (isSound (message m)) 9 5)) (isSound (message m))
+      (pick-by (λ (c : Seen). c .says ≡ noRule (pick (isSound (message m)) 9 5)) (isSound (message m))
       (λ s. ap (λ (c : Seen). c .says) (not-kept x v) ∙ rw s) (λ s. rw s))
 
   -- so it may change places with any event behind which the session is open
@@ -250,7 +250,7 @@ by-id (left {id}) = inr (names-id _ Subscriber id (endAt Leaving) (λ _. refl) (
 by-id updated = inl updated
 
 -- a session that is still open was not closed
-open-goes : (own : Bool) (reply : Reply) (s : Standing) → isOpen (closing own reply s .session) ≡ true → closing own reply s ≡ s
+open-goes : (own : Bool) (reply : Reply) (s : Standing) → isOpen (standingAfter own reply s .session) ≡ true → standingAfter own reply s ≡ s
 open-goes own (answer number) s o = refl
 open-goes true (broken rule) s o = refl
 open-goes false (broken rule) s o = absurd (let z : _≡_ {A = ℕ} 0 1 = cc in omega arith)
@@ -258,7 +258,7 @@ open-goes false (broken rule) s o = absurd (let z : _≡_ {A = ℕ} 0 1 = cc in 
 -- of two that name different subscriptions
 id-unmoved : {m n : Message} {i j : ℕ} (x : ById m i) (y : ById n j) → (y .acts .number ≡ x .acts .number → ⊥) → Unmoved (x .acts) (y .acts)
 id-unmoved x y differ s rows =
-    ap (found (y .acts .missing s) (λ r. y .acts .at r .reply)) (look-other idOf (y .acts .number) (x .acts .number) differ (rowOf (x .acts)) (x .knows) rows)
+    ap (onLooked (y .acts .missing s) (λ r. y .acts .at r .reply)) (look-other idOf (y .acts .number) (x .acts .number) differ (rowOf (x .acts)) (x .knows) rows)
 
 module _ (v : View) {m n : Message} {i j : ℕ} (x : ById m i) (y : ById n j) (other : i ≡ j → ⊥) (opened : isOpen (viewStep (viewStep v (message m) .next) (message n) .next .standing .session) ≡ true) where
   differ : y .acts .number ≡ x .acts .number → ⊥

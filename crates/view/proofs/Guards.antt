@@ -1,7 +1,7 @@
 -- What a view's step looks at first, and what it then comes to. Assumes nothing.
 use mathlib.Core.Path.{_≡_, refl, sym, ap, _∙_}
 use mathlib.Core.Bool.{Bool, true, false}
-use Rattle.integer.proofs.Cases.{pick-by}
+use Rattle.common.proofs.Cases.{pick-by}
 use Rattle.ledger.specs.Ledgers.{isOpen}
 use Rattle.view.specs.Views.{View, Seen}
 use Rattle.view.specs.Events.{Event, isSound}

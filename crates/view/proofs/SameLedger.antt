@@ -7,7 +7,7 @@ use native.Mathlib.Omega.{arith}
 use borrow.Author.Tests.{eqb-true}
 use lib.Dec.{eqb}
 use lib.ListN.{length, take, drop, replicate, take-append-drop, length-drop}
-use Rattle.measure.proofs.Tests.{both-first, both-second}
+use Rattle.common.proofs.Tests.{both-first, both-second}
 use Rattle.row.specs.Ranges.{isKnown}
 use Rattle.row.specs.Rows.{unusedRow, isPending, isNowhere, isUnused}
 use Rattle.row.specs.declared.State.{State}

@@ -6,10 +6,10 @@ use mathlib.Core.List.{List, [], _∷_}
 use borrow.Author.Tests.{eqb-true, ne-eqb}
 use lib.Dec.{eqb}
 use lib.ListN.{getD}
-use Rattle.integer.specs.Answer.{pick}
+use Rattle.common.specs.Choice.{pick}
 use Rattle.ledger.proofs.Finds.{HasNone, end, other, IsFirst, here, later}
 use Rattle.ledger.proofs.Keyed.{Known}
-use Rattle.ledger.specs.Keys.{Looked, none, one, look, found, Change, gone, now, put, turn}
+use Rattle.ledger.specs.Keys.{Looked, none, one, look, onLooked, Change, gone, now, put, turn}
 
 module _ {A : Type 0} (key : A → ℕ) (n : ℕ) where
   -- ---- by key and by place
@@ -104,10 +104,10 @@ module _ {A : Type 0} (key : A → ℕ) (n : ℕ) (f : A → A) (f-knows : (x : 
       go false h ih = rw h ih
 
   -- so what is said of it is the same, where that does not depend on the turn,
-  pub found-turned : {B : Type 0} (missing : B) (at : A → B) → ((x : A) → at (f x) ≡ at x) → (xs : List A) → found missing at (look key n (turn key n (λ x. now (f x)) xs)) ≡ found missing at (look key n xs)
-  found-turned missing at alike xs = ap (found missing at) (look-turned xs) ∙ go (look key n xs)
+  pub found-turned : {B : Type 0} (missing : B) (at : A → B) → ((x : A) → at (f x) ≡ at x) → (xs : List A) → onLooked missing at (look key n (turn key n (λ x. now (f x)) xs)) ≡ onLooked missing at (look key n xs)
+  found-turned missing at alike xs = ap (onLooked missing at) (look-turned xs) ∙ go (look key n xs)
     where
-      go : (looked : Looked A) → found missing at (seen f looked) ≡ found missing at looked
+      go : (looked : Looked A) → onLooked missing at (seen f looked) ≡ onLooked missing at looked
       go none = refl
       go (one x) = alike x
 

@@ -4,7 +4,7 @@ use mathlib.Core.Bool.{Bool, false}
 use mathlib.Core.List.{[], _∷_, _++_}
 use lib.Dec.{leb, ltb, eqb}
 use lib.ListN.{length}
-use Rattle.integer.specs.Answer.{guard, pick}
+use Rattle.common.specs.Choice.{guard, pick}
 use Rattle.field.specs.declared.Place.{Place}
 use Rattle.subscription.specs.declared.Content.{Content}
 use Rattle.subscription.specs.declared.Subscribe.{Subscribe}
@@ -15,7 +15,7 @@ use Rattle.row.specs.Rows.{arriveOf, openOf, mayEnd}
 use Rattle.row.specs.declared.Row.{Row}
 use Rattle.row.specs.declared.Ending.{Ending}
 use Rattle.row.specs.declared.Ending.the-variants.{SubscribeError as Erring, SubscribeDone as Ended, Unsubscribe as Leaving}
-use Rattle.ledger.specs.Answers.{Said, only, ruleNumber, isOwn}
+use Rattle.ledger.specs.Answers.{Verdict, noRule, ruleNumber, isOwn}
 use Rattle.ledger.specs.Ledgers.{hasAlias, isOpen}
 use Rattle.ledger.specs.Senders.{sender}
 use Rattle.ledger.specs.Steps.{idOf, aliasOf, newRow}
@@ -24,7 +24,7 @@ use Rattle.ledger.specs.declared.Part.the-variants.{Publisher}
 use Rattle.ledger.specs.declared.Rule.{Rule}
 use Rattle.ledger.specs.declared.Rule.the-variants.{R1, R2, R3, R4, R5, R6, R7}
 use Rattle.ledger.specs.declared.Session.the-variants.{Closed}
-use Rattle.ledger.specs.Keys.{look, found, Change, gone, now, turn}
+use Rattle.ledger.specs.Keys.{look, onLooked, Change, gone, now, turn}
 use Rattle.view.specs.Views.{Standing, View, Seen}
 use Rattle.view.specs.Events.{Event, message, malformed, arrival, isSound}
 
@@ -35,26 +35,26 @@ pub data Reply : Type 0 where
   answer : ℕ → Reply
   broken : Rule → Reply
 
-abbrev pub saidBy : Reply → Said
-saidBy (answer number) = only number
-saidBy (broken rule) = record { number = 13; rule = ruleNumber rule }
+abbrev pub verdictBy : Reply → Verdict
+verdictBy (answer number) = noRule number
+verdictBy (broken rule) = record { number = 13; rule = ruleNumber rule }
 
 abbrev pub closed : Standing → Rule → Standing
 closed s rule =
     record { part = s .part; session = Closed rule; capacity = s .capacity; maximum = s .maximum; next = s .next }
 
 -- "own message: same ledger; peer's: closed, rule kept, rows unchanged"
-abbrev pub closing : Bool → Reply → Standing → Standing
-closing own (answer number) s = s
-closing own (broken rule) s = pick own s (closed s rule)
+abbrev pub standingAfter : Bool → Reply → Standing → Standing
+standingAfter own (answer number) s = s
+standingAfter own (broken rule) s = pick own s (closed s rule)
 
 -- the rows stay as they are
 abbrev pub replied : View → Bool → Reply → Seen
 replied v own reply =
-    record { says = saidBy reply; next = record { standing = closing own reply (v .standing); rows = v .rows } }
+    record { says = verdictBy reply; next = record { standing = standingAfter own reply (v .standing); rows = v .rows } }
 
 abbrev pub unchanged : View → ℕ → Seen
-unchanged v number = record { says = only number; next = v }
+unchanged v number = record { says = noRule number; next = v }
 
 -- ---- SUBSCRIBE
 
@@ -73,7 +73,7 @@ subscribeSeen v m =
     (pick (leb (s .maximum) (m .id)) (replied v own (broken R3))
     (pick (hasAlias (m .alias) (v .rows)) (replied v own (broken R4))
     (pick (leb (s .capacity) (length (v .rows))) (unchanged v 11)
-    (record { says = only 8; next = record { standing = withHighest s (m .id); rows = v .rows ++ newRow m ∷ [] } }))))
+    (record { says = noRule 8; next = record { standing = withHighest s (m .id); rows = v .rows ++ newRow m ∷ [] } }))))
 
 -- ---- what names a row: a message by its ID, an arrival by its alias
 
@@ -83,12 +83,12 @@ pub record RowStep : Type 0 where
   pub row : Change Row
 
 -- the row that has a number is looked up, and turned
-unfoldable pub named : View → Bool → (Row → ℕ) → ℕ → Reply → (Row → RowStep) → Seen
-named v own key n missing at =
-    let reply = found missing (λ r. at r .reply) (look key n (v .rows)) in
+unfoldable pub byKey : View → Bool → (Row → ℕ) → ℕ → Reply → (Row → RowStep) → Seen
+byKey v own key n missing at =
+    let reply = onLooked missing (λ r. at r .reply) (look key n (v .rows)) in
     record {
-      says = saidBy reply;
-      next = record { standing = closing own reply (v .standing); rows = turn key n (λ r. at r .row) (v .rows) };
+      says = verdictBy reply;
+      next = record { standing = standingAfter own reply (v .standing); rows = turn key n (λ r. at r .row) (v .rows) };
     }
 
 -- ---- SUBSCRIBE_OK, SUBSCRIBE_ERROR, SUBSCRIBE_DONE (publisher), UNSUBSCRIBE (subscriber)
@@ -113,7 +113,7 @@ endAt ending r =
     pick (mayEnd ending (r .state)) (record { reply = answer 8; row = gone }) (breaksR6 r)
 
 abbrev pub byId : View → Part → ℕ → (Row → RowStep) → Seen
-byId v by id at = named v (isOwn (v .standing .part) by) idOf id (noRow (v .standing) id) at
+byId v by id at = byKey v (isOwn (v .standing .part) by) idOf id (noRow (v .standing) id) at
 
 -- ---- MAX_SUBSCRIBE_ID
 
@@ -126,7 +126,7 @@ unfoldable pub maximumSeen : View → ℕ → Seen
 maximumSeen v id =
     let s = v .standing in
     pick (leb id (s .maximum)) (replied v (isOwn (s .part) (sender (AMaxSubscribeId id))) (broken R7))
-    (record { says = only 8; next = record { standing = withMaximum s id; rows = v .rows } })
+    (record { says = noRule 8; next = record { standing = withMaximum s id; rows = v .rows } })
 
 -- ---- arrivals
 
@@ -136,7 +136,7 @@ arriveAt place r = let at = arriveOf r place in record { reply = answer (at .num
 
 -- 18, "no row has this alias"; what arrives is the publisher's
 abbrev pub byAlias : View → ℕ → (Row → RowStep) → Seen
-byAlias v alias at = named v (isOwn (v .standing .part) Publisher) aliasOf alias (answer 18) at
+byAlias v alias at = byKey v (isOwn (v .standing .part) Publisher) aliasOf alias (answer 18) at
 
 -- ---- each event
 

@@ -2,7 +2,7 @@
 use Prim.Native.Nat.{ℕ}
 use mathlib.Core.List.{List}
 use Rattle.row.specs.declared.Row.{Row}
-use Rattle.ledger.specs.Answers.{Said, Came}
+use Rattle.ledger.specs.Answers.{Verdict, Came}
 use Rattle.ledger.specs.Ledgers.{held}
 use Rattle.ledger.specs.declared.Part.{Part}
 use Rattle.ledger.specs.declared.Session.{Session}
@@ -22,7 +22,7 @@ pub record View : Type 0 where
 
 -- what is said, and the next view
 pub record Seen : Type 0 where
-  pub says : Said
+  pub says : Verdict
   pub next : View
 
 -- ---- the view of a ledger

@@ -5,7 +5,7 @@ use native.Mathlib.Omega.{arith}
 use borrow.Author.Needs.{needs}
 use lib.ListN.{length}
 use lib.Seq.{length-take-le}
-use Rattle.answers.proofs.Left.{told-goes}
+use Rattle.answers.proofs.TextLeft.{told-goes}
 use Rattle.moqanswers.proofs.print_fields.Statement.{statement}
 use Rattle.moqanswers.proofs.print_fields.Tie as tie
 

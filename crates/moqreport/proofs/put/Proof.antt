@@ -4,7 +4,7 @@ use mathlib.Core.Path.{_≡_, sym, _∙_}
 use native.Mathlib.Omega.{arith}
 use borrow.Author.Needs.{needs}
 use lib.ListN.{length, length-map}
-use Rattle.run.specs.Progressing.{endOf}
+use Rattle.replay.specs.Progressing.{finishOf}
 use Rattle.report.specs.Report.{textOf}
 use Rattle.report.proofs.Putting.{was-put, no-refusal}
 use Rattle.report.proofs.Longest.{ended-bound}
@@ -15,7 +15,7 @@ use Rattle.moqreport.proofs.put.Tie as tie
 places : (a : tie.Start) → length (a .args .p .ledger .rows) ≡ 64
 places a = sym (length-map (a .args .p .ledger .rows) _) ∙ a .good .1 .0 .1 .1 .0 .1 .1 .0 .1 .0 .1
 
-fits : (a : tie.Start) → length (textOf (endOf (a .args .p) (a .args .left))) ≤ length (a .args .out .now)
+fits : (a : tie.Start) → length (textOf (finishOf (a .args .p) (a .args .left))) ≤ length (a .args .out .now)
 fits a = omega (arith, a .pre, ended-bound (a .args .p) (a .args .left) (places a))
 
 pub put-spec : {M : Type 1} → statement M

@@ -1,7 +1,7 @@
 -- `number` meets its contract. Assumes nothing.
 use borrow.Author.Needs.{needs}
-use Rattle.layout.proofs.Said.{told-of}
-use Rattle.announce.specs.Told.{saidOf}
+use Rattle.common.proofs.Telling.{told-of}
+use Rattle.announce.specs.Told.{typedOf}
 use Rattle.announce.proofs.writer.number.Statement.{statement}
 use Rattle.announce.proofs.writer.number.Tie as tie
 
@@ -10,4 +10,4 @@ number-spec =
     tie.close
     (tie.spec
     (λ c. search needs) (λ c κs. search needs) (λ c. search needs) (λ c κs. search needs) (λ c. search needs) (λ c κs. search needs)
-    (λ c. search (told-of (λ m. saidOf m .type))) (λ c. search (told-of (λ m. saidOf m .type))) (λ c. search (told-of (λ m. saidOf m .type))))
+    (λ c. search (told-of (λ m. typedOf m .type))) (λ c. search (told-of (λ m. typedOf m .type))) (λ c. search (told-of (λ m. typedOf m .type))))

@@ -1,11 +1,11 @@
 -- `number_of` meets its contract. Assumes nothing.
 use borrow.Author.Needs.{needs}
-use Rattle.announce.specs.Kinds.{rowOf}
+use Rattle.announce.specs.Kinds.{typeRow}
 use Rattle.announce.proofs.writer.number_of.Statement.{statement}
 use Rattle.announce.proofs.writer.number_of.Tie as tie
 
 pub number-of-spec : {M : Type 1} → statement M
-unfolding rowOf
+unfolding typeRow
 number-of-spec =
     tie.close
     (tie.spec

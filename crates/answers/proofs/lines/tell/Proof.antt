@@ -1,8 +1,8 @@
 -- `tell` meets its contract. Assumes nothing.
 use borrow.Author.Needs.{needs}
 use native.Mathlib.Omega.{arith}
-use Rattle.run.proofs.Along.{stands}
-use Rattle.answers.proofs.Taken.{none-taken, one-taken}
+use Rattle.replay.proofs.FieldSteps.{stands}
+use Rattle.answers.proofs.FieldTaken.{none-taken, one-taken}
 use Rattle.answers.proofs.lines.tell.Statement.{statement}
 use Rattle.answers.proofs.lines.tell.Tie as tie
 

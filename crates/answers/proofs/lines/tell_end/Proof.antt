@@ -1,6 +1,6 @@
 -- `tell_end` meets its contract. Assumes nothing.
 use borrow.Author.Needs.{needs}
-use Rattle.answers.specs.Telling.{endItems}
+use Rattle.answers.specs.Answers.{endItems}
 use Rattle.answers.proofs.lines.tell_end.Statement.{statement}
 use Rattle.answers.proofs.lines.tell_end.Tie as tie
 

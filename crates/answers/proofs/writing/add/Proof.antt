@@ -1,6 +1,6 @@
 -- `add` meets its contract. Assumes nothing.
 use borrow.Author.Needs.{needs}
-use Rattle.answers.proofs.Added.{not-added, added, counted}
+use Rattle.answers.proofs.TextAdded.{not-added, added, counted}
 use Rattle.answers.proofs.writing.add.Statement.{statement}
 use Rattle.answers.proofs.writing.add.Tie as tie
 

@@ -1,6 +1,6 @@
 -- `of_trace` meets its contract: the text is counted first, and only then put. Assumes nothing.
 use borrow.Author.Needs.{needs}
-use Rattle.answers.proofs.Added.{passes-short, passes-done}
+use Rattle.answers.proofs.TextAdded.{passes-short, passes-done}
 use Rattle.answers.proofs.writing.of_trace.Statement.{statement}
 use Rattle.answers.proofs.writing.of_trace.Tie as tie
 

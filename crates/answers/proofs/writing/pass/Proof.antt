@@ -3,8 +3,8 @@ use borrow.Author.Needs.{needs}
 use Prim.Native.Nat.{_-_}
 use native.Mathlib.Omega.{arith}
 use lib.ListN.{length}
-use Rattle.answers.proofs.Left.{told-goes}
-use Rattle.answers.proofs.Along.{Along, along-start, along-next, along-short, along-end}
+use Rattle.answers.proofs.TextLeft.{told-goes}
+use Rattle.answers.proofs.WholeText.{Along, along-start, along-next, along-short, along-end}
 use Rattle.answers.proofs.writing.pass.Statement.{statement}
 use Rattle.answers.proofs.writing.pass.Tie as tie
 

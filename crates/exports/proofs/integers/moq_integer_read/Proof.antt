@@ -3,7 +3,7 @@ use mathlib.Core.Path.{sym, ap, _∙_}
 use native.Mathlib.Omega.{arith}
 use borrow.Author.Needs.{needs}
 use Rattle.integer.specs.Integer.{told}
-use Rattle.exports.proofs.Numbers.{read-cut, read-short, read-whole}
+use Rattle.exports.proofs.IntegerCalls.{read-cut, read-short, read-whole}
 use Rattle.exports.proofs.integers.moq_integer_read.Statement.{statement}
 use Rattle.exports.proofs.integers.moq_integer_read.Tie as tie
 

@@ -1,8 +1,8 @@
 -- `moq_integer_write` meets its contract. Assumes nothing.
 use native.Mathlib.Omega.{arith}
 use borrow.Author.Needs.{needs}
-use Rattle.integer.specs.Answer.{number}
-use Rattle.exports.proofs.Numbers.{one, write-great, write-short, write-said}
+use Rattle.common.specs.Answer.{number}
+use Rattle.exports.proofs.IntegerCalls.{one, write-great, write-short, write-said}
 use Rattle.exports.proofs.integers.moq_integer_write.Statement.{statement}
 use Rattle.exports.proofs.integers.moq_integer_write.Tie as tie
 

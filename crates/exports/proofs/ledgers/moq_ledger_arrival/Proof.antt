@@ -1,13 +1,13 @@
 -- `moq_ledger_arrival` meets its contract. Assumes nothing.
 use borrow.Author.Needs.{needs}
 use Rattle.ledger.specs.Steps.{arrivalOf}
-use Rattle.exports.specs.Ledgers.{arrivalIn}
-use Rattle.exports.proofs.Holding.{stepped}
+use Rattle.exports.specs.Ledgers.{arrivalCall}
+use Rattle.exports.proofs.LedgerCalls.{stepped}
 use Rattle.exports.proofs.ledgers.moq_ledger_arrival.Statement.{statement}
 use Rattle.exports.proofs.ledgers.moq_ledger_arrival.Tie as tie
 
 returns : tie.Need-returns
-unfolding arrivalIn
+unfolding arrivalCall
 returns c =
     let a = c .before .before .before .before .before .before .before .before .before .args in
     stepped _ (c .before .before .before .before .before .before .unpack .ensures) (c .before .before .before .before .before .arrival .result) (c .number .ensures) (c .before .before .before .keep .ensures) (λ l. arrivalOf l (record { alias = a .alias; place = record { group = a .group; object = a .object } })) (c .before .before .before .before .before .arrival .ensures)

@@ -1,8 +1,8 @@
 -- `moq_ledger_arrivals` meets its contract. Assumes nothing.
 use mathlib.Core.Path.{refl}
 use borrow.Author.Needs.{needs}
-use Rattle.integer.specs.Answer.{number}
-use Rattle.exports.proofs.Holding.{ran}
+use Rattle.common.specs.Answer.{number}
+use Rattle.exports.proofs.LedgerCalls.{ran}
 use Rattle.exports.proofs.ledgers.moq_ledger_arrivals.Statement.{statement}
 use Rattle.exports.proofs.ledgers.moq_ledger_arrivals.Tie as tie
 

@@ -3,13 +3,13 @@ use mathlib.Core.Path.{_≡_}
 use mathlib.Core.Logic.{⊎-elim}
 use native.Mathlib.Omega.{arith}
 use borrow.Author.Needs.{needs}
-use Rattle.packed.specs.Naming.{partOf}
-use Rattle.exports.proofs.Holding.{part-first, part-second, started-other, started-else, started-short, started-whole}
+use Rattle.ledger_numbers.specs.Naming.{partNamed}
+use Rattle.exports.proofs.LedgerCalls.{part-first, part-second, started-other, started-else, started-short, started-whole}
 use Rattle.exports.proofs.ledgers.moq_ledger_start.Statement.{statement}
 use Rattle.exports.proofs.ledgers.moq_ledger_start.Tie as tie
 
 -- the part that its number names
-which : (c : tie.Joined2) → c .if2 .own ≡ partOf (c .before .before .before .args .part)
+which : (c : tie.Joined2) → c .if2 .own ≡ partNamed (c .before .before .before .args .part)
 which c =
     ⊎-elim (λ w. part-first (w .0 .taken) (w .1)) (λ w. part-second _ (w .0 .left) (w .1)) (c .if2 .came)
 

@@ -1,7 +1,7 @@
 -- `moq_ledger_take` meets its contract. Assumes nothing.
 use native.Mathlib.Omega.{arith}
 use borrow.Author.Needs.{needs}
-use Rattle.exports.proofs.Holding.{no-ledger, not-told, taken, read-as, read-else}
+use Rattle.exports.proofs.LedgerCalls.{no-ledger, not-told, taken, read-as, read-else}
 use Rattle.exports.proofs.ledgers.moq_ledger_take.Statement.{statement}
 use Rattle.exports.proofs.ledgers.moq_ledger_take.Tie as tie
 

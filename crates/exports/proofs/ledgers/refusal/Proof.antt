@@ -1,6 +1,6 @@
 -- `refusal` meets its contract. Assumes nothing.
 use borrow.Author.Needs.{needs}
-use Rattle.integer.specs.Answer.{number}
+use Rattle.common.specs.Answer.{number}
 use Rattle.exports.proofs.ledgers.refusal.Statement.{statement}
 use Rattle.exports.proofs.ledgers.refusal.Tie as tie
 

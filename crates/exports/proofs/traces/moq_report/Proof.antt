@@ -1,7 +1,7 @@
 -- `moq_report` meets its contract. Assumes nothing.
 use native.Mathlib.Omega.{arith}
 use borrow.Author.Needs.{needs}
-use Rattle.exports.proofs.Shown.{no-info, text-short, text-done}
+use Rattle.exports.proofs.TraceCalls.{no-info, text-short, text-done}
 use Rattle.exports.proofs.traces.moq_report.Statement.{statement}
 use Rattle.exports.proofs.traces.moq_report.Tie as tie
 

@@ -1,16 +1,16 @@
 -- `is_allowed` meets its contract. Assumes nothing.
 use borrow.Author.Needs.{needs}
+use Rattle.common.proofs.Telling.{told-of}
 use Rattle.layout.specs.Layout.{failure}
 use Rattle.layout.specs.Allowed.{allowed}
-use Rattle.layout.proofs.Said.{told-of}
 use Rattle.types.specs.Fetches.{fetchError, fetchCancel, trackStatusRequest}
-use Rattle.fetch.specs.Kinds.{rowOf}
+use Rattle.fetch.specs.Kinds.{typeRow}
 use Rattle.fetch.proofs.Allows.{judged, fetch-is, ok-is}
 use Rattle.fetch.proofs.writer.is_allowed.Statement.{statement}
 use Rattle.fetch.proofs.writer.is_allowed.Tie as tie
 
 pub is-allowed-spec : {M : Type 1} → statement M
-unfolding allowed failure fetchError fetchCancel trackStatusRequest rowOf
+unfolding allowed failure fetchError fetchCancel trackStatusRequest typeRow
 is-allowed-spec =
     tie.close
     (tie.spec

@@ -1,6 +1,6 @@
 -- `datagram_arrival` meets its contract. Assumes nothing.
 use borrow.Author.Needs.{needs}
-use Rattle.layout.proofs.Said.{told-of}
+use Rattle.common.proofs.Telling.{told-of}
 use Rattle.header.specs.Arrivals.{datagramArrival}
 use Rattle.header.proofs.arrivals.datagram_arrival.Statement.{statement}
 use Rattle.header.proofs.arrivals.datagram_arrival.Tie as tie

@@ -1,12 +1,12 @@
 -- `is_status` meets its contract. Assumes nothing.
 use native.Mathlib.Omega.{arith}
 use borrow.Author.Tests.{le-leb, lt-leb}
-use Rattle.header.specs.Rules.{isStatus}
+use Rattle.header.specs.Rules.{isObjectStatus}
 use Rattle.header.proofs.rules.is_status.Statement.{statement}
 use Rattle.header.proofs.rules.is_status.Tie as tie
 
 pub is-status-spec : {M : Type 1} → statement M
-unfolding isStatus
+unfolding isObjectStatus
 is-status-spec =
     tie.close
     (tie.spec

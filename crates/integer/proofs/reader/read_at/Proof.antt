@@ -2,7 +2,8 @@
 use mathlib.Core.Path.{sym}
 use native.Mathlib.Nat.{le-of-lt}
 use borrow.Author.Needs.{needs}
-use Rattle.integer.proofs.Parts.{to-end, past}
+use Rattle.common.proofs.Parts.{to-end}
+use Rattle.integer.proofs.Offsets.{past}
 use Rattle.integer.proofs.reader.read_at.Statement.{statement}
 use Rattle.integer.proofs.reader.read_at.Tie as tie
 

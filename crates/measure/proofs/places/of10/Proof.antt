@@ -1,6 +1,6 @@
 -- `of10` meets its contract. Assumes nothing.
 use mathlib.Core.Path.{refl}
-use Rattle.measure.specs.Placing.{upTo}
+use Rattle.common.specs.Lists.{upTo}
 use Rattle.measure.specs.Fields.{placed}
 use Rattle.measure.proofs.places.of10.Statement.{statement}
 use Rattle.measure.proofs.places.of10.Tie as tie

@@ -1,6 +1,6 @@
 -- `is_small` meets its contract. Assumes nothing.
 use borrow.Author.Needs.{needs}
-use Rattle.layout.proofs.Said.{told-of}
+use Rattle.common.proofs.Telling.{told-of}
 use Rattle.measure.specs.Small.{smallList, smallPiece}
 use Rattle.measure.proofs.AllSmall.{track-great, track-small}
 use Rattle.measure.proofs.small.is_small.Statement.{statement}

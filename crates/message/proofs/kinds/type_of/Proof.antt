@@ -7,10 +7,10 @@ use Rattle.announce.specs.declared.kinds.Naming.the-variants as naming
 use Rattle.announce.specs.declared.kinds.Asking.the-variants as asking
 use Rattle.announce.specs.declared.kinds.Refusing.the-variants as refusing
 use Rattle.session.specs.declared.kinds.SessionKind.the-variants as session
-use Rattle.subscription.specs.Kinds.{rowOf as subscriptionRow}
-use Rattle.fetch.specs.Kinds.{rowOf as fetchRow}
-use Rattle.announce.specs.Kinds.{rowOf as announceRow}
-use Rattle.session.specs.Kinds.{rowOf as sessionRow}
+use Rattle.subscription.specs.Kinds.{typeRow as subscriptionRow}
+use Rattle.fetch.specs.Kinds.{typeRow as fetchRow}
+use Rattle.announce.specs.Kinds.{typeRow as announceRow}
+use Rattle.session.specs.Kinds.{typeRow as sessionRow}
 use Rattle.types.proofs.Gaps.{below-the-first}
 use Rattle.message.specs.Types.{numberOf}
 use Rattle.message.specs.declared.Kind.the-variants.{Subscription, Fetch, Announce, Session}

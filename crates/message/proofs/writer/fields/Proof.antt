@@ -1,8 +1,8 @@
 -- `fields` meets its contract: each family gives its own. Assumes nothing.
 use borrow.Author.Needs.{needs}
-use Rattle.layout.proofs.Said.{told-of}
+use Rattle.common.proofs.Telling.{told-of}
 use Rattle.measure.specs.Fields.{placed}
-use Rattle.message.specs.Types.{saidOf}
+use Rattle.message.specs.Types.{typedOf}
 use Rattle.message.proofs.writer.fields.Statement.{statement}
 use Rattle.message.proofs.writer.fields.Tie as tie
 
@@ -10,7 +10,7 @@ pub fields-spec : {M : Type 1} → statement M
 fields-spec =
     tie.close
     (tie.spec
-    (λ c. search needs) (λ c κs. search needs) (λ c. search needs) (λ c κs. search needs) (λ c. search needs) (λ c κs. search needs) (λ c. search needs) (λ c κs. search needs) (λ c. search (told-of (λ m. placed (saidOf m))))
-    (λ c. search (told-of (λ m. placed (saidOf m))))
-    (λ c. search (told-of (λ m. placed (saidOf m))))
-    (λ c. search (told-of (λ m. placed (saidOf m)))))
+    (λ c. search needs) (λ c κs. search needs) (λ c. search needs) (λ c κs. search needs) (λ c. search needs) (λ c κs. search needs) (λ c. search needs) (λ c κs. search needs) (λ c. search (told-of (λ m. placed (typedOf m))))
+    (λ c. search (told-of (λ m. placed (typedOf m))))
+    (λ c. search (told-of (λ m. placed (typedOf m))))
+    (λ c. search (told-of (λ m. placed (typedOf m)))))

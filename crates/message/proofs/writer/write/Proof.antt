@@ -1,8 +1,8 @@
 -- `write` meets its contract: the fields of each family are framed. Assumes nothing.
 use borrow.Author.Needs.{needs}
-use Rattle.layout.proofs.Said.{told-of}
+use Rattle.common.proofs.Telling.{told-of}
 use Rattle.measure.specs.Fields.{placed}
-use Rattle.message.specs.Types.{saidOf}
+use Rattle.message.specs.Types.{typedOf}
 use Rattle.message.proofs.Writes.{not-allowed, is-framed}
 use Rattle.message.proofs.writer.write.Statement.{statement}
 use Rattle.message.proofs.writer.write.Tie as tie
@@ -16,7 +16,7 @@ write-spec =
     (λ c. search needs) (λ c κs. search needs) (λ c κs. search needs)
     (λ c. search needs) (λ c κs. search needs) (λ c κs. search needs)
     (λ c. search needs) (λ c κs. search needs) (λ c κs. search needs)
-    (λ c. search needs) (λ c. search (is-framed, told-of (λ m. placed (saidOf m))))
-    (λ c. search needs) (λ c. search (is-framed, told-of (λ m. placed (saidOf m))))
-    (λ c. search needs) (λ c. search (is-framed, told-of (λ m. placed (saidOf m))))
-    (λ c. search needs) (λ c. search (is-framed, told-of (λ m. placed (saidOf m)))))
+    (λ c. search needs) (λ c. search (is-framed, told-of (λ m. placed (typedOf m))))
+    (λ c. search needs) (λ c. search (is-framed, told-of (λ m. placed (typedOf m))))
+    (λ c. search needs) (λ c. search (is-framed, told-of (λ m. placed (typedOf m))))
+    (λ c. search needs) (λ c. search (is-framed, told-of (λ m. placed (typedOf m)))))

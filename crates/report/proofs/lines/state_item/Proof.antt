@@ -1,6 +1,6 @@
 -- `state_item` meets its contract. Assumes nothing.
 use borrow.Author.Needs.{needs}
-use Rattle.layout.proofs.Said.{told-of}
+use Rattle.common.proofs.Telling.{told-of}
 use Rattle.report.specs.Rows.{stateItem}
 use Rattle.report.proofs.lines.state_item.Statement.{statement}
 use Rattle.report.proofs.lines.state_item.Tie as tie

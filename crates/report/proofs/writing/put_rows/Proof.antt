@@ -4,8 +4,8 @@ use mathlib.Core.Path.{_≡_, sym, _∙_}
 use native.Mathlib.Omega.{arith}
 use borrow.Author.Needs.{needs}
 use lib.ListN.{length, drop, length-map}
+use Rattle.common.proofs.PutLoop.{Going, going-start, going-length, going-within, going-end, next-fits, going-sum, going-next}
 use Rattle.ledger.specs.Ledgers.{held}
-use Rattle.shortest.proofs.Going.{Going, going-start, going-length, going-within, going-end, next-fits, going-sum, going-next}
 use Rattle.report.specs.Report.{rowsText}
 use Rattle.report.proofs.Showing.{row-next, rows-end}
 use Rattle.report.proofs.writing.put_rows.Statement.{statement}

@@ -3,13 +3,13 @@ use mathlib.Core.Path.{refl}
 use native.Mathlib.Omega.{arith}
 use borrow.Author.Needs.{needs}
 use lib.ListN.{length-set}
-use Rattle.rewrite.specs.Telling.{endOf, toldIn}
+use Rattle.rewrite.specs.Ends.{endNumber, endInfo}
 use Rattle.rewrite.proofs.Told.{three, not-done}
 use Rattle.rewrite.proofs.telling.tell.Statement.{statement}
 use Rattle.rewrite.proofs.telling.tell.Tie as tie
 
 returns-2 : tie.Need-returns-2
-unfolding endOf toldIn
+unfolding endNumber endInfo
 returns-2 c =
     rw (c .before .writing .given .1) (refl, three (c .before .before .before .args .info .now) _ _ _ (c .before .before .before .pre))
 

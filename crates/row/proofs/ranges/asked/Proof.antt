@@ -1,6 +1,6 @@
 -- `asked` meets its contract. Assumes nothing.
 use borrow.Author.Needs.{needs}
-use Rattle.layout.proofs.Said.{told-of}
+use Rattle.common.proofs.Telling.{told-of}
 use Rattle.row.specs.Ranges.{askedOf}
 use Rattle.row.proofs.ranges.asked.Statement.{statement}
 use Rattle.row.proofs.ranges.asked.Tie as tie

@@ -1,6 +1,6 @@
 -- `is_known` meets its contract. Assumes nothing.
 use borrow.Author.Needs.{needs}
-use Rattle.layout.proofs.Said.{told-of}
+use Rattle.common.proofs.Telling.{told-of}
 use Rattle.row.specs.Ranges.{isKnown}
 use Rattle.row.proofs.ranges.is_known.Statement.{statement}
 use Rattle.row.proofs.ranges.is_known.Tie as tie

@@ -1,6 +1,6 @@
 -- `latest_place` meets its contract. Assumes nothing.
 use borrow.Author.Needs.{needs}
-use Rattle.layout.proofs.Said.{told-of}
+use Rattle.common.proofs.Telling.{told-of}
 use Rattle.row.specs.Ranges.{latest}
 use Rattle.row.proofs.ranges.latest_place.Statement.{statement}
 use Rattle.row.proofs.ranges.latest_place.Tie as tie

@@ -1,12 +1,12 @@
 -- `do_agree` meets its contract. Assumes nothing.
 use borrow.Author.Needs.{needs}
 use Rattle.row.proofs.Checks.{checks}
-use Rattle.row.specs.Rows.{agree}
+use Rattle.row.specs.Rows.{countAgrees}
 use Rattle.row.proofs.rows.do_agree.Statement.{statement}
 use Rattle.row.proofs.rows.do_agree.Tie as tie
 
 pub do-agree-spec : {M : Type 1} → statement M
-unfolding agree
+unfolding countAgrees
 do-agree-spec =
     tie.close
     (tie.spec

@@ -1,6 +1,6 @@
 -- `is_pending` meets its contract. Assumes nothing.
 use borrow.Author.Needs.{needs}
-use Rattle.layout.proofs.Said.{told-of}
+use Rattle.common.proofs.Telling.{told-of}
 use Rattle.row.specs.Rows.{isPending}
 use Rattle.row.proofs.rows.is_pending.Statement.{statement}
 use Rattle.row.proofs.rows.is_pending.Tie as tie

@@ -2,13 +2,13 @@
 use borrow.Author.Needs.{needs}
 use Rattle.layout.proofs.Family.{by-reader, by-fields, by-fault}
 use Rattle.layout.proofs.Steps.{stopping, going}
-use Rattle.types.specs.Subscriptions.{only}
-use Rattle.subscription.specs.Kinds.{rowOf, numberOf, layoutOf}
+use Rattle.types.specs.Subscriptions.{idOnly}
+use Rattle.subscription.specs.Kinds.{typeRow, numberOf, layoutOf}
 use Rattle.subscription.proofs.reader.read.Statement.{statement}
 use Rattle.subscription.proofs.reader.read.Tie as tie
 
 pub read-spec : {M : Type 1} → statement M
-unfolding rowOf only
+unfolding typeRow idOnly
 read-spec =
     tie.close
     (tie.spec

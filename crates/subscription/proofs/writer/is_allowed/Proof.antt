@@ -1,16 +1,16 @@
 -- `is_allowed` meets its contract. Assumes nothing.
 use borrow.Author.Needs.{needs}
+use Rattle.common.proofs.Telling.{told-of}
 use Rattle.layout.specs.Layout.{place, failure, parameters}
 use Rattle.layout.specs.Allowed.{allowed}
-use Rattle.layout.proofs.Said.{told-of}
-use Rattle.types.specs.Subscriptions.{subscribeUpdate, subscribeError, subscribeDone, only}
-use Rattle.subscription.specs.Kinds.{rowOf}
+use Rattle.types.specs.Subscriptions.{subscribeUpdate, subscribeError, subscribeDone, idOnly}
+use Rattle.subscription.specs.Kinds.{typeRow}
 use Rattle.subscription.proofs.Allows.{judged, ok-is}
 use Rattle.subscription.proofs.writer.is_allowed.Statement.{statement}
 use Rattle.subscription.proofs.writer.is_allowed.Tie as tie
 
 pub is-allowed-spec : {M : Type 1} → statement M
-unfolding allowed place failure parameters subscribeUpdate subscribeError subscribeDone only rowOf
+unfolding allowed place failure parameters subscribeUpdate subscribeError subscribeDone idOnly typeRow
 is-allowed-spec =
     tie.close
     (tie.spec

@@ -3,7 +3,7 @@ use mathlib.Core.Path.{_≡_}
 use mathlib.Core.Logic.{⊎-elim}
 use native.Mathlib.Omega.{arith}
 use borrow.Author.Needs.{needs}
-use Rattle.integer.specs.Answer.{pick}
+use Rattle.common.specs.Choice.{pick}
 use Rattle.text.proofs.Ended.{item-fits, end-fits, ended, ended-length}
 use Rattle.text.proofs.lines.put_ended.Statement.{statement}
 use Rattle.text.proofs.lines.put_ended.Tie as tie

@@ -4,7 +4,7 @@ use mathlib.Core.Path.{_≡_, sym, _∙_}
 use native.Mathlib.Omega.{arith}
 use borrow.Author.Needs.{needs}
 use lib.ListN.{length, drop, length-map}
-use Rattle.shortest.proofs.Going.{Going, going-start, going-length, going-within, going-end, next-fits, going-sum, going-next}
+use Rattle.common.proofs.PutLoop.{Going, going-start, going-length, going-within, going-end, next-fits, going-sum, going-next}
 use Rattle.text.specs.Lines.{lineOf, itemsOf}
 use Rattle.text.proofs.Following.{line-next, line-end}
 use Rattle.text.proofs.lines.put_items.Statement.{statement}

@@ -2,21 +2,21 @@
 use mathlib.Core.Path.{refl}
 use mathlib.Core.List.{map}
 use Rattle.types.specs.Letters.{letters}
-use Rattle.types.specs.Table.{Row, messages, rowIn, rowOf, nameOf}
+use Rattle.types.specs.Table.{TypeRow, messages, typeRowIn, typeRowOf, nameOf}
 use Rattle.types.proofs.Gaps.{nameless-missed}
-use Rattle.text.specs.Parts.{joined, namesText}
+use Rattle.text.specs.Parts.{inOneText, namesText}
 use Rattle.text.proofs.Standing.{standing}
 use Rattle.text.proofs.words.name_part.Statement.{statement}
 use Rattle.text.proofs.words.name_part.Tie as tie
 
 -- another number is no type
 returns : tie.Need-returns-27
-unfolding letters messages joined namesText
+unfolding letters messages inOneText namesText
 returns c =
-    rw (nameless-missed (map (λ (r : Row). r .number) messages) refl _ (c .match .rest)) (standing 0 0 refl refl refl)
+    rw (nameless-missed (map (λ (r : TypeRow). r .number) messages) refl _ (c .match .rest)) (standing 0 0 refl refl refl)
 
 pub name-part-spec : {M : Type 1} → statement M
-unfolding letters messages rowIn rowOf nameOf joined namesText
+unfolding letters messages typeRowIn typeRowOf nameOf inOneText namesText
 name-part-spec =
     tie.close
     (tie.spec

@@ -2,17 +2,17 @@
 use borrow.Author.Needs.{needs}
 use Rattle.types.specs.Letters.{letters}
 use Rattle.text.specs.Words.{wordOf}
-use Rattle.text.specs.Parts.{words, joined, wordsText}
+use Rattle.text.specs.Parts.{words, inOneText, wordsText}
 use Rattle.text.proofs.Standing.{stands-fits, stands-put}
 use Rattle.text.proofs.words.put_word.Statement.{statement}
 use Rattle.text.proofs.words.put_word.Tie as tie
 
 asks : tie.Need-put-part-requires
-unfolding letters wordOf words joined wordsText
+unfolding letters wordOf words inOneText wordsText
 asks c κs = stands-fits (c .before .before .before .word-part .ensures) (c .before .before .before .before .before .pre)
 
 returns : tie.Need-returns
-unfolding letters wordOf words joined wordsText
+unfolding letters wordOf words inOneText wordsText
 returns c = stands-put (c .before .before .before .before .before .before .word-part .ensures) (c .before .before .put-part .ensures)
 
 pub put-word-spec : {M : Type 1} → statement M

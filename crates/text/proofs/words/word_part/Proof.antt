@@ -3,13 +3,13 @@ use mathlib.Core.Path.{refl}
 use borrow.Author.Needs.{needs}
 use Rattle.types.specs.Letters.{letters}
 use Rattle.text.specs.Words.{wordOf}
-use Rattle.text.specs.Parts.{words, joined, wordsText}
+use Rattle.text.specs.Parts.{words, inOneText, wordsText}
 use Rattle.text.proofs.Standing.{standing}
 use Rattle.text.proofs.words.word_part.Statement.{statement}
 use Rattle.text.proofs.words.word_part.Tie as tie
 
 pub word-part-spec : {M : Type 1} → statement M
-unfolding letters wordOf words joined wordsText
+unfolding letters wordOf words inOneText wordsText
 word-part-spec =
     tie.close
     (tie.spec

@@ -1,0 +1,17 @@
+pub mod Copies
+pub mod Items
+pub mod Entering
+pub mod Pieces
+pub mod Single
+pub mod Filling
+pub mod Middles
+pub mod Headings
+pub mod Written
+pub mod OneAnswer
+pub mod Good
+pub mod Again
+pub mod Longer
+pub mod Fitting
+pub mod Passed
+pub mod Alike
+pub mod Framed

@@ -1,0 +1,25 @@
+-- `put_front` meets its contract: one number, and behind it the other. Assumes nothing.
+use mathlib.Core.Path.{refl}
+use mathlib.Core.List.{_++_}
+use native.Mathlib.Omega.{arith}
+use borrow.Author.Needs.{needs}
+use Rattle.common.proofs.Puts.{Room, first-fits, ends-within, second-fits, both-fit, put-both}
+use Rattle.integer.specs.Integer.{encOf}
+use Rattle.encode.proofs.writer.put_front.Statement.{statement}
+use Rattle.encode.proofs.writer.put_front.Tie as tie
+
+-- there is room for both
+room : (a : tie.Start) → Room (encOf (a .args .kind)) (encOf (a .args .n)) (encOf (a .args .kind) ++ encOf (a .args .n)) (a .args .out .now)
+room a = record { joins = refl; fits = a .pre .1 }
+
+ends : tie.Need-sub-put-number
+ends c = ends-within (room (c .before .before .before .before .before)) (c .before .before .put-number .ensures)
+
+pub put-front-spec : {M : Type 1} → statement M
+put-front-spec =
+    tie.close
+    (tie.spec
+    (λ c κs. (c .before .before .pre .0 .0, first-fits (room (c .before .before)))) ends ends (λ c. search needs)
+    (λ c κs. (c .before .before .before .before .before .before .pre .0 .1, second-fits (room (c .before .before .before .before .before .before)) (c .before .before .before .put-number .ensures)))
+    (λ c. omega (arith, both-fit (room (c .before .before .before .before .before .before .before .before .before)) (c .before .before .before .before .before .before .put-number .ensures) (c .before .before .put-number2 .ensures)))
+    (λ c. search needs) (λ c. put-both (room (c .before .before .before .before .before .before .before .before .before)) (c .before .before .before .before .before .before .put-number .ensures) (c .before .before .put-number2 .ensures)))

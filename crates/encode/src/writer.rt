@@ -1,0 +1,85 @@
+// All fields of a message, one behind the other. Each check is made over all of them before the next, and only then
+// is a byte written.
+ghost use mathlib.Core.Path.{_≡_};
+ghost use mathlib.Core.Bool.{true};
+ghost use mathlib.Core.List.{_++_};
+ghost use Prim.Native.Nat.{_≤_};
+ghost use lib.ListN.{length};
+ghost use Rattle.common.specs.Answer.{Leaves};
+ghost use Rattle.common.specs.Buffer.{Put};
+ghost use Rattle.integer.specs.Integer.{encOf, greatest};
+ghost use Rattle.measure.specs.Fields.{tenOf, fieldsOf};
+ghost use Rattle.measure.specs.Measuring.{rightAll, encodeAll};
+ghost use Rattle.encode.specs.Writing.{framedOf, toldWriting};
+use crate::Writing;
+use crate::putting::put_number;
+use crate::putting::put_piece;
+use measure::Fields;
+use measure::Measured;
+use measure::places::ten;
+
+// Type and Length; behind them the body begins.
+fn put_front(out: &mut [u8], kind: u64, n: u64) -> usize
+    requires { ⌜ (kind ≤ greatest) × (n ≤ greatest) ⌝ }
+    requires { ⌜ length (encOf kind ++ encOf n) ≤ length (now out) ⌝ }
+    ensures { λ r. ⌜ Put (encOf kind ++ encOf n) (now (out .entry)) r (now (out .exit)) ⌝ }
+{
+    let a = put_number(out, kind);
+    let b = put_number(&mut out[a..], n);
+    a + b
+}
+
+// The body: each field into what is left of what is lent to it.
+fn put_all(out: &mut [u8], bytes: &[u8], f: Fields) -> usize
+    requires { ⌜ rightAll (now bytes) (fieldsOf f) ≡ true ⌝ }
+    requires { ⌜ length (encodeAll (now bytes) (fieldsOf f)) ≤ length (now out) ⌝ }
+    ensures { λ r. ⌜ Put (encodeAll (now (bytes .entry)) (fieldsOf f)) (now (out .entry)) r (now (out .exit)) ⌝ }
+{
+    let n = ten(f.used);
+    let mut at: usize = 0;
+    let mut i: usize = 0;
+    while i < n {
+        let slot = f.at[i];
+        let p = slot.piece;
+        let k = put_piece(&mut out[at..], bytes, p);
+        at = at + k;
+        i += 1;
+    }
+    at
+}
+
+// A message: its type, the length of its body, and the body, which may take longest bytes. 5, 6, 3 and 7 in this order; a
+// refusal writes nothing. (The fields are judged here, since they would be copied where they are handed on.)
+pub fn write_framed(out: &mut [u8], bytes: &[u8], f: Fields, longest: u32) -> Writing
+    ensures { λ r. ⌜ Leaves (framedOf longest (now (bytes .entry)) (f .kind) (fieldsOf f) (now (out .entry))) (toldWriting r) (now (out .exit)) ⌝ }
+{
+    let kind = f.kind;
+    if kind > integer::GREATEST {
+        return Writing::Forbidden;
+    }
+    let room = longest as usize;
+    let count = ten(f.used);
+    let mut found = Measured::Takes(0);
+    let mut i: usize = 0;
+    while i < count {
+        let slot = f.at[i];
+        let p = slot.piece;
+        found = measure::join(found, measure::measure(bytes, p, room), room);
+        i += 1;
+    }
+    match found {
+        Measured::Forbidden => Writing::Forbidden,
+        Measured::Oversize => Writing::Oversize,
+        Measured::TooLong => Writing::TooLong,
+        Measured::Takes(n) => {
+            let head = integer::size(kind) + integer::size(n as u64);
+            if out.len() < head + n {
+                return Writing::TooShort;
+            }
+            // The part behind Type and Length is lent to the body.
+            let at = put_front(out, kind, n as u64);
+            let c = put_all(&mut out[at..], bytes, f);
+            Writing::Done(at + c)
+        }
+    }
+}

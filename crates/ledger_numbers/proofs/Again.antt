@@ -1,0 +1,160 @@
+-- Numbers of a ledger name it again, and numbers that are unpacked are those of what they name. Assumes nothing.
+use Prim.Native.Nat.{ℕ, zero, suc, _+_}
+use mathlib.Core.Path.{_≡_, refl, sym, ap, _∙_}
+use mathlib.Core.Bool.{Bool, true, false}
+use mathlib.Core.List.{List, [], _∷_, _++_, append-assoc, append-nil}
+use mathlib.Core.Logic.{_⊎_, inl, inr, ⊎-elim}
+use native.Mathlib.Omega.{arith}
+use borrow.Author.Tests.{eqb-true, eqb-false, eq-eqb}
+use lib.ListN.{length, take, drop, getD}
+use lib.Seq.{getD-drop, drop-drop, drop-at, take-at}
+use lib.Dec.{eqb, leb}
+use Rattle.common.specs.Choice.{pick}
+use Rattle.common.specs.Buffer.{over}
+use Rattle.layout.proofs.Back.{both-true}
+use Rattle.row.specs.declared.State.{State}
+use Rattle.row.specs.declared.State.the-variants.{Pending, Active}
+use Rattle.row.specs.declared.Range.{Range}
+use Rattle.row.specs.declared.Range.the-variants.{Unknown, Open, Closed}
+use Rattle.row.specs.declared.Greatest.{Greatest}
+use Rattle.row.specs.declared.Greatest.the-variants.{Nowhere, At}
+use Rattle.row.specs.declared.Row.{Row}
+use Rattle.ledger.specs.Ledgers.{isLedger, bounded}
+use Rattle.ledger.specs.declared.Part.{Part}
+use Rattle.ledger.specs.declared.Part.the-variants.{Subscriber, Publisher}
+use Rattle.ledger.specs.declared.Rule.the-variants.{R1, R2, R3, R4, R5, R6, R7}
+use Rattle.ledger.specs.declared.Session.{Session}
+use Rattle.ledger.specs.declared.Session.the-variants.{Open as IsOpen, Closed as IsClosed}
+use Rattle.ledger.specs.declared.Ledger.{Ledger}
+use Rattle.ledger_numbers.specs.Numbers.{stateNumber, rangeNumbers, greatestNumbers, rowNumbers, rowsNumbers, partNumber, sessionNumber, numbersOf}
+use Rattle.ledger_numbers.specs.Naming.{stateNamed, rangeNamed, greatestNamed, rowNamed, rowsNamed, partNamed, ruleNamed, sessionNamed, ledgerNamed, areSame, noLedger, unpackOf, keptIn}
+use Rattle.ledger_numbers.proofs.Storing.{eleven, row-length, numbers-length}
+
+-- ---- a row
+
+state-again : (s : State) → stateNamed (stateNumber s) ≡ s
+unfolding stateNamed
+state-again Pending = refl
+state-again Active = refl
+
+range-again : (r : Range) → rangeNamed (getD (rangeNumbers r) 0 0) (getD (rangeNumbers r) 1 0) (getD (rangeNumbers r) 2 0) (getD (rangeNumbers r) 3 0) ≡ r
+unfolding rangeNamed
+range-again Unknown = refl
+range-again (Open from) = refl
+range-again (Closed from last) = refl
+
+greatest-again : (g : Greatest) → greatestNamed (getD (greatestNumbers g) 0 0) (getD (greatestNumbers g) 1 0) (getD (greatestNumbers g) 2 0) ≡ g
+unfolding greatestNamed
+greatest-again Nowhere = refl
+greatest-again (At place) = refl
+
+row-again : (r : Row) (rest : List ℕ) → rowNamed (rowNumbers r ++ rest) 0 ≡ r
+unfolding rowNamed
+row-again r rest =
+    rw (eleven r refl refl refl, state-again (r .state), range-again (r .range), greatest-again (r .greatest))
+
+-- what stands before an offset does not count
+row-behind : (ns : List ℕ) (at : ℕ) → rowNamed (drop at ns) 0 ≡ rowNamed ns at
+unfolding rowNamed
+row-behind ns at =
+    let e : at + 0 ≡ at = omega arith in
+    simp getD-drop (rw e)
+
+-- ---- rows, and what follows them
+
+rows-again : (rs : List Row) (rest ns : List ℕ) (at : ℕ) → drop at ns ≡ rowsNumbers rs ++ rest → rowsNamed (length rs) ns at ≡ rs
+unfolding rowsNamed rowsNumbers
+rows-again [] rest ns at e = refl
+rows-again (r ∷ rs) rest ns at e =
+    let f : drop at ns ≡ rowNumbers r ++ (rowsNumbers rs ++ rest) = e ∙ append-assoc (rowNumbers r) (rowsNumbers rs) rest in
+    let first : rowNamed ns at ≡ r = sym (row-behind ns at) ∙ rw f (row-again r (rowsNumbers rs ++ rest)) in
+    let others : drop (at + 11) ns ≡ rowsNumbers rs ++ rest = sym (drop-drop 11 at ns) ∙ rw f (drop-at (rowNumbers r) (rowsNumbers rs ++ rest) 11 (row-length r)) in
+    rw (first, rows-again rs rest ns (at + 11) others)
+
+-- ---- a ledger
+
+part-again : (p : Part) → partNamed (partNumber p) ≡ p
+unfolding partNamed
+part-again Subscriber = refl
+part-again Publisher = refl
+
+session-again : (s : Session) → sessionNamed (sessionNumber s) ≡ s
+unfolding sessionNamed ruleNamed
+session-again IsOpen = refl
+session-again (IsClosed R1) = refl
+session-again (IsClosed R2) = refl
+session-again (IsClosed R3) = refl
+session-again (IsClosed R4) = refl
+session-again (IsClosed R5) = refl
+session-again (IsClosed R6) = refl
+session-again (IsClosed R7) = refl
+
+module _ (l : Ledger) (places : length (l .rows) ≡ 64) (rest : List ℕ) where
+  rows-named : rowsNamed 64 (numbersOf l ++ rest) 6 ≡ l .rows
+  unfolding numbersOf
+  rows-named = rw (← places) (rows-again (l .rows) rest (numbersOf l ++ rest) 6 refl)
+
+  pub named-before : ledgerNamed (numbersOf l ++ rest) ≡ l
+  unfolding ledgerNamed numbersOf
+  named-before = rw (rows-named, part-again (l .part), session-again (l .session))
+
+-- ---- two lists that are found the same
+
+same-itself : (ns : List ℕ) → areSame ns ns ≡ true
+unfolding areSame
+same-itself [] = refl
+same-itself (n ∷ ns) = rw (eq-eqb n n refl, same-itself ns)
+
+same-is : (a b : List ℕ) → areSame a b ≡ true → a ≡ b
+unfolding areSame
+same-is [] [] h = refl
+same-is [] (n ∷ ns) h = cc
+same-is (m ∷ ms) [] h = cc
+same-is (m ∷ ms) (n ∷ ns) h =
+    let p = both-true (eqb m n) (areSame ms ns) h in
+    rw (eqb-true m n (p .0), same-is ms ns (p .1))
+
+-- ---- unpacking
+
+pub unpacked : (l : Ledger) → length (l .rows) ≡ 64 → (rest : List ℕ) → unpackOf (numbersOf l ++ rest) ≡ l
+unfolding unpackOf
+unpacked l places rest =
+    rw (named-before l places rest, take-at (numbersOf l) rest 710 (numbers-length l places), same-itself (numbersOf l))
+
+either : (b : Bool) → (b ≡ true) ⊎ (b ≡ false)
+either true = inl refl
+either false = inr refl
+
+pub numbers-again : (ns : List ℕ) → (unpackOf ns .capacity ≡ 0 → ⊥) → numbersOf (unpackOf ns) ≡ take 710 ns
+unfolding unpackOf
+numbers-again ns h =
+    ⊎-elim
+    (λ t. rw t (same-is (numbersOf (ledgerNamed ns)) (take 710 ns) t))
+    (λ f. absurd (h (rw f)))
+    (either (areSame (numbersOf (ledgerNamed ns)) (take 710 ns)))
+
+pub named : (l : Ledger) → length (l .rows) ≡ 64 → ledgerNamed (numbersOf l) ≡ l
+named l places = rw append-nil at (named-before l places [])
+
+-- ---- what is kept behind a call that left the ledger as it was
+
+-- the first numbers of a list, put over it
+over-itself : (n : ℕ) (ns : List ℕ) → over (take n ns) ns ≡ ns
+over-itself zero ns = refl
+over-itself (suc n) [] = refl
+over-itself (suc n) (x ∷ ns) = ap (λ (t : List ℕ). x ∷ t) (over-itself n ns)
+
+kept-by : (none fits : Bool) (ns : List ℕ) {xs : List ℕ} → (none ≡ false → xs ≡ ns) → pick none ns (pick fits xs ns) ≡ ns
+kept-by true fits ns h = refl
+kept-by false true ns h = h refl
+kept-by false false ns h = refl
+
+pub kept : (ns : List ℕ) → keptIn ns (unpackOf ns) ≡ ns
+unfolding keptIn
+kept ns =
+    kept-by (eqb (unpackOf ns .capacity) 0) (leb (length (numbersOf (unpackOf ns))) (length ns)) ns
+    (λ f. ap (λ (own : List ℕ). over own ns) (numbers-again ns (eqb-false _ _ f)) ∙ over-itself 710 ns)
+
+pub no-ledger : isLedger noLedger ≡ false
+unfolding isLedger bounded
+no-ledger = refl

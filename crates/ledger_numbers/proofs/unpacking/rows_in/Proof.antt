@@ -1,0 +1,27 @@
+-- `rows_in` meets its contract: the rows so far are those that the numbers name. Assumes nothing.
+use Prim.Native.Nat.{_-_}
+use mathlib.Core.Path.{refl}
+use native.Mathlib.Omega.{arith}
+use borrow.Author.Needs.{needs}
+use Rattle.ledger_numbers.specs.Naming.{rowsNamed}
+use Rattle.ledger_numbers.proofs.Filling.{Filled, filled-next, all-filled}
+use Rattle.ledger_numbers.proofs.unpacking.rows_in.Statement.{statement}
+use Rattle.ledger_numbers.proofs.unpacking.rows_in.Tie as tie
+
+abbrev Inv-loop : tie.InvT-loop
+Inv-loop numbers rows₀ i₀ rows i = Filled numbers rows i
+
+abbrev μ-loop : tie.MeasureT-loop
+μ-loop numbers rows₀ i₀ rows i = 64 - i
+
+pub rows-in-spec : {M : Type 1} → statement M
+unfolding rowsNamed
+rows-in-spec =
+    tie.close
+    (tie.spec
+    Inv-loop μ-loop
+    (λ c κs. search needs)
+    (λ c. record { to = omega arith; long = refl; so-far = refl })
+    (λ c. search needs) (λ c. search needs) (λ c κs. search needs) (λ c. search needs) (λ c. search needs) (λ c. search needs) (λ c. search needs)
+    (λ c. filled-next (c .before .before .loop .inv) (c .row-in .ensures) (omega arith))
+    (λ c. all-filled (c .before .loop .inv) (omega arith)))
