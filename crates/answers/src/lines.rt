@@ -40,7 +40,12 @@ fn line(offset: u64, e: Event, number: u8, rule: u8) -> Line
 {
     match e {
         Event::Start(_, _) => answer_line(offset, Item::Word(Word::Start), number, rule),
-        Event::Control(m) => answer_line(offset, Item::Name(message::number(m)), number, rule),
+        Event::Control(m) => answer_line(
+            offset,
+            Item::Name(message_writer::number(m)),
+            number,
+            rule,
+        ),
         Event::Malformed(refusal) => malformed_line(offset, refusal, number, rule),
         Event::Arrived(_) => answer_line(offset, Item::Word(Word::Arrival), number, rule),
         Event::Fault => text::of0(),

@@ -8,7 +8,7 @@ use Rattle.layout.specs.Layout.{scan, place, parameters}
 use Rattle.types.specs.Fetches.{fetchCancel}
 use Rattle.types.specs.Table.{messages, typeRowIn, typeRowOf, known, layoutOf}
 use Rattle.message.specs.Reading.{bodyUpTo, readUpTo}
-use Rattle.message.specs.Writing.{allowedOf, writeUpTo}
+use Rattle.message_writer.specs.Writing.{allowedOf, writeUpTo}
 use Rattle.layout.specs.Allowed.{allowed}
 use Rattle.measure.specs.Judging.{right, sized}
 use Rattle.measure.specs.Measuring.{rightAll, sizedAll, encodeAll}
@@ -20,7 +20,7 @@ use Rattle.types.specs.Subscriptions.{filter, delivery, subscribe, content, sub
 use Rattle.subscription.proofs.Made.{messageOf as subscriptionOf}
 use Rattle.message.proofs.Made.{familyOf, messageOf as madeOf, answerOf}
 use Rattle.message.proofs.OneReading.{readingOf}
-use Rattle.message.specs.Sound.{soundOf}
+use Rattle.message_writer.specs.Sound.{soundOf}
 use Rattle.row.specs.Places.{before, small, smallPlace}
 use Rattle.row.specs.Ranges.{inRange, isKnown, smallRange, settledOf}
 use Rattle.row.specs.Rows.{countAgrees, suits, isRow, isPending, isNowhere, isUnused, greater, risen, countedRow, arriveOf, openOf}

@@ -5,7 +5,7 @@ use Rattle.common.specs.Answer.{Answer, whole, refused, wrote, Written}
 use Rattle.field.specs.declared.Piece.the-variants.{Number}
 use Rattle.layout.specs.Typed.{Typed}
 use Rattle.message.specs.Reading.{readOf as messageOf}
-use Rattle.message.specs.Writing.{writeOf as messageAs}
+use Rattle.message_writer.specs.Writing.{writeOf as messageAs}
 use Rattle.message.specs.declared.Message.{Message}
 use Rattle.message.specs.declared.Message.the-variants.{Fetch, Subscription}
 use Rattle.fetch.specs.declared.FetchMessage.the-variants.{FetchCancel}

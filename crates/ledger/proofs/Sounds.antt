@@ -19,8 +19,8 @@ use Rattle.subscription.specs.declared.Subscribe.{Subscribe}
 use Rattle.subscription.specs.declared.SubscribeOk.{SubscribeOk}
 use Rattle.subscription.specs.declared.SubscriptionMessage.the-variants.{Subscribe as ASubscribe, SubscribeOk as ASubscribeOk, MaxSubscribeId as AMaxSubscribeId}
 use Rattle.message.specs.Types.{typedOf}
-use Rattle.message.specs.Writing.{allowedOf}
-use Rattle.message.specs.Sound.{soundOf}
+use Rattle.message_writer.specs.Writing.{allowedOf}
+use Rattle.message_writer.specs.Sound.{soundOf}
 use Rattle.message.specs.declared.Message.{Message}
 use Rattle.message.specs.declared.Message.the-variants.{Subscription}
 use Rattle.row.specs.Places.{small, smallPlace}

@@ -9,7 +9,7 @@ use Rattle.field.specs.declared.Arrival.{Arrival}
 use Rattle.subscription.specs.declared.Subscribe.{Subscribe}
 use Rattle.subscription.specs.declared.SubscribeOk.{SubscribeOk}
 use Rattle.subscription.specs.declared.SubscriptionMessage.{SubscriptionMessage}
-use Rattle.message.specs.Sound.{soundOf}
+use Rattle.message_writer.specs.Sound.{soundOf}
 use Rattle.message.specs.declared.Message.{Message}
 use Rattle.message.specs.declared.Message.the-variants.{Subscription}
 use Rattle.row.specs.Ranges.{askedOf}

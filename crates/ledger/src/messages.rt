@@ -4,7 +4,7 @@ ghost use mathlib.Core.Path.{_≡_};
 ghost use Rattle.message.specs.declared.Message.the-variants.{Subscription};
 ghost use Rattle.subscription.specs.declared.SubscriptionMessage.the-variants.{Subscribe as ASubscribe, SubscribeOk as ASubscribeOk, SubscribeError as ASubscribeError, Unsubscribe as AUnsubscribe, SubscribeDone as ASubscribeDone, MaxSubscribeId as AMaxSubscribeId};
 ghost use Rattle.ledger.specs.Ledgers.{isLedger};
-ghost use Rattle.message.specs.Sound.{soundOf};
+ghost use Rattle.message_writer.specs.Sound.{soundOf};
 ghost use Rattle.ledger.specs.Answers.{told, same, gated};
 ghost use Rattle.ledger.specs.Steps.{takeOf, malformedOf, arrivalOf, maximumStep};
 use crate::Answer;
@@ -42,7 +42,7 @@ impl Ledger {
         ensures { λ r. ⌜ told r ≡ takeOf self (Subscription (ASubscribe x)) ⌝ }
     {
         let m = Message::Subscription(SubscriptionMessage::Subscribe(x));
-        if let Gate::Stop(answer) = gate(self, message::is_sound(m)) {
+        if let Gate::Stop(answer) = gate(self, message_writer::is_sound(m)) {
             return Taken {
                 answer,
                 ledger: self,
@@ -55,7 +55,7 @@ impl Ledger {
         ensures { λ r. ⌜ told r ≡ takeOf self (Subscription (ASubscribeOk x)) ⌝ }
     {
         let m = Message::Subscription(SubscriptionMessage::SubscribeOk(x));
-        if let Gate::Stop(answer) = gate(self, message::is_sound(m)) {
+        if let Gate::Stop(answer) = gate(self, message_writer::is_sound(m)) {
             return Taken {
                 answer,
                 ledger: self,
@@ -68,7 +68,7 @@ impl Ledger {
         ensures { λ r. ⌜ told r ≡ takeOf self (Subscription (ASubscribeError x)) ⌝ }
     {
         let m = Message::Subscription(SubscriptionMessage::SubscribeError(x));
-        if let Gate::Stop(answer) = gate(self, message::is_sound(m)) {
+        if let Gate::Stop(answer) = gate(self, message_writer::is_sound(m)) {
             return Taken {
                 answer,
                 ledger: self,
@@ -81,7 +81,7 @@ impl Ledger {
         ensures { λ r. ⌜ told r ≡ takeOf self (Subscription (ASubscribeDone x)) ⌝ }
     {
         let m = Message::Subscription(SubscriptionMessage::SubscribeDone(x));
-        if let Gate::Stop(answer) = gate(self, message::is_sound(m)) {
+        if let Gate::Stop(answer) = gate(self, message_writer::is_sound(m)) {
             return Taken {
                 answer,
                 ledger: self,
@@ -94,7 +94,7 @@ impl Ledger {
         ensures { λ r. ⌜ told r ≡ takeOf self (Subscription (AUnsubscribe id)) ⌝ }
     {
         let m = Message::Subscription(SubscriptionMessage::Unsubscribe(id));
-        if let Gate::Stop(answer) = gate(self, message::is_sound(m)) {
+        if let Gate::Stop(answer) = gate(self, message_writer::is_sound(m)) {
             return Taken {
                 answer,
                 ledger: self,
@@ -107,7 +107,7 @@ impl Ledger {
         ensures { λ r. ⌜ told r ≡ takeOf self (Subscription (AMaxSubscribeId id)) ⌝ }
     {
         let m = Message::Subscription(SubscriptionMessage::MaxSubscribeId(id));
-        if let Gate::Stop(answer) = gate(self, message::is_sound(m)) {
+        if let Gate::Stop(answer) = gate(self, message_writer::is_sound(m)) {
             return Taken {
                 answer,
                 ledger: self,
@@ -167,7 +167,7 @@ impl Ledger {
 fn other(l: Ledger, m: Message) -> Taken
     ensures { λ r. ⌜ told r ≡ gated l (soundOf m) (same l 9) ⌝ }
 {
-    if let Gate::Stop(answer) = gate(l, message::is_sound(m)) {
+    if let Gate::Stop(answer) = gate(l, message_writer::is_sound(m)) {
         return Taken { answer, ledger: l };
     }
     Taken {

@@ -10,7 +10,7 @@ use Rattle.subscription.specs.declared.kinds.SubscriptionKind.the-variants.{Sub
 use Rattle.fetch.specs.Kinds.{typeRow as fetchRow, layoutOf as fetchLayout}
 use Rattle.fetch.specs.declared.kinds.FetchKind.{FetchKind}
 use Rattle.fetch.specs.declared.kinds.FetchKind.the-variants.{Fetch as AFetch, FetchOk, FetchError, FetchCancel, TrackStatusRequest, TrackStatus}
-use Rattle.announce.specs.Kinds.{typeRow as announceRow, layoutOf as announceLayout}
+use Rattle.announce.specs.Kinds.{typeRow as announceRow, numberOf as announceNumber, layoutOf as announceLayout}
 use Rattle.announce.specs.declared.kinds.AnnounceKind.{AnnounceKind}
 use Rattle.announce.specs.declared.kinds.AnnounceKind.the-variants.{Named, Asked, Refused}
 use Rattle.announce.specs.declared.kinds.Naming.the-variants.{AnnounceOk, Unannounce, SubscribeAnnouncesOk, UnsubscribeAnnounces}
@@ -111,3 +111,10 @@ layout-announce k = row-layout (announceRow k) (announce k)
 pub layout-session : (k : SessionKind) → layoutOf (numberOf (Session k)) ≡ sessionLayout k
 unfolding numberOf
 layout-session k = row-layout (sessionRow k) (session k)
+
+-- the same of a message about a namespace, by the kind that its family has
+pub announce-known : (k : AnnounceKind) → known (announceNumber k) ≡ true
+announce-known k = row-known (announceRow k) (announce k)
+
+pub announce-layout : (k : AnnounceKind) → layoutOf (announceNumber k) ≡ announceLayout k
+announce-layout k = row-layout (announceRow k) (announce k)

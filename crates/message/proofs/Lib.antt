@@ -10,16 +10,7 @@ pub mod Limits
 pub mod Numbers
 pub mod Enough
 pub mod Fields
-pub mod Theorems
 pub mod Naming
 pub mod Places
 pub mod OneAnswer
-pub mod Writes
-pub mod Sounding
-pub mod Allows
-pub mod Shape
-pub mod RoundTrip
-pub mod Alike
-pub mod Only
-pub mod Again
 pub mod OneReading

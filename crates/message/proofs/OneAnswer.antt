@@ -1,14 +1,10 @@
--- One possible answer, and one possible content of the buffer: 01's number and values lose nothing. A type and fields are those of
+-- One possible answer: 01's number and values lose nothing. A type and fields are those of
 -- one message, which is made of them again, by its family; and so is the answer that tells it. Assumes nothing.
 use Prim.Native.Nat.{ℕ}
 use mathlib.Core.Path.{_≡_, refl, sym, _∙_}
 use mathlib.Core.List.{List}
-use Rattle.common.specs.Answer.{Leaves}
 use Rattle.common.proofs.Telling.{once}
 use Rattle.types.specs.Table.{setting, subscribing, retrieving, announcing, messages, typeRowIn, typeRowOf}
-use Rattle.encode.specs.Writing.{toldWriting}
-use Rattle.encode.specs.declared.Writing.{Writing}
-use Rattle.encode.proofs.OneAnswer.{told-writing-once}
 use Rattle.subscription.proofs.OneAnswer.{message-back as subscription-back}
 use Rattle.subscription.specs.Told.{typedOf as subscriptionSaid}
 use Rattle.subscription.specs.declared.SubscriptionMessage.{SubscriptionMessage}
@@ -32,7 +28,6 @@ use Rattle.session.specs.declared.SessionMessage.the-variants as session
 use Rattle.message.specs.Types.{typedOf}
 use Rattle.message.proofs.Made.{familyOf, messageOf, answerOf}
 use Rattle.message.specs.Reading.{readOf, told}
-use Rattle.message.specs.Writing.{writeOf}
 use Rattle.message.specs.declared.Message.{Message}
 use Rattle.message.specs.declared.Message.the-variants.{Subscription, Fetch, Announce, Session}
 use Rattle.message.specs.declared.Reading.{Reading}
@@ -112,10 +107,6 @@ told-once = once told answerOf answer-back
 
 -- ---- of reading and of writing
 
--- two answers that both meet the contract of `read` are the same,
+-- two answers that both meet the contract of `read` are the same
 pub read-once : (s : List ℕ) (a b : Reading) → told a ≡ readOf s → told b ≡ readOf s → a ≡ b
 read-once s a b h k = told-once a b (h ∙ sym k)
-
--- and so are two answers, and what the buffer then holds, that both meet the contract of `write`: refusals too
-pub write-once : (s : List ℕ) (m : Message) (before : List ℕ) (a b : Writing) {x y : List ℕ} → Leaves (writeOf s m before) (toldWriting a) x → Leaves (writeOf s m before) (toldWriting b) y → (a ≡ b) × (x ≡ y)
-write-once s m before a b p q = (told-writing-once a b (p .says ∙ sym (q .says)), p .holds ∙ sym (q .holds))

@@ -2,8 +2,6 @@
 mod kinds;
 mod name;
 mod reader;
-mod sound;
-mod writer;
 
 use announce::AnnounceMessage;
 use announce::kinds::AnnounceKind;
@@ -14,11 +12,8 @@ pub use name::track_name;
 pub use reader::read;
 use session::SessionMessage;
 use session::kinds::SessionKind;
-pub use sound::is_sound;
 use subscription::SubscriptionMessage;
 use subscription::kinds::SubscriptionKind;
-pub use writer::number;
-pub use writer::write;
 
 // The longest body that is read or written.
 pub const LONGEST: u32 = 16_383;

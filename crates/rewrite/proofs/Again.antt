@@ -14,8 +14,8 @@ use Rattle.measure.specs.Measuring.{rightAll, sizedAll, encodeAll}
 use Rattle.encode.specs.Writing.{writtenOf}
 use Rattle.message.specs.Types.{typedOf}
 use Rattle.message.specs.Reading.{longestBody, readOf}
-use Rattle.message.specs.Writing.{allowedOf, writeUpTo, writeOf}
-use Rattle.message.proofs.Theorems as messages
+use Rattle.message_writer.specs.Writing.{allowedOf, writeUpTo, writeOf}
+use Rattle.message_writer.proofs.Theorems as messages
 use Rattle.header.specs.Layouts.{layoutOf, datagrams, streams, subgroupObject, fetchObject}
 use Rattle.header.specs.Told.{datagramTyped, streamTyped, subgroupObjectPieces, fetchObjectPieces}
 use Rattle.header.specs.Reading.{datagramOf, streamOf, subgroupObjectOf, fetchObjectOf}

@@ -18,8 +18,8 @@ pub fn control(s: &[u8], out: &mut [u8], info: &mut [u64]) -> u8
             if info.len() < 3 {
                 return 7;
             }
-            let writing = message::write(out, s, m);
-            tell(info, writing, used, message::number(m))
+            let writing = message_writer::write(out, s, m);
+            tell(info, writing, used, message_writer::number(m))
         }
     }
 }

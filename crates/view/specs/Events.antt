@@ -1,7 +1,7 @@
 -- What happens to a ledger, and what it comes to.
 use mathlib.Core.Bool.{Bool, true}
 use Rattle.field.specs.declared.Arrival.{Arrival}
-use Rattle.message.specs.Sound.{soundOf}
+use Rattle.message_writer.specs.Sound.{soundOf}
 use Rattle.message.specs.declared.Message.{Message}
 use Rattle.ledger.specs.Answers.{Came}
 use Rattle.ledger.specs.Steps.{takeOf, malformedOf, arrivalOf, smallArrival}

@@ -16,12 +16,12 @@ use Rattle.measure.specs.Measuring.{encodeAll}
 use Rattle.encode.proofs.Longer.{longer-found}
 use Rattle.encode.proofs.Framed.{least-frame}
 use Rattle.types.specs.Table.{layoutOf}
 use Rattle.message.specs.Types.{typedOf}
 use Rattle.message.specs.Reading.{longestBody, readOf}
-use Rattle.message.specs.Writing.{writeOf}
+use Rattle.message_writer.specs.Writing.{writeOf}
 use Rattle.message.specs.declared.Message.{Message}
 use Rattle.message.proofs.Front.{parts}
-use Rattle.message.proofs.Alike.{framed, framed-alike, is-frame}
+use Rattle.message_writer.proofs.Alike.{framed, framed-alike, is-frame}
 
 -- a message was read in no fewer bytes than its shortest form, and in as many is that form
 pub read-least : (s : List ℕ) {t : Typed} {used : ℕ} → readOf s ≡ answered t used → Least s 0 (framed s t) used

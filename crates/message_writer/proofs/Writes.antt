@@ -9,10 +9,10 @@ use Rattle.measure.specs.Fields.{placed, fieldsOf}
 use Rattle.encode.specs.Writing.{writtenOf, framedOf}
 use Rattle.measure.specs.declared.Fields.{Fields}
 use Rattle.measure.proofs.Placed.{fields-placed}
 use Rattle.message.specs.Types.{typedOf}
 use Rattle.message.specs.Reading.{longestBody}
-use Rattle.message.specs.Writing.{allowedOf, writeUpTo, writeOf}
+use Rattle.message_writer.specs.Writing.{allowedOf, writeUpTo, writeOf}
 use Rattle.message.specs.declared.Message.{Message}
 
 module _ (s : List ℕ) (m : Message) (before : List ℕ) {a : Bool} (judged : a ≡ allowedOf m) where
   -- a value is forbidden,

@@ -14,9 +14,9 @@ use Rattle.measure.specs.Measuring.{rightAll, encodeAll}
 use Rattle.encode.specs.Writing.{frame}
 use Rattle.encode.proofs.Passed.{was-written}
 use Rattle.encode.proofs.Alike as shortest
 use Rattle.message.specs.Types.{typedOf}
-use Rattle.message.specs.Writing.{allowedOf, writeUpTo, writeOf}
+use Rattle.message_writer.specs.Writing.{allowedOf, writeUpTo, writeOf}
 use Rattle.message.specs.declared.Message.{Message}
 
 -- the bytes of a message: Type, Length and body, in their shortest form
 abbrev pub framed : List ℕ → Typed → List ℕ

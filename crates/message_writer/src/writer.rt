@@ -3,12 +3,12 @@ ghost use mathlib.Core.Path.{_≡_};
 ghost use Rattle.common.specs.Answer.{Leaves};
 ghost use Rattle.measure.specs.Fields.{placed};
 ghost use Rattle.encode.specs.Writing.{toldWriting};
 ghost use Rattle.message.specs.Types.{typedOf};
-ghost use Rattle.message.specs.Writing.{allowedOf, writeOf};
-use crate::LONGEST;
-use crate::Message;
+ghost use Rattle.message_writer.specs.Writing.{allowedOf, writeOf};
 use encode::Writing;
 use measure::Fields;
+use message::LONGEST;
+use message::Message;
 
 // bytes is what the parts of the message point into.
 pub fn write(out: &mut [u8], bytes: &[u8], m: Message) -> Writing

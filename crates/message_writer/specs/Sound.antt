@@ -2,9 +2,9 @@
 use mathlib.Core.Bool.{Bool}
 use Rattle.common.specs.Choice.{both}
 use Rattle.measure.specs.Small.{smallAll}
 use Rattle.message.specs.Types.{typedOf}
-use Rattle.message.specs.Writing.{allowedOf}
+use Rattle.message_writer.specs.Writing.{allowedOf}
 use Rattle.message.specs.declared.Message.{Message}
 
 unfoldable pub soundOf : Message → Bool
 soundOf m = both (allowedOf m) (smallAll (typedOf m .pieces))

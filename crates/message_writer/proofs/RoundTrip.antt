@@ -26,12 +26,12 @@ use Rattle.encode.specs.Writing.{frame}
 use Rattle.encode.proofs.Good.{all-good}
 use Rattle.encode.proofs.Passed.{was-written}
 use Rattle.types.specs.Table.{known, layoutOf}
 use Rattle.message.specs.Types.{typedOf}
 use Rattle.message.specs.Reading.{longestBody, readOf}
-use Rattle.message.specs.Writing.{allowedOf, writeUpTo, writeOf}
+use Rattle.message_writer.specs.Writing.{allowedOf, writeUpTo, writeOf}
 use Rattle.message.specs.declared.Message.{Message}
 use Rattle.message.proofs.Front.{WholeAt, joined}
-use Rattle.message.proofs.Shape.{known-type, shaped}
+use Rattle.message_writer.proofs.Shape.{known-type, shaped}
 
 -- ---- a frame
 

@@ -6,10 +6,10 @@ use Rattle.measure.specs.Small.{smallAll}
 use Rattle.measure.specs.Fields.{placed, fieldsOf}
 use Rattle.measure.specs.declared.Fields.{Fields}
 use Rattle.measure.proofs.Placed.{fields-placed}
 use Rattle.message.specs.Types.{typedOf}
-use Rattle.message.specs.Writing.{allowedOf}
-use Rattle.message.specs.Sound.{soundOf}
+use Rattle.message_writer.specs.Writing.{allowedOf}
+use Rattle.message_writer.specs.Sound.{soundOf}
 use Rattle.message.specs.declared.Message.{Message}
 
 module _ (m : Message) {a : Bool} (judged : a ≡ allowedOf m) where
   -- a value is forbidden,

@@ -40,12 +40,11 @@ use Rattle.session.specs.Told.{typedOf as sessionSaid}
 use Rattle.session.specs.declared.SessionMessage.{SessionMessage}
 use Rattle.session.specs.declared.SessionMessage.the-variants.{ClientSetup, ServerSetup, GoAway}
 use Rattle.types.specs.Table.{messages, typeRowIn, typeRowOf, known, layoutOf}
-use Rattle.message.specs.Types.{numberOf, typedOf}
-use Rattle.message.specs.Writing.{allowedOf}
+use Rattle.message.specs.Types.{typedOf}
+use Rattle.message_writer.specs.Writing.{allowedOf}
 use Rattle.message.specs.declared.Message.{Message}
 use Rattle.message.specs.declared.Message.the-variants.{Subscription, Fetch, Announce, Session}
-use Rattle.message.specs.declared.Kind.the-variants.{Announce as KindOfAnnounce}
-use Rattle.message.proofs.Layouts.{is-known, layout-announce}
+use Rattle.message.proofs.Layouts.{announce-known, announce-layout}
 
 -- ---- the families
 
@@ -99,10 +98,10 @@ module _ (s : List ℕ) where
 
   -- of namespaces,
   announcement : (m : AnnounceMessage) → Fitting s (announceSaid m)
-  unfolding fitting code mean allowed numberOf failure parameters named rest
-  announcement (Named k n) = (is-known (KindOfAnnounce (KindNamed k)), rw (layout-announce (KindNamed k), layout-is (KindNamed k)))
-  announcement (Asked k m) = (is-known (KindOfAnnounce (KindAsked k)), rw (layout-announce (KindAsked k), layout-is (KindAsked k)))
-  announcement (Refused k m) = (is-known (KindOfAnnounce (KindRefused k)), rw (layout-announce (KindRefused k), layout-is (KindRefused k)))
+  unfolding fitting code mean allowed failure parameters named rest
+  announcement (Named k n) = (announce-known (KindNamed k), rw (announce-layout (KindNamed k), layout-is (KindNamed k)))
+  announcement (Asked k m) = (announce-known (KindAsked k), rw (announce-layout (KindAsked k), layout-is (KindAsked k)))
+  announcement (Refused k m) = (announce-known (KindRefused k), rw (announce-layout (KindRefused k), layout-is (KindRefused k)))
 
   -- and of a session
   session : (m : SessionMessage) → Fitting s (sessionSaid m)

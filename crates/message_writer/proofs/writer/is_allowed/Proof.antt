@@ -1,8 +1,8 @@
 -- `is_allowed` meets its contract. Assumes nothing.
 use borrow.Author.Needs.{needs}
-use Rattle.message.proofs.Allows.{by-subscription, by-fetch, is-announce, is-session}
-use Rattle.message.proofs.writer.is_allowed.Statement.{statement}
-use Rattle.message.proofs.writer.is_allowed.Tie as tie
+use Rattle.message_writer.proofs.Allows.{by-subscription, by-fetch, is-announce, is-session}
+use Rattle.message_writer.proofs.writer.is_allowed.Statement.{statement}
+use Rattle.message_writer.proofs.writer.is_allowed.Tie as tie
 
 pub is-allowed-spec : {M : Type 1} → statement M
 is-allowed-spec =

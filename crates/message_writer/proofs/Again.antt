@@ -21,13 +21,13 @@ use Rattle.encode.proofs.Longer.{longer-found}
 use Rattle.encode.proofs.Passed.{Passes}
 use Rattle.encode.proofs.Passed as passed
 use Rattle.types.specs.Table.{layoutOf}
 use Rattle.message.specs.Types.{typedOf}
 use Rattle.message.specs.Reading.{longestBody, readOf}
-use Rattle.message.specs.Writing.{allowedOf, writeUpTo, writeOf}
+use Rattle.message_writer.specs.Writing.{allowedOf, writeUpTo, writeOf}
 use Rattle.message.specs.declared.Message.{Message}
 use Rattle.message.proofs.Front.{parts}
-use Rattle.message.proofs.Alike.{framed}
-use Rattle.message.proofs.Only.{read-least}
+use Rattle.message_writer.proofs.Alike.{framed}
+use Rattle.message_writer.proofs.Only.{read-least}
 
 -- ---- what was read
 

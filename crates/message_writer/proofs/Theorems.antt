@@ -20,30 +20,31 @@ use Rattle.layout.specs.Same.{Same}
 use Rattle.encode.specs.Writing.{toldWriting}
 use Rattle.encode.specs.declared.Writing.{Writing}
 use Rattle.types.specs.Table.{known, layoutOf}
 use Rattle.message.specs.Types.{typedOf}
 use Rattle.message.specs.Reading.{longestBody, readOf, told}
 use Rattle.message.specs.Part.{PartOf}
 use Rattle.message.specs.Names.{nameSpan, namedSpan}
-use Rattle.message.specs.Writing.{writeOf}
+use Rattle.message_writer.specs.Writing.{writeOf}
 use Rattle.message.specs.declared.Message.{Message}
 use Rattle.message.specs.declared.Reading.{Reading}
 use Rattle.message.proofs.Naming as naming
 use Rattle.message.proofs.Places.{byteAt}
 use Rattle.message.proofs.Places as places
 use Rattle.message.proofs.Front.{WholeAt}
 use Rattle.message.proofs.Front as front
 use Rattle.message.proofs.Stable as stable
 use Rattle.message.proofs.Numbers as refusals
 use Rattle.message.proofs.Enough.{longestMessage}
 use Rattle.message.proofs.Enough as enough
 use Rattle.message.proofs.Fields as fields
-use Rattle.message.proofs.RoundTrip as round-trip
-use Rattle.message.proofs.Again as again
-use Rattle.message.proofs.Only as only
-use Rattle.message.proofs.Alike as alike
-use Rattle.message.proofs.OneAnswer as once
+use Rattle.message_writer.proofs.RoundTrip as round-trip
+use Rattle.message_writer.proofs.Again as again
+use Rattle.message_writer.proofs.Only as only
+use Rattle.message_writer.proofs.Alike as alike
+use Rattle.message.proofs.OneAnswer as reading
+use Rattle.message_writer.proofs.OneAnswer as writing
 use Rattle.message.proofs.OneReading.{readingOf}
 use Rattle.message.proofs.OneReading as one-reading
 
 module _ (s : List ℕ) where
   -- 1. Every refusal is one of 1 to 6.
@@ -151,7 +152,7 @@ reads = one-reading.reading-is
 
 -- and it is the only one: the contract leaves one possible answer,
 pub read-once : (s : List ℕ) (a b : Reading) → told a ≡ readOf s → told b ≡ readOf s → a ≡ b
-read-once = once.read-once
+read-once = reading.read-once
 
 -- that of `track_name` one possible part of the bytes,
 pub name-once : {s a b : RefT (List ℕ)} {p : Span} → PartOf s a p → PartOf s b p → (a .ptr .0 ≡ b .ptr .0) × (a .ptr .1 ≡ b .ptr .1) × (a .now ≡ b .now)
@@ -159,4 +160,4 @@ name-once = places.part-once
 
 -- and that of `write` one possible answer and one possible content of the buffer, refusals too.
 pub write-once : (s : List ℕ) (m : Message) (before : List ℕ) (a b : Writing) {x y : List ℕ} → Leaves (writeOf s m before) (toldWriting a) x → Leaves (writeOf s m before) (toldWriting b) y → (a ≡ b) × (x ≡ y)
-write-once = once.write-once
+write-once = writing.write-once

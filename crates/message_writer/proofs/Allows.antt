@@ -22,11 +22,10 @@ use Rattle.types.specs.Sessions.{clientSetup, serverSetup, goAway}
 use Rattle.session.specs.declared.SessionMessage.{SessionMessage}
 use Rattle.session.specs.declared.SessionMessage.the-variants.{ClientSetup, ServerSetup, GoAway}
 use Rattle.types.specs.Table.{messages, typeRowIn, typeRowOf, layoutOf}
-use Rattle.message.specs.Types.{numberOf}
-use Rattle.message.specs.Writing.{allowedOf}
+use Rattle.message_writer.specs.Writing.{allowedOf}
 use Rattle.message.specs.declared.Message.{Message}
 use Rattle.message.specs.declared.Message.the-variants.{Subscription, Fetch, Announce, Session}
-use Rattle.message.proofs.Layouts.{layout-announce}
+use Rattle.message.proofs.Layouts.{announce-layout}
 
 -- the layout of a message's type is that of its kind: of subscriptions,
 subscription-kind : (m : SubscriptionMessage) → layoutOf (subscriptionSaid m .type) ≡ subscriptionLayout (subscriptionKind m)
@@ -62,10 +61,10 @@ module _ {m : Message} {a : Bool} where
 
 -- nothing is forbidden about a namespace,
 announce-any : (x : AnnounceMessage) → true ≡ allowedOf (Announce x)
-unfolding allowedOf allowed numberOf failure parameters named rest
-announce-any (Named k n) = rw (layout-announce (KindNamed k), layout-is (KindNamed k))
-announce-any (Asked k m) = rw (layout-announce (KindAsked k), layout-is (KindAsked k))
-announce-any (Refused k m) = rw (layout-announce (KindRefused k), layout-is (KindRefused k))
+unfolding allowedOf allowed failure parameters named rest
+announce-any (Named k n) = rw (announce-layout (KindNamed k), layout-is (KindNamed k))
+announce-any (Asked k m) = rw (announce-layout (KindAsked k), layout-is (KindAsked k))
+announce-any (Refused k m) = rw (announce-layout (KindRefused k), layout-is (KindRefused k))
 
 pub is-announce : {m : Message} {x : AnnounceMessage} → m ≡ Announce x → true ≡ allowedOf m
 is-announce {x = x} e = rw e (announce-any x)

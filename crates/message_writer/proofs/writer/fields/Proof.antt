@@ -2,9 +2,9 @@
 use borrow.Author.Needs.{needs}
 use Rattle.common.proofs.Telling.{told-of}
 use Rattle.measure.specs.Fields.{placed}
 use Rattle.message.specs.Types.{typedOf}
-use Rattle.message.proofs.writer.fields.Statement.{statement}
-use Rattle.message.proofs.writer.fields.Tie as tie
+use Rattle.message_writer.proofs.writer.fields.Statement.{statement}
+use Rattle.message_writer.proofs.writer.fields.Tie as tie
 
 pub fields-spec : {M : Type 1} → statement M
 fields-spec =

@@ -2,10 +2,10 @@
 use borrow.Author.Needs.{needs}
 use Rattle.common.proofs.Telling.{told-of}
 use Rattle.measure.specs.Fields.{placed}
 use Rattle.message.specs.Types.{typedOf}
-use Rattle.message.proofs.Writes.{not-allowed, is-framed}
-use Rattle.message.proofs.writer.write.Statement.{statement}
-use Rattle.message.proofs.writer.write.Tie as tie
+use Rattle.message_writer.proofs.Writes.{not-allowed, is-framed}
+use Rattle.message_writer.proofs.writer.write.Statement.{statement}
+use Rattle.message_writer.proofs.writer.write.Tie as tie
 
 pub write-spec : {M : Type 1} → statement M
 write-spec =

@@ -1,0 +1,10 @@
+pub mod Theorems
+pub mod Writes
+pub mod Sounding
+pub mod Allows
+pub mod Shape
+pub mod RoundTrip
+pub mod Alike
+pub mod Only
+pub mod Again
+pub mod OneAnswer
