@@ -12,7 +12,7 @@ use Rattle.layout.specs.Allowed.{allowed}
 use Rattle.layout.proofs.Allowed.{test-alone}
 use Rattle.types.specs.Rules.{isTrackStatus, mayHold}
 use Rattle.types.specs.Fetches.{standalone, joining, range, fetch, fetchOk, largest, trackStatus}
-use Rattle.fetch.specs.Kinds.{typeRow, layoutOf, kindOf}
+use Rattle.types.specs.Table.{messages, typeRowIn, typeRowOf, layoutOf, allowedTyped}
 use Rattle.fetch.specs.Told.{joiningType, rangePieces, statusPieces, typedOf}
 use Rattle.fetch.specs.declared.Range.{Range}
 use Rattle.fetch.specs.declared.Range.the-variants.{Standalone, Joining}
@@ -53,13 +53,13 @@ range-any (Joining j) e = by-type (j .absolute)
 
 -- what its layout allows
 abbrev pub judged : FetchMessage → Bool
-judged m = allowed (layoutOf (kindOf m)) (typedOf m .pieces)
+judged m = allowedTyped (typedOf m)
 
 pub fetch-is : {m : FetchMessage} {x : Fetch} {a : Bool} → m ≡ AFetch x → a ≡ askable (x .order) → a ≡ judged m
-unfolding allowed fetch typeRow
+unfolding allowed fetch layoutOf typeRowOf typeRowIn messages
 fetch-is {x = x} which h = rw (which, range-any (x .range) (x .parameters), test-alone (askable (x .order))) h
 
 -- and so in a FETCH_OK
 pub ok-is : {m : FetchMessage} {x : FetchOk} {a : Bool} → m ≡ AFetchOk x → a ≡ givable (x .order) → a ≡ judged m
-unfolding allowed place parameters fetchOk typeRow
+unfolding allowed place parameters fetchOk layoutOf typeRowOf typeRowIn messages
 ok-is {x = x} which h = rw (which, test-alone (givable (x .order))) h

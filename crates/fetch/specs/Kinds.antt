@@ -1,11 +1,9 @@
--- The kinds of message, and the row of the table that each stands in.
+-- The row of the table that each kind of message stands in.
 use Prim.Native.Nat.{ℕ}
 use Rattle.layout.specs.Layout.{Layout}
 use Rattle.types.specs.Table.{TypeRow, FETCH, «FETCH_OK», «FETCH_ERROR», «FETCH_CANCEL», «TRACK_STATUS_REQUEST», «TRACK_STATUS»}
 use Rattle.fetch.specs.declared.kinds.FetchKind.{FetchKind}
 use Rattle.fetch.specs.declared.kinds.FetchKind.the-variants.{Fetch, FetchOk, FetchError, FetchCancel, TrackStatusRequest, TrackStatus}
-use Rattle.fetch.specs.declared.FetchMessage.{FetchMessage}
-use Rattle.fetch.specs.declared.FetchMessage.the-variants.{Fetch as AFetch, FetchOk as AFetchOk, FetchError as AFetchError, FetchCancel as AFetchCancel, TrackStatusRequest as ATrackStatusRequest, TrackStatus as ATrackStatus}
 
 unfoldable pub typeRow : FetchKind → TypeRow
 typeRow Fetch = FETCH
@@ -21,12 +19,3 @@ numberOf kind = typeRow kind .number
 
 abbrev pub layoutOf : FetchKind → Layout
 layoutOf kind = typeRow kind .layout
-
--- the kind that a message is of
-abbrev pub kindOf : FetchMessage → FetchKind
-kindOf (AFetch m) = Fetch
-kindOf (AFetchOk m) = FetchOk
-kindOf (AFetchError m) = FetchError
-kindOf (AFetchCancel id) = FetchCancel
-kindOf (ATrackStatusRequest t) = TrackStatusRequest
-kindOf (ATrackStatus m) = TrackStatus

@@ -1,9 +1,9 @@
 // A message as its fields, in the order of its layout; and whether its values are permitted.
 ghost use mathlib.Core.Path.{_≡_};
 ghost use Rattle.layout.specs.Allowed.{allowed};
+ghost use Rattle.types.specs.Table.{allowedTyped};
 ghost use Rattle.measure.specs.Fields.{placed};
 ghost use Rattle.types.specs.Fetches.{trackStatus};
-ghost use Rattle.fetch.specs.Kinds.{layoutOf, kindOf};
 ghost use Rattle.fetch.specs.Told.{joiningType, fetchPieces, statusPieces, typedOf};
 use crate::Fetch;
 use crate::FetchMessage;
@@ -128,7 +128,7 @@ fn joining_type(absolute: bool) -> u64
 
 // Whether a message holds no value that its layout forbids.
 pub fn is_allowed(m: FetchMessage) -> bool
-    ensures { λ r. ⌜ r ≡ allowed (layoutOf (kindOf m)) (typedOf m .pieces) ⌝ }
+    ensures { λ r. ⌜ r ≡ allowedTyped (typedOf m) ⌝ }
 {
     match m {
         FetchMessage::Fetch(x) => field::is_askable(x.order),

@@ -12,11 +12,11 @@ use Rattle.field.specs.Value.{nowhere}
 use Rattle.field.specs.declared.Span.{Span}
 use Rattle.layout.specs.Inside.{Inside, Lies, Between}
 use Rattle.subscription.specs.Names.{nameSpan as subscriptionName}
-use Rattle.subscription.specs.Told.{typedOf as subscriptionSaid}
+use Rattle.subscription.specs.Told.{typedOf as subscriptionTyped}
 use Rattle.subscription.specs.declared.SubscriptionMessage.{SubscriptionMessage}
 use Rattle.subscription.specs.declared.SubscriptionMessage.the-variants.{SubscribeUpdate, Subscribe, SubscribeOk, SubscribeError, Unsubscribe, SubscribeDone, MaxSubscribeId, SubscribesBlocked}
 use Rattle.fetch.specs.Names.{nameSpan as fetchName, rangeName}
-use Rattle.fetch.specs.Told.{typedOf as fetchSaid, fetchPieces}
+use Rattle.fetch.specs.Told.{typedOf as fetchTyped, fetchPieces}
 use Rattle.fetch.specs.declared.Fetch.{Fetch as AFetch}
 use Rattle.fetch.specs.declared.Range.{Range}
 use Rattle.fetch.specs.declared.Range.the-variants.{Standalone, Joining}
@@ -64,7 +64,7 @@ nowhere-by high = (lit≤ tt, omega arith)
 
 module _ (low high : ℕ) where
   -- where the parts of a message lie so, its name does: of a subscription's,
-  subscription-by : (m : SubscriptionMessage) → Inside low high (subscriptionSaid m .pieces) → By high (subscriptionName m)
+  subscription-by : (m : SubscriptionMessage) → Inside low high (subscriptionTyped m .pieces) → By high (subscriptionName m)
   unfolding Inside Lies
   subscription-by (SubscribeUpdate m) h = nowhere-by high
   subscription-by (Subscribe m) h = track-by (h .1 .1 .0 .1)
@@ -82,7 +82,7 @@ module _ (low high : ℕ) where
   range-by m (Joining j) e h = nowhere-by high
 
   -- of one that retrieves,
-  fetch-by : (m : FetchMessage) → Inside low high (fetchSaid m .pieces) → By high (fetchName m)
+  fetch-by : (m : FetchMessage) → Inside low high (fetchTyped m .pieces) → By high (fetchName m)
   unfolding Inside Lies
   fetch-by (Fetch m) h = range-by m (m .range) refl h
   fetch-by (FetchOk m) h = nowhere-by high

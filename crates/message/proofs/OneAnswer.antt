@@ -6,15 +6,15 @@ use mathlib.Core.List.{List}
 use Rattle.common.proofs.Telling.{once}
 use Rattle.types.specs.Table.{setting, subscribing, retrieving, announcing, messages, typeRowIn, typeRowOf}
 use Rattle.subscription.proofs.OneAnswer.{message-back as subscription-back}
-use Rattle.subscription.specs.Told.{typedOf as subscriptionSaid}
+use Rattle.subscription.specs.Told.{typedOf as subscriptionTyped}
 use Rattle.subscription.specs.declared.SubscriptionMessage.{SubscriptionMessage}
 use Rattle.subscription.specs.declared.SubscriptionMessage.the-variants as subscription
 use Rattle.fetch.proofs.OneAnswer.{message-back as fetch-back}
-use Rattle.fetch.specs.Told.{typedOf as fetchSaid}
+use Rattle.fetch.specs.Told.{typedOf as fetchTyped}
 use Rattle.fetch.specs.declared.FetchMessage.{FetchMessage}
 use Rattle.fetch.specs.declared.FetchMessage.the-variants as fetch
 use Rattle.announce.proofs.OneAnswer.{message-back as announce-back}
-use Rattle.announce.specs.Told.{typedOf as announceSaid}
+use Rattle.announce.specs.Told.{typedOf as announceTyped}
 use Rattle.announce.specs.Kinds.{typeRow as announceRow}
 use Rattle.announce.specs.declared.kinds.Naming.the-variants as naming
 use Rattle.announce.specs.declared.kinds.Asking.the-variants as asking
@@ -22,7 +22,7 @@ use Rattle.announce.specs.declared.kinds.Refusing.the-variants as refusing
 use Rattle.announce.specs.declared.AnnounceMessage.{AnnounceMessage}
 use Rattle.announce.specs.declared.AnnounceMessage.the-variants as announce
 use Rattle.session.proofs.OneAnswer.{message-back as session-back}
-use Rattle.session.specs.Told.{typedOf as sessionSaid}
+use Rattle.session.specs.Told.{typedOf as sessionTyped}
 use Rattle.session.specs.declared.SessionMessage.{SessionMessage}
 use Rattle.session.specs.declared.SessionMessage.the-variants as session
 use Rattle.message.specs.Types.{typedOf}
@@ -36,7 +36,7 @@ use Rattle.message.specs.declared.Reading.the-variants.{Whole, More, Unk
 -- ---- the families, by the numbers of their types
 
 -- each message has a number of its family
-of-subscription : (m : SubscriptionMessage) → familyOf (subscriptionSaid m .type) ≡ subscribing
+of-subscription : (m : SubscriptionMessage) → familyOf (subscriptionTyped m .type) ≡ subscribing
 unfolding familyOf typeRowOf typeRowIn messages
 of-subscription (subscription.SubscribeUpdate m) = refl
 of-subscription (subscription.Subscribe m) = refl
@@ -47,7 +47,7 @@ of-subscription (subscription.SubscribeDone m) = refl
 of-subscription (subscription.MaxSubscribeId id) = refl
 of-subscription (subscription.SubscribesBlocked id) = refl
 
-of-fetch : (m : FetchMessage) → familyOf (fetchSaid m .type) ≡ retrieving
+of-fetch : (m : FetchMessage) → familyOf (fetchTyped m .type) ≡ retrieving
 unfolding familyOf typeRowOf typeRowIn messages
 of-fetch (fetch.Fetch m) = refl
 of-fetch (fetch.FetchOk m) = refl
@@ -56,7 +56,7 @@ of-fetch (fetch.FetchCancel id) = refl
 of-fetch (fetch.TrackStatusRequest t) = refl
 of-fetch (fetch.TrackStatus m) = refl
 
-of-announce : (m : AnnounceMessage) → familyOf (announceSaid m .type) ≡ announcing
+of-announce : (m : AnnounceMessage) → familyOf (announceTyped m .type) ≡ announcing
 unfolding familyOf typeRowOf typeRowIn messages announceRow
 of-announce (announce.Named naming.AnnounceOk n) = refl
 of-announce (announce.Named naming.Unannounce n) = refl
@@ -68,7 +68,7 @@ of-announce (announce.Refused refusing.AnnounceError m) = refl
 of-announce (announce.Refused refusing.AnnounceCancel m) = refl
 of-announce (announce.Refused refusing.SubscribeAnnouncesError m) = refl
 
-of-session : (m : SessionMessage) → familyOf (sessionSaid m .type) ≡ setting
+of-session : (m : SessionMessage) → familyOf (sessionTyped m .type) ≡ setting
 unfolding familyOf typeRowOf typeRowIn messages
 of-session (session.ClientSetup m) = refl
 of-session (session.ServerSetup m) = refl

@@ -5,13 +5,13 @@ use Rattle.common.specs.Answer.{Answer, whole, refused}
 use Rattle.layout.specs.Typed.{Typed}
 use Rattle.types.specs.Table.{known}
 use Rattle.subscription.specs.Kinds.{numberOf as subscriptionNumber}
-use Rattle.subscription.specs.Told.{typedOf as subscriptionSaid}
+use Rattle.subscription.specs.Told.{typedOf as subscriptionTyped}
 use Rattle.fetch.specs.Kinds.{numberOf as fetchNumber}
-use Rattle.fetch.specs.Told.{typedOf as fetchSaid}
+use Rattle.fetch.specs.Told.{typedOf as fetchTyped}
 use Rattle.announce.specs.Kinds.{numberOf as announceNumber}
-use Rattle.announce.specs.Told.{typedOf as announceSaid}
+use Rattle.announce.specs.Told.{typedOf as announceTyped}
 use Rattle.session.specs.Kinds.{numberOf as sessionNumber}
-use Rattle.session.specs.Told.{typedOf as sessionSaid}
+use Rattle.session.specs.Told.{typedOf as sessionTyped}
 use Rattle.message.specs.declared.Message.{Message}
 use Rattle.message.specs.declared.Message.the-variants.{Subscription as SubscriptionM, Fetch as FetchM, Announce as AnnounceM, Session as SessionM}
 use Rattle.message.specs.declared.Kind.{Kind}
@@ -36,7 +36,7 @@ toldType Unknown = refused 2
 
 -- a message as the number of its type and its fields
 abbrev pub typedOf : Message → Typed
-typedOf (SubscriptionM m) = subscriptionSaid m
-typedOf (FetchM m) = fetchSaid m
-typedOf (AnnounceM m) = announceSaid m
-typedOf (SessionM m) = sessionSaid m
+typedOf (SubscriptionM m) = subscriptionTyped m
+typedOf (FetchM m) = fetchTyped m
+typedOf (AnnounceM m) = announceTyped m
+typedOf (SessionM m) = sessionTyped m

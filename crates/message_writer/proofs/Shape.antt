@@ -15,7 +15,7 @@ use Rattle.layout.specs.Typed.{Typed}
 use Rattle.encode.proofs.Good.{AllGood}
 use Rattle.encode.proofs.Fitting.{fitting, fitting-permitted}
 use Rattle.types.specs.Subscriptions.{subscribeUpdate, ending, filter, delivery, subscribe, content, subscribeOk, subscribeError, subscribeDone, idOnly}
-use Rattle.subscription.specs.Told.{filterPieces, contentPieces, typedOf as subscriptionSaid}
+use Rattle.subscription.specs.Told.{filterPieces, contentPieces, typedOf as subscriptionTyped}
 use Rattle.subscription.specs.declared.Filter.{Filter}
 use Rattle.subscription.specs.declared.Filter.the-variants.{Latest, From, Range}
 use Rattle.subscription.specs.declared.Content.{Content}
@@ -23,7 +23,7 @@ use Rattle.subscription.specs.declared.Content.the-variants.{Nothing, Largest}
 use Rattle.subscription.specs.declared.SubscriptionMessage.{SubscriptionMessage}
 use Rattle.subscription.specs.declared.SubscriptionMessage.the-variants.{SubscribeUpdate, Subscribe, SubscribeOk, SubscribeError, Unsubscribe, SubscribeDone, MaxSubscribeId, SubscribesBlocked}
 use Rattle.types.specs.Fetches.{standalone, joining, range, fetch, fetchOk, fetchError, fetchCancel, trackStatusRequest, largest, trackStatus}
-use Rattle.fetch.specs.Told.{rangePieces, typedOf as fetchSaid}
+use Rattle.fetch.specs.Told.{rangePieces, typedOf as fetchTyped}
 use Rattle.fetch.specs.declared.Range.{Range as FetchRange}
 use Rattle.fetch.specs.declared.Range.the-variants.{Standalone, Joining}
 use Rattle.fetch.specs.declared.FetchMessage.{FetchMessage}
@@ -31,12 +31,12 @@ use Rattle.fetch.specs.declared.FetchMessage.the-variants.{Fetch as AFetch, Fet
 use Rattle.types.specs.Announces.{named}
 use Rattle.announce.specs.Kinds.{rest}
 use Rattle.announce.proofs.ByKind.{layout-is}
-use Rattle.announce.specs.Told.{typedOf as announceSaid}
+use Rattle.announce.specs.Told.{typedOf as announceTyped}
 use Rattle.announce.specs.declared.AnnounceMessage.{AnnounceMessage}
 use Rattle.announce.specs.declared.AnnounceMessage.the-variants.{Named, Asked, Refused}
 use Rattle.announce.specs.declared.kinds.AnnounceKind.the-variants.{Named as KindNamed, Asked as KindAsked, Refused as KindRefused}
 use Rattle.types.specs.Sessions.{clientSetup, serverSetup, goAway}
-use Rattle.session.specs.Told.{typedOf as sessionSaid}
+use Rattle.session.specs.Told.{typedOf as sessionTyped}
 use Rattle.session.specs.declared.SessionMessage.{SessionMessage}
 use Rattle.session.specs.declared.SessionMessage.the-variants.{ClientSetup, ServerSetup, GoAway}
 use Rattle.types.specs.Table.{messages, typeRowIn, typeRowOf, known, layoutOf}
@@ -69,7 +69,7 @@ module _ (s : List ℕ) where
   existing (Largest p) e = refl
 
   -- a message of subscriptions,
-  subscription : (m : SubscriptionMessage) → Fitting s (subscriptionSaid m)
+  subscription : (m : SubscriptionMessage) → Fitting s (subscriptionTyped m)
   unfolding fitting code mean allowed known layoutOf typeRowOf typeRowIn messages place failure parameters subscribeUpdate delivery subscribe subscribeOk subscribeError subscribeDone idOnly
   subscription (SubscribeUpdate m) = (refl, refl)
   subscription (Subscribe m) = (refl, rw (asking (m .filter) (m .parameters)))
@@ -87,7 +87,7 @@ module _ (s : List ℕ) where
   fetching (Joining j) e = refl
 
   -- a message of fetches,
-  retrieval : (m : FetchMessage) → Fitting s (fetchSaid m)
+  retrieval : (m : FetchMessage) → Fitting s (fetchTyped m)
   unfolding fitting code mean allowed known layoutOf typeRowOf typeRowIn messages place failure parameters fetch fetchOk fetchError fetchCancel trackStatusRequest largest trackStatus
   retrieval (AFetch m) = (refl, rw (fetching (m .range) (m .parameters)))
   retrieval (FetchOk m) = (refl, refl)
@@ -97,14 +97,14 @@ module _ (s : List ℕ) where
   retrieval (TrackStatus m) = (refl, refl)
 
   -- of namespaces,
-  announcement : (m : AnnounceMessage) → Fitting s (announceSaid m)
+  announcement : (m : AnnounceMessage) → Fitting s (announceTyped m)
   unfolding fitting code mean allowed failure parameters named rest
   announcement (Named k n) = (announce-known (KindNamed k), rw (announce-layout (KindNamed k), layout-is (KindNamed k)))
   announcement (Asked k m) = (announce-known (KindAsked k), rw (announce-layout (KindAsked k), layout-is (KindAsked k)))
   announcement (Refused k m) = (announce-known (KindRefused k), rw (announce-layout (KindRefused k), layout-is (KindRefused k)))
 
   -- and of a session
-  session : (m : SessionMessage) → Fitting s (sessionSaid m)
+  session : (m : SessionMessage) → Fitting s (sessionTyped m)
   unfolding fitting code mean allowed known layoutOf typeRowOf typeRowIn messages parameters clientSetup serverSetup goAway
   session (ClientSetup m) = (refl, refl)
   session (ServerSetup m) = (refl, refl)

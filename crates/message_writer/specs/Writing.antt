@@ -7,17 +7,16 @@ use lib.Dec.{leb}
 use Rattle.common.specs.Answer.{Written}
 use Rattle.common.specs.Choice.{both}
 use Rattle.integer.specs.Integer.{greatest}
-use Rattle.layout.specs.Allowed.{allowed}
 use Rattle.measure.specs.Measuring.{rightAll, sizedAll, encodeAll}
 use Rattle.encode.specs.Writing.{writtenOf, frame}
-use Rattle.types.specs.Table.{layoutOf}
+use Rattle.types.specs.Table.{allowedTyped}
 use Rattle.message.specs.Types.{typedOf}
 use Rattle.message.specs.Reading.{longestBody}
 use Rattle.message.specs.declared.Message.{Message}
 
 -- "Forbidden field values (5)": what the layout of its type forbids, none of its fields holds
 unfoldable pub allowedOf : Message → Bool
-allowedOf m = allowed (layoutOf (typedOf m .type)) (typedOf m .pieces)
+allowedOf m = allowedTyped (typedOf m)
 
 -- a message over the bytes s, into a buffer, when its body may take up to a limit
 unfoldable pub writeUpTo : ℕ → List ℕ → Message → List ℕ → Written

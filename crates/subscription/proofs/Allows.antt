@@ -14,7 +14,7 @@ use Rattle.layout.specs.Allowed.{allowed}
 use Rattle.layout.proofs.Allowed.{test-alone}
 use Rattle.types.specs.Rules.{endsAfter}
 use Rattle.types.specs.Subscriptions.{ending, filter, delivery, subscribe, content, subscribeOk}
-use Rattle.subscription.specs.Kinds.{typeRow, layoutOf, kindOf}
+use Rattle.types.specs.Table.{messages, typeRowIn, typeRowOf, layoutOf, allowedTyped}
 use Rattle.subscription.specs.Told.{filterPieces, contentPieces, subscribePieces, typedOf}
 use Rattle.subscription.specs.declared.Content.{Content}
 use Rattle.subscription.specs.declared.Content.the-variants.{Nothing, Largest}
@@ -54,8 +54,8 @@ content-any (Largest p) e = refl
 
 -- what its layout allows
 abbrev pub judged : SubscriptionMessage → Bool
-judged m = allowed (layoutOf (kindOf m)) (typedOf m .pieces)
+judged m = allowedTyped (typedOf m)
 
 pub ok-is : {m : SubscriptionMessage} {x : SubscribeOk} {a : Bool} → m ≡ ASubscribeOk x → a ≡ givable (x .order) → a ≡ judged m
-unfolding allowed subscribeOk typeRow
+unfolding allowed subscribeOk layoutOf typeRowOf typeRowIn messages
 ok-is {x = x} which h = rw (which, content-any (x .content) (x .parameters), test-alone (givable (x .order))) h

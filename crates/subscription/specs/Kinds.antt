@@ -1,11 +1,9 @@
--- The kinds of message, and the row of the table that each stands in.
+-- The row of the table that each kind of message stands in.
 use Prim.Native.Nat.{ℕ}
 use Rattle.layout.specs.Layout.{Layout}
 use Rattle.types.specs.Table.{TypeRow, «MAX_SUBSCRIBE_ID», «SUBSCRIBES_BLOCKED», SUBSCRIBE, «SUBSCRIBE_OK», «SUBSCRIBE_ERROR», UNSUBSCRIBE, «SUBSCRIBE_UPDATE», «SUBSCRIBE_DONE»}
 use Rattle.subscription.specs.declared.kinds.SubscriptionKind.{SubscriptionKind}
 use Rattle.subscription.specs.declared.kinds.SubscriptionKind.the-variants.{SubscribeUpdate, Subscribe, SubscribeOk, SubscribeError, Unsubscribe, SubscribeDone, MaxSubscribeId, SubscribesBlocked}
-use Rattle.subscription.specs.declared.SubscriptionMessage.{SubscriptionMessage}
-use Rattle.subscription.specs.declared.SubscriptionMessage.the-variants.{SubscribeUpdate as ASubscribeUpdate, Subscribe as ASubscribe, SubscribeOk as ASubscribeOk, SubscribeError as ASubscribeError, Unsubscribe as AUnsubscribe, SubscribeDone as ASubscribeDone, MaxSubscribeId as AMaxSubscribeId, SubscribesBlocked as ASubscribesBlocked}
 
 unfoldable pub typeRow : SubscriptionKind → TypeRow
 typeRow SubscribeUpdate = «SUBSCRIBE_UPDATE»
@@ -23,14 +21,3 @@ numberOf kind = typeRow kind .number
 
 abbrev pub layoutOf : SubscriptionKind → Layout
 layoutOf kind = typeRow kind .layout
-
--- the kind that a message is of
-abbrev pub kindOf : SubscriptionMessage → SubscriptionKind
-kindOf (ASubscribeUpdate m) = SubscribeUpdate
-kindOf (ASubscribe m) = Subscribe
-kindOf (ASubscribeOk m) = SubscribeOk
-kindOf (ASubscribeError m) = SubscribeError
-kindOf (AUnsubscribe id) = Unsubscribe
-kindOf (ASubscribeDone m) = SubscribeDone
-kindOf (AMaxSubscribeId id) = MaxSubscribeId
-kindOf (ASubscribesBlocked id) = SubscribesBlocked

@@ -1,9 +1,9 @@
 // A message as its fields, in the order of its layout; and whether its values are permitted.
 ghost use mathlib.Core.Path.{_≡_};
 ghost use Rattle.layout.specs.Allowed.{allowed};
+ghost use Rattle.types.specs.Table.{allowedTyped};
 ghost use Rattle.measure.specs.Fields.{placed};
 ghost use Rattle.types.specs.Subscriptions.{subscribe};
-ghost use Rattle.subscription.specs.Kinds.{layoutOf, kindOf};
 ghost use Rattle.subscription.specs.Told.{subscribePieces, okPieces, updatePieces, typedOf};
 use crate::Content;
 use crate::Filter;
@@ -155,7 +155,7 @@ fn ok_fields(kind: u64, x: SubscribeOk) -> Fields
 
 // Whether a message holds no value that its layout forbids.
 pub fn is_allowed(m: SubscriptionMessage) -> bool
-    ensures { λ r. ⌜ r ≡ allowed (layoutOf (kindOf m)) (typedOf m .pieces) ⌝ }
+    ensures { λ r. ⌜ r ≡ allowedTyped (typedOf m) ⌝ }
 {
     match m {
         SubscriptionMessage::SubscribeUpdate(_) => true,

@@ -8,6 +8,7 @@ use lib.Dec.{eqb}
 use Rattle.common.specs.Choice.{pick}
 use Rattle.field.specs.declared.Piece.{Piece}
 use Rattle.layout.specs.Layout.{Layout, done, forbidden, failure, parameters}
+use Rattle.layout.specs.Allowed.{allowed}
 use Rattle.layout.specs.Typed.{Typed}
 use Rattle.types.specs.Letters.{letters}
 use Rattle.types.specs.Sessions.{clientSetup, serverSetup, goAway}
@@ -153,3 +154,7 @@ layoutOf type = onListed (typeRowOf type) (λ r. r .layout) forbidden
 -- and its name, as 004 spells it
 unfoldable pub nameOf : ℕ → List ℕ
 nameOf type = onListed (typeRowOf type) (λ r. letters (r .name)) []
+
+-- "Forbidden field values (5)": whether a message holds none that the layout of its type forbids
+abbrev pub allowedTyped : Typed → Bool
+allowedTyped t = allowed (layoutOf (t .type)) (t .pieces)

@@ -4,13 +4,13 @@ use Rattle.common.proofs.Telling.{told-of}
 use Rattle.layout.specs.Layout.{failure}
 use Rattle.layout.specs.Allowed.{allowed}
 use Rattle.types.specs.Fetches.{fetchError, fetchCancel, trackStatusRequest}
-use Rattle.fetch.specs.Kinds.{typeRow}
+use Rattle.types.specs.Table.{messages, typeRowIn, typeRowOf, layoutOf}
 use Rattle.fetch.proofs.Allows.{judged, fetch-is, ok-is}
 use Rattle.fetch.proofs.writer.is_allowed.Statement.{statement}
 use Rattle.fetch.proofs.writer.is_allowed.Tie as tie
 
 pub is-allowed-spec : {M : Type 1} → statement M
-unfolding allowed failure fetchError fetchCancel trackStatusRequest typeRow
+unfolding allowed failure fetchError fetchCancel trackStatusRequest layoutOf typeRowOf typeRowIn messages
 is-allowed-spec =
     tie.close
     (tie.spec
