@@ -1,5 +1,5 @@
-// The messages of namespaces: ANNOUNCE and SUBSCRIBE_ANNOUNCES, and the answers to them. Each begins with a namespace, or a
-// prefix of one; by what follows there are three shapes.
+// The messages of namespaces: ANNOUNCE and SUBSCRIBE_ANNOUNCES, and the answers to them. Each begins with a namespace,
+// or a prefix of one; by what follows there are three shapes.
 pub mod kinds;
 mod reader;
 mod writer;

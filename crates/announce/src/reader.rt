@@ -27,7 +27,8 @@ pub fn read(kind: AnnounceKind, s: &[u8], at: usize) -> AnnounceRead
 
 // What follows a namespace: nothing, parameters, or an error code and a reason.
 fn read_rest(kind: AnnounceKind, s: &[u8], namespace: Entries) -> AnnounceRead
-    ensures { λ r. ⌜ told r ≡ typed (numberOf kind) (led (namedPieces namespace) (scan (rest kind) (now (s .entry)) (namespace .end))) ⌝ }
+    ensures { λ r. ⌜ told r ≡ typed (numberOf kind) (led (namedPieces namespace)
+        (scan (rest kind) (now (s .entry)) (namespace .end))) ⌝ }
 {
     let at = namespace.end;
     match kind {

@@ -33,8 +33,8 @@ offsetLine offset what said = Number offset ∷ what ∷ answerItems said
 abbrev pub malformedLine : ℕ → ℕ → Verdict → List Item
 malformedLine offset refusal said = Number offset ∷ Word AMalformed ∷ Number refusal ∷ answerItems said
 
--- a message has its name as 004 spells it; bytes that the reader refuses show `malformed`, the reader's number, then the ledger's
--- answer. A fault has no line here
+-- a message has its name as 004 spells it; bytes that the reader refuses show `malformed`, the reader's number, then
+-- the ledger's answer. A fault has no line here
 abbrev pub lineBy : ℕ → Event → Verdict → List Item
 lineBy offset (Start part maximum) said = offsetLine offset (Word AStart) said
 lineBy offset (Control m) said = offsetLine offset (Name (typedOf m .type)) said

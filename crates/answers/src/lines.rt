@@ -86,8 +86,8 @@ fn fault_line(stage: Stage) -> Line
     }
 }
 
-// The trace ends here, and left bytes stand behind its last whole field: the line says where it is at fault. One that isn't has a
-// line of no items.
+// The trace ends here, and left bytes stand behind its last whole field: the line says where it is at fault. One that
+// isn't has a line of no items.
 pub fn tell_end(p: Progress, left: usize) -> Line
     ensures { λ r. ⌜ r ≡ placed (endItems p left) ⌝ }
 {

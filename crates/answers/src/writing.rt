@@ -26,8 +26,8 @@ fn add(out: &mut [u8], at: usize, line: Line, room: usize) -> Putting
     Putting::Done(end)
 }
 
-// The line of each field and the end's, one behind the other, if they take room bytes at most. Where out has no room, they are only
-// counted.
+// The line of each field and the end's, one behind the other, if they take room bytes at most. Where out has no room,
+// they are only counted.
 fn pass(s: &[u8], out: &mut [u8], room: usize) -> Putting
     ensures { λ r. ⌜ Adds (answersOf (now (s .entry))) 0 room (now (out .entry)) (toldPutting r) (now (out .exit)) ⌝ }
 {
@@ -50,9 +50,11 @@ fn pass(s: &[u8], out: &mut [u8], room: usize) -> Putting
     }
 }
 
-// 7 where out is too short, and then nothing is written: in the first pass there is no room for any line, and they are only counted.
+// 7 where out is too short, and then nothing is written: in the first pass there is no room for any line, and they are
+// only counted.
 pub fn of_trace(s: &[u8], out: &mut [u8]) -> Putting
-    ensures { λ r. ⌜ Leaves (putText (answersOf (now (s .entry))) (now (out .entry))) (toldPutting r) (now (out .exit)) ⌝ }
+    ensures { λ r. ⌜ Leaves (putText (answersOf (now (s .entry))) (now (out .entry))) (toldPutting r)
+        (now (out .exit)) ⌝ }
 {
     let room = out.len();
     let Putting::Done(_) = pass(s, &mut out[..0], room) else {

@@ -1,4 +1,5 @@
--- Byte strings: lists of numbers that are below 256, each of them. Only a law that tells bytes from what they spell asks for this.
+-- Byte strings: lists of numbers that are below 256, each of them. Only a law that tells bytes from what they spell
+-- asks for this.
 use Prim.Native.Nat.{ℕ, _<_}
 use mathlib.Core.List.{List}
 use lib.ListN.{getD}

@@ -17,7 +17,8 @@ use Rattle.encode.specs.declared.Writing.the-variants.{Done, Forbidden, 
 
 -- ---- the writer
 
--- bytes that were judged, put into a buffer: 5, 6, 3, 7 in this order; every byte after them stays, and a refusal changes none
+-- bytes that were judged, put into a buffer: 5, 6, 3, 7 in this order; every byte after them stays, and a refusal
+-- changes none
 unfoldable pub writtenOf : Bool → Bool → Bool → List ℕ → List ℕ → Written
 writtenOf isRight isSized isShort bytes before =
     guard isRight (unwritten 5 before)
@@ -42,7 +43,8 @@ bareOf s ps before = writtenOf (rightAll s ps) (sizedAll s ps) true (encodeAll s
 unfoldable pub framedOf : ℕ → List ℕ → ℕ → List Piece → List ℕ → Written
 framedOf longest s kind ps before =
     let body = encodeAll s ps in
-    writtenOf (both (leb kind greatest) (rightAll s ps)) (sizedAll s ps) (leb (length body) longest) (frame kind body) before
+    writtenOf (both (leb kind greatest) (rightAll s ps)) (sizedAll s ps) (leb (length body) longest) (frame kind body)
+    before
 
 -- ---- 01's number and values of what is answered
 

@@ -1,5 +1,5 @@
-// A data header: numbers, what stands between them, and numbers. They are lent as they are, so that none is copied; each check is
-// made over all of it before the next, and only then is a byte written.
+// A data header: numbers, what stands between them, and numbers. They are lent as they are, so that none is copied;
+// each check is made over all of it before the next, and only then is a byte written.
 ghost use mathlib.Core.Path.{_≡_};
 ghost use mathlib.Core.Bool.{true};
 ghost use mathlib.Core.List.{[], map};
@@ -57,7 +57,8 @@ fn put_middle(out: &mut [u8], bytes: &[u8], m: Middle) -> usize
     }
 }
 
-// A header: the number of its type, where it has one, is the first in front. 5, then 6, then 7; a refusal writes nothing.
+// A header: the number of its type, where it has one, is the first in front. 5, then 6, then 7; a refusal writes
+// nothing.
 pub fn write_header(
     out: &mut [u8],
     bytes: &[u8],
@@ -65,7 +66,8 @@ pub fn write_header(
     middle: Middle,
     back: &[u64],
 ) -> Writing
-    ensures { λ r. ⌜ Leaves (bareOf (now (bytes .entry)) (headed (now (front .entry)) middle (now (back .entry))) (now (out .entry))) (toldWriting r) (now (out .exit)) ⌝ }
+    ensures { λ r. ⌜ Leaves (bareOf (now (bytes .entry)) (headed (now (front .entry)) middle (now (back .entry)))
+        (now (out .entry))) (toldWriting r) (now (out .exit)) ⌝ }
 {
     let room = out.len();
     let first = measure_numbers(front, room);

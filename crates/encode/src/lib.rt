@@ -1,5 +1,5 @@
-// The shortest form of a field, of a message or of a header: judged and measured before a byte is written, then put at the front of
-// what is lent.
+// The shortest form of a field, of a message or of a header: judged and measured before a byte is written, then put at
+// the front of what is lent.
 mod heading;
 mod putting;
 mod writer;
@@ -8,8 +8,8 @@ pub use heading::write_header;
 pub use putting::put;
 pub use writer::write_framed;
 
-// How many bytes were written; or that something can't be written, is over a size, makes a body too long, or finds the output
-// too short.
+// How many bytes were written; or that something can't be written, is over a size, makes a body too long, or finds the
+// output too short.
 pub enum Writing {
     Done(usize),
     Forbidden,

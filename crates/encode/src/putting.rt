@@ -1,4 +1,5 @@
-// The shortest form of a field is put at the front of what is lent. Each writer lends on what is left behind what it put.
+// The shortest form of a field is put at the front of what is lent. Each writer lends on what is left behind what it
+// put.
 ghost use mathlib.Core.Path.{_≡_};
 ghost use mathlib.Core.Bool.{true};
 ghost use Prim.Native.Nat.{_-_, _≤_};
@@ -31,7 +32,8 @@ pub fn put_number(out: &mut [u8], n: u64) -> usize
 fn copy(out: &mut [u8], bytes: &[u8], start: usize, end: usize)
     requires { ⌜ (start ≤ end) × (end ≤ length (now bytes)) ⌝ }
     requires { ⌜ end - start ≤ length (now out) ⌝ }
-    ensures { λ _. ⌜ now (out .exit) ≡ over (part (now (bytes .entry)) (record { start = start; end = end })) (now (out .entry)) ⌝ }
+    ensures { λ _. ⌜ now (out .exit) ≡ over (part (now (bytes .entry)) (record { start = start; end = end }))
+        (now (out .entry)) ⌝ }
 {
     let n = end - start;
     let mut i: usize = 0;
@@ -76,7 +78,8 @@ fn put_head(out: &mut [u8], kind: Kind, number: u64, n: u64) -> usize
 fn put_entries(out: &mut [u8], bytes: &[u8], kind: Kind, l: Entries) -> usize
     requires { ⌜ rightList (now bytes) kind l ≡ true ⌝ }
     requires { ⌜ length (encItems kind (contents (now bytes) kind l)) ≤ length (now out) ⌝ }
-    ensures { λ r. ⌜ Put (encItems kind (contents (now (bytes .entry)) kind l)) (now (out .entry)) r (now (out .exit)) ⌝ }
+    ensures { λ r. ⌜ Put (encItems kind (contents (now (bytes .entry)) kind l)) (now (out .entry)) r
+        (now (out .exit)) ⌝ }
 {
     let mut at: usize = 0;
     let mut here = l.start;
@@ -103,7 +106,8 @@ fn put_entries(out: &mut [u8], bytes: &[u8], kind: Kind, l: Entries) -> usize
 fn put_list(out: &mut [u8], bytes: &[u8], kind: Kind, l: Entries) -> usize
     requires { ⌜ rightList (now bytes) kind l ≡ true ⌝ }
     requires { ⌜ length (encList kind (contents (now bytes) kind l)) ≤ length (now out) ⌝ }
-    ensures { λ r. ⌜ Put (encList kind (contents (now (bytes .entry)) kind l)) (now (out .entry)) r (now (out .exit)) ⌝ }
+    ensures { λ r. ⌜ Put (encList kind (contents (now (bytes .entry)) kind l)) (now (out .entry)) r
+        (now (out .exit)) ⌝ }
 {
     let count = l.count;
     let head = put_number(out, count);

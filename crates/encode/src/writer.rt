@@ -48,10 +48,11 @@ fn put_all(out: &mut [u8], bytes: &[u8], f: Fields) -> usize
     at
 }
 
-// A message: its type, the length of its body, and the body, which may take longest bytes. 5, 6, 3 and 7 in this order; a
-// refusal writes nothing. (The fields are judged here, since they would be copied where they are handed on.)
+// A message: its type, the length of its body, and the body, which may take longest bytes. 5, 6, 3 and 7 in this order;
+// a refusal writes nothing. (The fields are judged here, since they would be copied where they are handed on.)
 pub fn write_framed(out: &mut [u8], bytes: &[u8], f: Fields, longest: u32) -> Writing
-    ensures { λ r. ⌜ Leaves (framedOf longest (now (bytes .entry)) (f .kind) (fieldsOf f) (now (out .entry))) (toldWriting r) (now (out .exit)) ⌝ }
+    ensures { λ r. ⌜ Leaves (framedOf longest (now (bytes .entry)) (f .kind) (fieldsOf f) (now (out .entry)))
+        (toldWriting r) (now (out .exit)) ⌝ }
 {
     let kind = f.kind;
     if kind > integer::GREATEST {

@@ -1,5 +1,5 @@
--- What the calls on a ledger do, which the caller holds as numbers. "A message is taken by a ledger, which hands back the next ledger and
--- an answer." `out` is what the ledger's numbers then are, `info` what is told beside.
+-- What the calls on a ledger do, which the caller holds as numbers. "A message is taken by a ledger, which hands back
+-- the next ledger and an answer." `out` is what the ledger's numbers then are, `info` what is told beside.
 use Prim.Native.Nat.{ℕ}
 use mathlib.Core.List.{List, [], _∷_}
 use lib.ListN.{length}
@@ -40,8 +40,8 @@ malformedCall before = answeredCall (malformedOf (unpackOf before)) before
 unfoldable pub arrivalCall : Arrival → List ℕ → Doing
 arrivalCall a before = answeredCall (arrivalOf (unpackOf before) a) before
 
--- a message read from the front of bytes. info[0]: the bytes used; info[1]: the rule, 0 where none is broken. 14 goes before 7, and
--- neither changes anything
+-- a message read from the front of bytes. info[0]: the bytes used; info[1]: the rule, 0 where none is broken. 14 goes
+-- before 7, and neither changes anything
 abbrev pub takenCall : Came → ℕ → List ℕ → List ℕ → Doing
 takenCall c used before info =
     pick (eqb (c .says .number) 14) (refusing 14 before info)
@@ -51,7 +51,8 @@ takenCall c used before info =
 -- "Only a whole message reaches the ledger; every other reading ends there"
 abbrev pub takenBy : Reading → List ℕ → List ℕ → Doing
 takenBy r before info =
-    onWhole r (λ m used. takenCall (takeOf (unpackOf before) m) used before info) (refusing (number (told r)) before info)
+    onWhole r (λ m used. takenCall (takeOf (unpackOf before) m) used before info)
+    (refusing (number (told r)) before info)
 
 -- the one reading that `told r ≡ readOf s` names
 unfoldable pub messageCall : List ℕ → List ℕ → List ℕ → Doing

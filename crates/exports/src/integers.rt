@@ -24,7 +24,8 @@ pub extern "C" fn moq_integer_read(s: &[u8], info: &mut [u64]) -> u64
 // A number's shortest form at the front of `out`: into `info` the bytes written.
 #[no_mangle]
 pub extern "C" fn moq_integer_write(n: u64, out: &mut [u8], info: &mut [u64]) -> u64
-    ensures { λ r. ⌜ Does (integerWritten n (now (out .entry)) (now (info .entry))) r (now (out .exit)) (now (info .exit)) ⌝ }
+    ensures { λ r. ⌜ Does (integerWritten n (now (out .entry)) (now (info .entry))) r (now (out .exit))
+        (now (info .exit)) ⌝ }
 {
     if info.len() < 1 {
         if integer::GREATEST < n {

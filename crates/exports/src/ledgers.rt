@@ -1,4 +1,5 @@
-// A ledger, which the caller holds as numbers (the crate packed says which). What is no ledger answers 14, and stays as it is.
+// A ledger, which the caller holds as numbers (the crate packed says which). What is no ledger answers 14, and stays as
+// it is.
 ghost use mathlib.Core.Path.{_≡_};
 ghost use mathlib.Core.List.{[]};
 ghost use Rattle.common.specs.Answer.{number};
@@ -37,11 +38,12 @@ pub extern "C" fn moq_ledger_start(part: u64, rows: u64, maximum: u64, numbers: 
     8
 }
 
-// The control message at the front of s: into `info` the bytes used, and the rule that it breaks. Only a whole message reaches
-// the ledger; every other reading ends here.
+// The control message at the front of s: into `info` the bytes used, and the rule that it breaks. Only a whole message
+// reaches the ledger; every other reading ends here.
 #[no_mangle]
 pub extern "C" fn moq_ledger_take(s: &[u8], numbers: &mut [u64], info: &mut [u64]) -> u64
-    ensures { λ r. ⌜ Does (messageCall (now (s .entry)) (now (numbers .entry)) (now (info .entry))) r (now (numbers .exit)) (now (info .exit)) ⌝ }
+    ensures { λ r. ⌜ Does (messageCall (now (s .entry)) (now (numbers .entry)) (now (info .entry))) r
+        (now (numbers .exit)) (now (info .exit)) ⌝ }
 {
     let reading = message::read(s);
     let Reading::Whole(m, used) = reading else {
@@ -98,7 +100,8 @@ pub extern "C" fn moq_ledger_arrival(
     object: u64,
     numbers: &mut [u64],
 ) -> u64
-    ensures { λ r. ⌜ Does (arrivalCall (record { alias = alias; place = record { group = group; object = object } }) (now (numbers .entry))) r (now (numbers .exit)) [] ⌝ }
+    ensures { λ r. ⌜ Does (arrivalCall (record { alias = alias; place = record { group = group; object = object } })
+        (now (numbers .entry))) r (now (numbers .exit)) [] ⌝ }
 {
     let place = Place { group, object };
     let l = ledger_numbers::unpack(numbers);
@@ -111,7 +114,8 @@ pub extern "C" fn moq_ledger_arrival(
 // A run of arrivals, three numbers each: 01's number of each at the front of `answers`.
 #[no_mangle]
 pub extern "C" fn moq_ledger_arrivals(run: &[u64], numbers: &mut [u64], answers: &mut [u8]) -> u64
-    ensures { λ r. ⌜ Does (arrivalsCall (now (run .entry)) (now (numbers .entry)) (now (answers .entry))) r (now (numbers .exit)) (now (answers .exit)) ⌝ }
+    ensures { λ r. ⌜ Does (arrivalsCall (now (run .entry)) (now (numbers .entry)) (now (answers .entry))) r
+        (now (numbers .exit)) (now (answers .exit)) ⌝ }
 {
     let l = ledger_numbers::unpack(numbers);
     let t = l.arrivals(run, answers);

@@ -8,7 +8,8 @@ use text::Putting;
 // The report.
 #[no_mangle]
 pub extern "C" fn moq_report(trace: &[u8], out: &mut [u8], info: &mut [u64]) -> u64
-    ensures { λ r. ⌜ Does (textPut (reportOf (now (trace .entry))) (now (out .entry)) (now (info .entry))) r (now (out .exit)) (now (info .exit)) ⌝ }
+    ensures { λ r. ⌜ Does (textPut (reportOf (now (trace .entry))) (now (out .entry)) (now (info .entry))) r
+        (now (out .exit)) (now (info .exit)) ⌝ }
 {
     if info.len() < 1 {
         return 7;
@@ -23,7 +24,8 @@ pub extern "C" fn moq_report(trace: &[u8], out: &mut [u8], info: &mut [u64]) -> 
 // What each field was answered.
 #[no_mangle]
 pub extern "C" fn moq_answers(trace: &[u8], out: &mut [u8], info: &mut [u64]) -> u64
-    ensures { λ r. ⌜ Does (textPut (answersOf (now (trace .entry))) (now (out .entry)) (now (info .entry))) r (now (out .exit)) (now (info .exit)) ⌝ }
+    ensures { λ r. ⌜ Does (textPut (answersOf (now (trace .entry))) (now (out .entry)) (now (info .entry))) r
+        (now (out .exit)) (now (info .exit)) ⌝ }
 {
     if info.len() < 1 {
         return 7;

@@ -23,15 +23,16 @@ pub struct Head {
     pub order: u8,
 }
 
-// What stands before the parameters: of a FETCH its head and what it fetches; of a FETCH_OK its ID, group order, End Of Track
-// and largest place.
+// What stands before the parameters: of a FETCH its head and what it fetches; of a FETCH_OK its ID, group order, End Of
+// Track and largest place.
 pub enum Front {
     Fetch(Head, Range),
     FetchOk(u64, u8, u8, Place),
 }
 
 pub fn read_parameters(s: &[u8], at: usize, front: Front) -> FetchRead
-    ensures { λ r. ⌜ told r ≡ typed (frontOf front .type) (led (frontOf front .pieces) (scan parameters (now (s .entry)) at)) ⌝ }
+    ensures { λ r. ⌜ told r ≡ typed (frontOf front .type) (led (frontOf front .pieces)
+        (scan parameters (now (s .entry)) at)) ⌝ }
 {
     match field::read_list(s, Kind::Parameters, at) {
         ListRead::No(fault) => FetchRead::No(fault),
@@ -44,7 +45,11 @@ pub fn read_parameters(s: &[u8], at: usize, front: Front) -> FetchRead
 
 // The message, with its parameters.
 fn complete(front: Front, parameters: Entries) -> FetchMessage
-    ensures { λ r. ⌜ typedOf r ≡ record { type = frontOf front .type; pieces = frontOf front .pieces ++ Listing Parameters parameters ∷ [] } ⌝ }
+    ensures { λ r. ⌜ typedOf r ≡ record {
+      type = frontOf front .type;
+      pieces = frontOf front .pieces ++ Listing
+          Parameters parameters ∷ [];
+    } ⌝ }
 {
     match front {
         Front::Fetch(head, range) => FetchMessage::Fetch(Fetch {

@@ -96,7 +96,8 @@ fn read_range(s: &[u8], at: usize, head: Head) -> FetchRead
 }
 
 fn read_standalone(s: &[u8], at: usize, head: Head) -> FetchRead
-    ensures { λ r. ⌜ told r ≡ typed (FETCH .number) (led (headPieces head ++ Number 1 ∷ []) (scan standalone (now (s .entry)) at)) ⌝ }
+    ensures { λ r. ⌜ told r ≡ typed (FETCH .number) (led (headPieces head ++ Number 1 ∷ [])
+        (scan standalone (now (s .entry)) at)) ⌝ }
 {
     match field::read_track(s, at) {
         TrackRead::No(fault) => FetchRead::No(fault),
@@ -116,7 +117,8 @@ fn read_standalone(s: &[u8], at: usize, head: Head) -> FetchRead
 }
 
 fn read_joining(s: &[u8], at: usize, head: Head, absolute: bool) -> FetchRead
-    ensures { λ r. ⌜ told r ≡ typed (FETCH .number) (led (headPieces head ++ Number (joiningType absolute) ∷ []) (scan joining (now (s .entry)) at)) ⌝ }
+    ensures { λ r. ⌜ told r ≡ typed (FETCH .number) (led (headPieces head ++ Number (joiningType absolute) ∷ [])
+        (scan joining (now (s .entry)) at)) ⌝ }
 {
     let NumberRead::Whole(id, a) = field::read_number(s, at) else {
         return FetchRead::No(Fault::Cut);
@@ -191,7 +193,8 @@ fn read_status(s: &[u8], at: usize) -> FetchRead
 
 // The largest group and object, each judged as it is read.
 fn read_largest(s: &[u8], at: usize, track: Track, status: u64) -> FetchRead
-    ensures { λ r. ⌜ told r ≡ typed («TRACK_STATUS» .number) (led (Tracked track ∷ Number status ∷ []) (scan (largest status) (now (s .entry)) at)) ⌝ }
+    ensures { λ r. ⌜ told r ≡ typed («TRACK_STATUS» .number)
+        (led (Tracked track ∷ Number status ∷ []) (scan (largest status) (now (s .entry)) at)) ⌝ }
 {
     let NumberRead::Whole(group, a) = field::read_number(s, at) else {
         return FetchRead::No(Fault::Cut);

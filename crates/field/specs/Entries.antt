@@ -33,8 +33,8 @@ size p = p .end - p .start
 unfoldable pub numberAt : List ℕ → ℕ → Outcome ℕ
 numberAt s at = onRead (readOf (drop at s)) (λ n used. whole n (at + used)) (no Cut)
 
--- "A name or reason is a length and bytes." The length is judged as soon as it is read: over `most` it is a size, even where
--- the bytes it names are missing
+-- "A name or reason is a length and bytes." The length is judged as soon as it is read: over `most` it is a size, even
+-- where the bytes it names are missing
 unfoldable pub textAt : ℕ → List ℕ → ℕ → Outcome Span
 textAt most s at =
     andThen (numberAt s at) λ n start.
@@ -50,7 +50,8 @@ unfoldable pub entryAt : Kind → ℕ → List ℕ → ℕ → Outcome Entry
 entryAt Namespace most s at = numberedAt 0 most s at
 entryAt Parameters most s at = andThen (numberAt s at) λ type next. numberedAt type most s next
 entryAt Versions most s at =
-    andThen (numberAt s at) λ version end. whole (record { number = version; bytes = record { start = end; end = end } }) end
+    andThen (numberAt s at) λ version end.
+    whole (record { number = version; bytes = record { start = end; end = end } }) end
 
 -- which entries begin with a number, and which hold bytes
 abbrev pub hasNumber : Kind → Bool
@@ -75,7 +76,8 @@ mostOf false kind held = greatest
 unfoldable pub entriesAt : Bool → Kind → ℕ → ℕ → List ℕ → ℕ → Outcome ℕ
 entriesAt sized kind zero held s at = whole held at
 entriesAt sized kind (suc count) held s at =
-    andThen (entryAt kind (mostOf sized kind held) s at) λ e end. entriesAt sized kind count (held + size (e .bytes)) s end
+    andThen (entryAt kind (mostOf sized kind held) s at) λ e end.
+    entriesAt sized kind count (held + size (e .bytes)) s end
 
 -- how many entries there may be; no size for versions
 unfoldable pub few : Kind → ℕ → Bool

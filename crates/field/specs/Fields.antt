@@ -38,9 +38,11 @@ fieldAt track s at =
 -- "A place is a group and an object"
 unfoldable pub placeAt : List ℕ → ℕ → Outcome Place
 placeAt s at =
-    andThen (numberAt s at) λ group next. andThen (numberAt s next) λ object end. whole (record { group = group; object = object }) end
+    andThen (numberAt s at) λ group next. andThen (numberAt s next) λ object end.
+    whole (record { group = group; object = object }) end
 
 -- an error code and a reason
 unfoldable pub failureAt : List ℕ → ℕ → Outcome Failure
 failureAt s at =
-    andThen (numberAt s at) λ code next. andThen (textAt greatest s next) λ reason end. whole (record { code = code; reason = reason }) end
+    andThen (numberAt s at) λ code next. andThen (textAt greatest s next) λ reason end.
+    whole (record { code = code; reason = reason }) end

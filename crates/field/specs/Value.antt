@@ -1,5 +1,5 @@
--- Fields as values: numbers, and bytes by content. "Two messages are the same when their numbers are equal and their byte fields
--- equal, entry by entry." And the shortest form of each.
+-- Fields as values: numbers, and bytes by content. "Two messages are the same when their numbers are equal and their
+-- byte fields equal, entry by entry." And the shortest form of each.
 use Prim.Native.Nat.{ℕ, zero, suc, _+_}
 use mathlib.Core.List.{List, [], _∷_, _++_}
 use mathlib.Core.Bool.{Bool}

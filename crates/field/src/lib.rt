@@ -1,5 +1,5 @@
-// The kinds of field that control messages and data headers are made of, read at an offset of the caller's bytes: numbers
-// as they are, bytes as parts of the caller's. Nothing is copied.
+// The kinds of field that control messages and data headers are made of, read at an offset of the caller's bytes:
+// numbers as they are, bytes as parts of the caller's. Nothing is copied.
 mod pairs;
 mod reader;
 mod rules;

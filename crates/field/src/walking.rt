@@ -15,8 +15,8 @@ use crate::Sums;
 use crate::Walked;
 use integer::Reading;
 
-// A length and as many bytes, of an entry that has a number. The length is judged before the bytes are looked for: over most
-// it is a size, though they may be missing.
+// A length and as many bytes, of an entry that has a number. The length is judged before the bytes are looked for: over
+// most it is a size, though they may be missing.
 fn numbered(s: &[u8], number: u64, most: u64, at: usize) -> EntryRead
     ensures { λ r. ⌜ toldEntry r ≡ numberedAt number most (now (s .entry)) at ⌝ }
 {

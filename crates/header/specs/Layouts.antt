@@ -50,7 +50,8 @@ subgroupObject = field integer λ object. field bytes λ _. payload
 -- Group ID, Subgroup ID, Object ID, Publisher Priority, Extension Headers
 unfoldable pub fetchObject : Layout
 fetchObject =
-    field integer λ group. field integer λ subgroup. field integer λ object. field byte λ priority. field bytes λ _. payload
+    field integer λ group. field integer λ subgroup. field integer λ object. field byte λ priority. field bytes λ _.
+    payload
 
 -- ---- by type
 

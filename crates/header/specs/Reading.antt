@@ -1,5 +1,5 @@
--- What reading a data header answers. "On a stream, a cut header answers 1; in a datagram, which is always whole, it answers 4, and
--- so do bytes after a status datagram."
+-- What reading a data header answers. "On a stream, a cut header answers 1; in a datagram, which is always whole, it
+-- answers 4, and so do bytes after a status datagram."
 use Prim.Native.Nat.{ℕ}
 use mathlib.Core.List.{List}
 use lib.ListN.{length}

@@ -1,5 +1,5 @@
--- The statuses of an object: 0x0 normal, 0x1 does not exist, 0x3 end of group, 0x4 end of track. "Any other value SHOULD be treated
--- as a protocol error"
+-- The statuses of an object: 0x0 normal, 0x1 does not exist, 0x3 end of group, 0x4 end of track. "Any other value
+-- SHOULD be treated as a protocol error"
 use Prim.Native.Nat.{ℕ}
 use mathlib.Core.Bool.{Bool, true}
 use lib.Dec.{leb}

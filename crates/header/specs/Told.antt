@@ -1,4 +1,5 @@
--- Each header as its fields, in the order of its layout, with the number of its type where it has one; and what a reader answers.
+-- Each header as its fields, in the order of its layout, with the number of its type where it has one; and what a
+-- reader answers.
 use mathlib.Core.List.{List, [], _∷_, _++_}
 use Rattle.common.specs.Answer.{Answer, whole as answered, refused}
 use Rattle.field.specs.Outcome.{Outcome, whole, no}
@@ -34,7 +35,8 @@ use Rattle.header.specs.declared.PayloadRead.the-variants.{Whole as Whol
 
 abbrev pub objectPieces : ObjectDatagram → List Piece
 objectPieces d =
-    Number (d .alias) ∷ Number (d .place .group) ∷ Number (d .place .object) ∷ Byte (d .priority) ∷ Bytes (d .extensions) ∷ []
+    Number (d .alias) ∷ Number (d .place .group) ∷ Number (d .place .object) ∷ Byte (d .priority)
+    ∷ Bytes (d .extensions) ∷ []
 
 abbrev pub datagramTyped : Datagram → Typed
 datagramTyped (Object d) = record { type = 0x1; pieces = objectPieces d }
@@ -57,7 +59,8 @@ subgroupObjectPieces o = Number (o .object) ∷ Bytes (o .extensions) ∷ payloa
 
 abbrev pub fetchObjectPieces : FetchObject → List Piece
 fetchObjectPieces o =
-    Number (o .group) ∷ Number (o .subgroup) ∷ Number (o .object) ∷ Byte (o .priority) ∷ Bytes (o .extensions) ∷ payloadPieces (o .payload)
+    Number (o .group) ∷ Number (o .subgroup) ∷ Number (o .object) ∷ Byte (o .priority) ∷ Bytes (o .extensions)
+    ∷ payloadPieces (o .payload)
 
 -- ---- 01's number and values of what is answered
 

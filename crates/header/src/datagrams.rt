@@ -1,4 +1,5 @@
-// A datagram: its type, and the header that the type names. A datagram is always whole: where it is cut, nothing more will come.
+// A datagram: its type, and the header that the type names. A datagram is always whole: where it is cut, nothing more
+// will come.
 ghost use mathlib.Core.Path.{_≡_};
 ghost use lib.ListN.{length};
 ghost use Rattle.layout.specs.Layout.{scan};
@@ -63,7 +64,8 @@ fn read_object(s: &[u8], at: usize) -> ObjectRead
 
 // A datagram that has a status, and nothing behind it.
 fn read_status(s: &[u8], at: usize) -> DatagramRead
-    ensures { λ r. ⌜ toldDatagram r ≡ endedDatagram (length (now (s .entry))) (answer 4 (typed 0x2 (scan datagramStatus (now (s .entry)) at))) ⌝ }
+    ensures { λ r. ⌜ toldDatagram r ≡ endedDatagram (length (now (s .entry)))
+        (answer 4 (typed 0x2 (scan datagramStatus (now (s .entry)) at))) ⌝ }
 {
     let ObjectRead::Whole(d) = read_object(s, at) else {
         return DatagramRead::Cut;

@@ -1,5 +1,5 @@
-// Data headers: section 9 of source document 004. An object comes in a datagram, or on a stream behind the stream's header and its
-// own. They are read here, and written by `header_writer`.
+// Data headers: section 9 of source document 004. An object comes in a datagram, or on a stream behind the stream's
+// header and its own. They are read here, and written by `header_writer`.
 pub mod arrivals;
 mod datagrams;
 mod leading;
@@ -65,8 +65,8 @@ pub struct FetchObject {
     pub payload: Payload,
 }
 
-// What reading a datagram answers: its header and the bytes it took; or that its type is unknown; that it is cut, or goes on behind
-// its status; that a value is forbidden.
+// What reading a datagram answers: its header and the bytes it took; or that its type is unknown; that it is cut, or
+// goes on behind its status; that a value is forbidden.
 pub enum DatagramRead {
     Whole(Datagram, usize),
     Unknown,
@@ -74,16 +74,16 @@ pub enum DatagramRead {
     Forbidden,
 }
 
-// What reading a stream's first bytes answers: its header and the bytes it took; or that more bytes are needed; that its type is
-// unknown.
+// What reading a stream's first bytes answers: its header and the bytes it took; or that more bytes are needed; that
+// its type is unknown.
 pub enum StreamRead {
     Whole(StreamHeader, usize),
     More,
     Unknown,
 }
 
-// What reading an object's header on a stream answers: the header and the bytes it took; or that more bytes are needed; that a
-// value is forbidden.
+// What reading an object's header on a stream answers: the header and the bytes it took; or that more bytes are needed;
+// that a value is forbidden.
 pub enum SubgroupObjectRead {
     Whole(SubgroupObject, usize),
     More,
@@ -102,7 +102,8 @@ enum ObjectRead {
     Cut,
 }
 
-// Three numbers and a priority: the header of a subgroup's stream, and what the header of an object on a fetch's stream begins with.
+// Three numbers and a priority: the header of a subgroup's stream, and what the header of an object on a fetch's stream
+// begins with.
 struct Lead {
     first: u64,
     second: u64,

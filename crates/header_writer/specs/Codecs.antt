@@ -19,18 +19,46 @@ takesPayload (Object d) = true
 takesPayload (Status d n) = false
 
 abbrev pub datagramCodec : Codec Datagram Typed
-datagramCodec = record { told = datagramTyped; typed = λ t. t; readOf = datagramOf; writeOf = datagramWritten; takesMore = takesPayload }
+datagramCodec =
+    record {
+      told = datagramTyped;
+      typed = λ t. t;
+      readOf = datagramOf;
+      writeOf = datagramWritten;
+      takesMore = takesPayload;
+    }
 
 -- the header of a stream points into no bytes
 abbrev pub streamCodec : Codec StreamHeader Typed
-streamCodec = record { told = streamTyped; typed = λ t. t; readOf = streamOf; writeOf = λ s h before. streamWritten h before; takesMore = λ _. true }
+streamCodec =
+    record {
+      told = streamTyped;
+      typed = λ t. t;
+      readOf = streamOf;
+      writeOf = λ s h before. streamWritten h before;
+      takesMore = λ _. true;
+    }
 
 -- the header of an object has no type: 0 stands in its place
 abbrev pub untyped : List Piece → Typed
 untyped ps = record { type = 0; pieces = ps }
 
 abbrev pub subgroupObjectCodec : Codec SubgroupObject (List Piece)
-subgroupObjectCodec = record { told = subgroupObjectPieces; typed = untyped; readOf = subgroupObjectOf; writeOf = subgroupObjectWritten; takesMore = λ _. true }
+subgroupObjectCodec =
+    record {
+      told = subgroupObjectPieces;
+      typed = untyped;
+      readOf = subgroupObjectOf;
+      writeOf = subgroupObjectWritten;
+      takesMore = λ _. true;
+    }
 
 abbrev pub fetchObjectCodec : Codec FetchObject (List Piece)
-fetchObjectCodec = record { told = fetchObjectPieces; typed = untyped; readOf = fetchObjectOf; writeOf = fetchObjectWritten; takesMore = λ _. true }
+fetchObjectCodec =
+    record {
+      told = fetchObjectPieces;
+      typed = untyped;
+      readOf = fetchObjectOf;
+      writeOf = fetchObjectWritten;
+      takesMore = λ _. true;
+    }

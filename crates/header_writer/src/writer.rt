@@ -17,7 +17,8 @@ use measure::Middle;
 
 // bytes is what the extension headers point into.
 pub fn write_datagram(out: &mut [u8], bytes: &[u8], d: Datagram) -> Writing
-    ensures { λ r. ⌜ Leaves (datagramWritten (now (bytes .entry)) d (now (out .entry))) (toldWriting r) (now (out .exit)) ⌝ }
+    ensures { λ r. ⌜ Leaves (datagramWritten (now (bytes .entry)) d (now (out .entry))) (toldWriting r)
+        (now (out .exit)) ⌝ }
 {
     if !is_datagram_allowed(d) {
         return Writing::Forbidden;
@@ -62,7 +63,8 @@ pub fn write_stream(out: &mut [u8], h: StreamHeader) -> Writing
 }
 
 pub fn write_subgroup_object(out: &mut [u8], bytes: &[u8], o: SubgroupObject) -> Writing
-    ensures { λ r. ⌜ Leaves (subgroupObjectWritten (now (bytes .entry)) o (now (out .entry))) (toldWriting r) (now (out .exit)) ⌝ }
+    ensures { λ r. ⌜ Leaves (subgroupObjectWritten (now (bytes .entry)) o (now (out .entry))) (toldWriting r)
+        (now (out .exit)) ⌝ }
 {
     let payload = o.payload;
     if !is_payload_allowed(payload) {
@@ -78,7 +80,8 @@ pub fn write_subgroup_object(out: &mut [u8], bytes: &[u8], o: SubgroupObject) ->
 }
 
 pub fn write_fetch_object(out: &mut [u8], bytes: &[u8], o: FetchObject) -> Writing
-    ensures { λ r. ⌜ Leaves (fetchObjectWritten (now (bytes .entry)) o (now (out .entry))) (toldWriting r) (now (out .exit)) ⌝ }
+    ensures { λ r. ⌜ Leaves (fetchObjectWritten (now (bytes .entry)) o (now (out .entry))) (toldWriting r)
+        (now (out .exit)) ⌝ }
 {
     let payload = o.payload;
     if !is_payload_allowed(payload) {

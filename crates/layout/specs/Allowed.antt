@@ -5,8 +5,8 @@ use Rattle.common.specs.Choice.{pick}
 use Rattle.field.specs.declared.Piece.{Piece}
 use Rattle.layout.specs.Layout.{Layout, done, forbidden, field, when, control}
 
--- whether fields hold no value that a layout forbids; and one that asks for another field is forbidden where none follows it,
--- as a payload's length of 0 is without a status
+-- whether fields hold no value that a layout forbids; and one that asks for another field is forbidden where none
+-- follows it, as a payload's length of 0 is without a status
 unfoldable pub allowed : Layout → List Piece → Bool
 allowed done ps = true
 allowed forbidden ps = false

@@ -11,8 +11,8 @@ use Rattle.field.specs.declared.Kind.the-variants.{Parameters}
 use Rattle.field.specs.declared.Piece.{Piece}
 use Rattle.field.specs.declared.Piece.the-variants.{Number, Byte, Bytes, List as Listing, Track as Tracked}
 
--- the end; a forbidden value; a field, and what follows it, which may depend on the number or the byte that it holds; the one
--- or the other, by a test of the numbers before
+-- the end; a forbidden value; a field, and what follows it, which may depend on the number or the byte that it holds;
+-- the one or the other, by a test of the numbers before
 pub data Layout : Type 0 where
   done : Layout
   forbidden : Layout

@@ -31,7 +31,8 @@ within Versions held = true
 
 unfoldable pub goodList : Kind → List Item → ℕ → Bool
 goodList kind is also =
-    both (leb (length is) greatest) (both (few kind (length is)) (both (goodItems kind is) (within kind (total is + also))))
+    both (leb (length is) greatest) (both (few kind (length is))
+    (both (goodItems kind is) (within kind (total is + also))))
 
 unfoldable pub good : Value → Bool
 good (number n) = leb n greatest

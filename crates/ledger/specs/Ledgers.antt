@@ -24,7 +24,8 @@ mostRows = 64
 unfoldable pub held : Ledger → List Row
 held l = take (l .used) (l .rows)
 
--- "Rows rise strictly by ID, none above the highest ID accepted": each ID is `low` at least and below `next`; each is a row
+-- "Rows rise strictly by ID, none above the highest ID accepted": each ID is `low` at least and below `next`; each is a
+-- row
 unfoldable pub rising : ℕ → ℕ → List Row → Bool
 rising low next [] = true
 rising low next (r ∷ rs) =

@@ -47,8 +47,8 @@ pub record Run : Type 0 where
 abbrev pub noRun : Ledger → List ℕ → ℕ → Run
 noRun l before number = record { says = refused number; next = l; holds = before }
 
--- "Order: 14, 5, 10, then the rest": 14 is of the call, and goes before 7, where there is no room for a number for each arrival;
--- 5 and 10 are of an arrival
+-- "Order: 14, 5, 10, then the rest": 14 is of the call, and goes before 7, where there is no room for a number for each
+-- arrival; 5 and 10 are of an arrival
 unfoldable pub runOf : Ledger → List ℕ → List ℕ → Run
 runOf l run before =
     let came = arrivalsIn run in

@@ -1,5 +1,5 @@
--- Who sends a message, by its kind. Document 01 says it of those that may break a rule, section 8 of source document 004 of the
--- others.
+-- Who sends a message, by its kind. Document 01 says it of those that may break a rule, section 8 of source document
+-- 004 of the others.
 use Rattle.subscription.specs.declared.SubscriptionMessage.{SubscriptionMessage}
 use Rattle.subscription.specs.declared.SubscriptionMessage.the-variants.{SubscribeUpdate, Subscribe, SubscribeOk, SubscribeError, Unsubscribe, SubscribeDone, MaxSubscribeId, SubscribesBlocked}
 use Rattle.fetch.specs.declared.FetchMessage.{FetchMessage}
@@ -14,9 +14,9 @@ use Rattle.message.specs.declared.Message.the-variants.{Subscription, Fetch, An
 use Rattle.ledger.specs.declared.Part.{Part}
 use Rattle.ledger.specs.declared.Part.the-variants.{Subscriber, Publisher}
 
--- "SUBSCRIBE (sent by the subscriber)"; "SUBSCRIBE_OK, SUBSCRIBE_ERROR, SUBSCRIBE_DONE (publisher), UNSUBSCRIBE (subscriber)";
--- "MAX_SUBSCRIBE_ID (publisher)". 004: "A subscriber issues a SUBSCRIBE_UPDATE to a publisher"; "The SUBSCRIBES_BLOCKED message is
--- sent when a subscriber would like to begin a new subscription"
+-- "SUBSCRIBE (sent by the subscriber)"; "SUBSCRIBE_OK, SUBSCRIBE_ERROR, SUBSCRIBE_DONE (publisher), UNSUBSCRIBE
+-- (subscriber)"; "MAX_SUBSCRIBE_ID (publisher)". 004: "A subscriber issues a SUBSCRIBE_UPDATE to a publisher"; "The
+-- SUBSCRIBES_BLOCKED message is sent when a subscriber would like to begin a new subscription"
 abbrev pub sender : SubscriptionMessage → Part
 sender (SubscribeUpdate m) = Subscriber
 sender (Subscribe m) = Subscriber
@@ -27,9 +27,9 @@ sender (SubscribeDone m) = Publisher
 sender (MaxSubscribeId id) = Publisher
 sender (SubscribesBlocked id) = Subscriber
 
--- "A subscriber issues a FETCH to a publisher"; "A publisher sends a FETCH_OK control message", "a FETCH_ERROR control message";
--- "A subscriber issues a FETCH_CANCEL message to a publisher"; "A potential subscriber sends a 'TRACK_STATUS_REQUEST' message";
--- "A publisher sends a 'TRACK_STATUS' message"
+-- "A subscriber issues a FETCH to a publisher"; "A publisher sends a FETCH_OK control message", "a FETCH_ERROR control
+-- message"; "A subscriber issues a FETCH_CANCEL message to a publisher"; "A potential subscriber sends a
+-- 'TRACK_STATUS_REQUEST' message"; "A publisher sends a 'TRACK_STATUS' message"
 abbrev pub fetchSender : FetchMessage → Part
 fetchSender (AFetch m) = Subscriber
 fetchSender (FetchOk m) = Publisher
@@ -38,10 +38,10 @@ fetchSender (FetchCancel id) = Subscriber
 fetchSender (TrackStatusRequest track) = Subscriber
 fetchSender (TrackStatus m) = Publisher
 
--- "The publisher sends the ANNOUNCE control message", "the UNANNOUNCE control message"; "The subscriber sends an ANNOUNCE_OK control
--- message", "an ANNOUNCE_ERROR control message", "an ANNOUNCE_CANCEL control message", "the SUBSCRIBE_ANNOUNCES control message";
--- "A publisher sends a SUBSCRIBE_ANNOUNCES_OK control message", "a SUBSCRIBE_ANNOUNCES_ERROR control message"; "A subscriber issues a
--- UNSUBSCRIBE_ANNOUNCES message to a publisher"
+-- "The publisher sends the ANNOUNCE control message", "the UNANNOUNCE control message"; "The subscriber sends an
+-- ANNOUNCE_OK control message", "an ANNOUNCE_ERROR control message", "an ANNOUNCE_CANCEL control message", "the
+-- SUBSCRIBE_ANNOUNCES control message"; "A publisher sends a SUBSCRIBE_ANNOUNCES_OK control message", "a
+-- SUBSCRIBE_ANNOUNCES_ERROR control message"; "A subscriber issues a UNSUBSCRIBE_ANNOUNCES message to a publisher"
 abbrev pub announceSender : AnnounceMessage → Part
 announceSender (Asked AnAnnounce m) = Publisher
 announceSender (Named AnnounceOk namespace) = Subscriber
@@ -53,7 +53,8 @@ announceSender (Named SubscribeAnnouncesOk namespace) = Publisher
 announceSender (Refused SubscribeAnnouncesError m) = Publisher
 announceSender (Named UnsubscribeAnnounces namespace) = Subscriber
 
--- the one part; or either, as a client and a server may each be of either part, and "An endpoint sends a GOAWAY message"
+-- the one part; or either, as a client and a server may each be of either part, and "An endpoint sends a GOAWAY
+-- message"
 pub data Sender : Type 0 where
   the : Part → Sender
   either : Sender

@@ -1,5 +1,5 @@
-// The ledger of subscriptions in one direction: which module is subscribed, and the greatest place each has shown. A message or
-// an arrival is taken by a ledger, which hands back the next ledger and an answer.
+// The ledger of subscriptions in one direction: which module is subscribed, and the greatest place each has shown. A
+// message or an arrival is taken by a ledger, which hands back the next ledger and an answer.
 mod arrivals;
 mod checks;
 mod endings;
@@ -79,7 +79,8 @@ pub struct Taken {
     pub ledger: Ledger,
 }
 
-// What a run of arrivals answers: how many there were; that it is no ledger; or that there is no room for their answers.
+// What a run of arrivals answers: how many there were; that it is no ledger; or that there is no room for their
+// answers.
 pub enum Filled {
     Done(usize),
     NotALedger,

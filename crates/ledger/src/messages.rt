@@ -1,5 +1,5 @@
-// A message is taken by a ledger, which hands back the next ledger and an answer: a method for each kind of message, and for
-// arrivals.
+// A message is taken by a ledger, which hands back the next ledger and an answer: a method for each kind of message,
+// and for arrivals.
 ghost use mathlib.Core.Path.{_≡_};
 ghost use Rattle.message.specs.declared.Message.the-variants.{Subscription};
 ghost use Rattle.subscription.specs.declared.SubscriptionMessage.the-variants.{Subscribe as ASubscribe, SubscribeOk as ASubscribeOk, SubscribeError as ASubscribeError, Unsubscribe as AUnsubscribe, SubscribeDone as ASubscribeDone, MaxSubscribeId as AMaxSubscribeId};

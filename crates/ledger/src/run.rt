@@ -1,4 +1,5 @@
-// A run of arrivals in one call: whether it is a ledger, and open, is looked at once, and the ledger stays in its place.
+// A run of arrivals in one call: whether it is a ledger, and open, is looked at once, and the ledger stays in its
+// place.
 ghost use mathlib.Core.Path.{_≡_};
 ghost use mathlib.Core.Bool.{true};
 ghost use mathlib.Core.List.{map};
@@ -23,8 +24,8 @@ use row::Arriving;
 use row::Row;
 
 impl Ledger {
-    // The run holds three numbers for each arrival: alias, group, object. Document 01's number for each is put at the front of
-    // answers. What is no ledger takes none of them.
+    // The run holds three numbers for each arrival: alias, group, object. Document 01's number for each is put at the
+    // front of answers. What is no ledger takes none of them.
     pub fn arrivals(self, run: &[u64], answers: &mut [u8]) -> Ran
         ensures { λ r. ⌜ Runs (runOf self (now (run .entry)) (now (answers .entry))) r (now (answers .exit)) ⌝ }
     {

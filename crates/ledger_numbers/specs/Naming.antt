@@ -60,7 +60,8 @@ partNamed n = pick (eqb n 0) Subscriber Publisher
 
 unfoldable pub ruleNamed : ℕ → Rule
 ruleNamed n =
-    pick (eqb n 1) R1 (pick (eqb n 2) R2 (pick (eqb n 3) R3 (pick (eqb n 4) R4 (pick (eqb n 5) R5 (pick (eqb n 6) R6 R7)))))
+    pick (eqb n 1) R1 (pick (eqb n 2) R2 (pick (eqb n 3) R3
+    (pick (eqb n 4) R4 (pick (eqb n 5) R5 (pick (eqb n 6) R6 R7)))))
 
 unfoldable pub sessionNamed : ℕ → Session
 sessionNamed n = pick (eqb n 0) IsOpen (IsClosed (ruleNamed n))

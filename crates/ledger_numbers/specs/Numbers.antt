@@ -47,7 +47,8 @@ greatestNumbers (At place) = 1 ∷ place .group ∷ place .object ∷ []
 
 unfoldable pub rowNumbers : Row → List ℕ
 rowNumbers r =
-    r .id ∷ r .alias ∷ stateNumber (r .state) ∷ rangeNumbers (r .range) ++ greatestNumbers (r .greatest) ++ (r .count ∷ [])
+    r .id ∷ r .alias ∷ stateNumber (r .state) ∷ rangeNumbers (r .range) ++ greatestNumbers (r .greatest)
+    ++ (r .count ∷ [])
 
 unfoldable pub rowsNumbers : List Row → List ℕ
 rowsNumbers [] = []
@@ -66,4 +67,5 @@ sessionNumber (IsClosed rule) = ruleNumber rule
 
 unfoldable pub numbersOf : Ledger → List ℕ
 numbersOf l =
-    partNumber (l .part) ∷ sessionNumber (l .session) ∷ l .capacity ∷ l .maximum ∷ l .next ∷ l .used ∷ rowsNumbers (l .rows)
+    partNumber (l .part) ∷ sessionNumber (l .session) ∷ l .capacity ∷ l .maximum ∷ l .next ∷ l .used
+    ∷ rowsNumbers (l .rows)

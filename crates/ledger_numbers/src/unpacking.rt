@@ -17,7 +17,8 @@ use ledger::Rule;
 use ledger::Session;
 use row::Row;
 
-// Numbers that are no ledger's, and too few, are taken as a ledger that has no room for a row: every call on it answers 14.
+// Numbers that are no ledger's, and too few, are taken as a ledger that has no room for a row: every call on it answers
+// 14.
 pub fn unpack(numbers: &[u64]) -> Ledger
     ensures { λ r. ⌜ r ≡ unpackOf (now (numbers .entry)) ⌝ }
 {

@@ -1,7 +1,7 @@
-// Answers scripts of calls on a ledger: each line of standard input is a script, calls with `;` between them, and what each
-// is answered is printed. `start PART CAPACITY MAXIMUM`, `subscribe ID ALIAS ORDER FILTER [GROUP OBJECT [END_GROUP [PARAMETERS]]]`
-// (how many parameters it has), `ok ID ORDER CONTENT [GROUP OBJECT]`, `error ID`, `done ID`, `unsubscribe ID`, `max ID`,
-// `malformed`, `other`, `arrive ALIAS GROUP OBJECT`.
+// Answers scripts of calls on a ledger: each line of standard input is a script, calls with `;` between them, and what
+// each is answered is printed. `start PART CAPACITY MAXIMUM`, `subscribe ID ALIAS ORDER FILTER [GROUP OBJECT [END_GROUP
+// [PARAMETERS]]]` (how many parameters it has), `ok ID ORDER CONTENT [GROUP OBJECT]`, `error ID`, `done ID`,
+// `unsubscribe ID`, `max ID`, `malformed`, `other`, `arrive ALIAS GROUP OBJECT`.
 ghost use mathlib.Core.Path.{_≡_};
 ghost use Prim.Native.Nat.{_≤_};
 ghost use lib.ListN.{length};
@@ -215,7 +215,8 @@ fn with_digit(n: u64, c: u8) -> u64 {
 
 fn take_letter(word: &mut [u8], held: Held, c: u8) -> Held
     requires { ⌜ held .letters ≤ length (now word) ⌝ }
-    ensures { λ r. ⌜ (r .letters ≤ length (now (word .entry))) × (length (now (word .exit)) ≡ length (now (word .entry))) ⌝ }
+    ensures { λ r. ⌜ (r .letters ≤ length (now (word .entry)))
+        × (length (now (word .exit)) ≡ length (now (word .entry))) ⌝ }
 {
     let at = held.letters;
     if at < word.len() {
@@ -258,7 +259,9 @@ fn take_digit(numbers: &mut [u64], held: Held, c: u8) -> Held
 // Takes one character of a call: a letter, a digit, or what stands between them.
 fn take(word: &mut [u8], numbers: &mut [u64], held: Held, c: u8) -> Held
     requires { ⌜ held .letters ≤ length (now word) ⌝ }
-    ensures { λ r. ⌜ (r .letters ≤ length (now (word .entry))) × (length (now (word .exit)) ≡ length (now (word .entry))) × (length (now (numbers .exit)) ≡ length (now (numbers .entry))) ⌝ }
+    ensures { λ r. ⌜ (r .letters ≤ length (now (word .entry)))
+        × (length (now (word .exit)) ≡ length (now (word .entry)))
+        × (length (now (numbers .exit)) ≡ length (now (numbers .entry))) ⌝ }
 {
     match c {
         b'a'..=b'z' => take_letter(&mut *word, held, c),

@@ -1,4 +1,5 @@
--- How a field is judged before it is written: 5 for what can't be written, then 6 for 01's sizes, then the bytes it may take.
+-- How a field is judged before it is written: 5 for what can't be written, then 6 for 01's sizes, then the bytes it may
+-- take.
 use Prim.Native.Nat.{ℕ, _+_}
 use mathlib.Core.List.{List}
 use mathlib.Core.Bool.{Bool, true, false}

@@ -1,4 +1,5 @@
--- How many bytes a field takes in its shortest form, and how many several take: each check is made over all of them before the next.
+-- How many bytes a field takes in its shortest form, and how many several take: each check is made over all of them
+-- before the next.
 use Prim.Native.Nat.{ℕ, _+_, min}
 use mathlib.Core.List.{List, [], _∷_, map}
 use mathlib.Core.Bool.{Bool, true}

@@ -1,5 +1,5 @@
--- Fields whose numbers are all integers: none is above the greatest. How many entries a list has, and how many bytes a part has, are
--- numbers of a message too; where they stand in the bytes is none.
+-- Fields whose numbers are all integers: none is above the greatest. How many entries a list has, and how many bytes a
+-- part has, are numbers of a message too; where they stand in the bytes is none.
 use mathlib.Core.Bool.{Bool, true}
 use mathlib.Core.List.{List, [], _∷_}
 use lib.Dec.{leb}

@@ -1,5 +1,5 @@
-// What a field is, before a byte of it is written: judged, and measured in its shortest form; alone, in its place among the fields of a
-// message, and in a header.
+// What a field is, before a byte of it is written: judged, and measured in its shortest form; alone, in its place among
+// the fields of a message, and in a header.
 mod heading;
 mod judging;
 pub mod places;
@@ -13,8 +13,8 @@ pub use judging::join;
 pub use judging::measure;
 pub use small::are_small;
 
-// How a field, or several, is judged against the bytes it may take: it takes so many; or more than it may; or it is over a
-// size; or it holds what can't be written.
+// How a field, or several, is judged against the bytes it may take: it takes so many; or more than it may; or it is
+// over a size; or it holds what can't be written.
 pub enum Measured {
     Takes(usize),
     TooLong,

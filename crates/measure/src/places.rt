@@ -21,8 +21,10 @@ fn of(
     f: Piece,
     g: Piece,
 ) -> Fields
-    requires { ⌜ (used ≤ 10) × (drop used (a ∷ b ∷ c ∷ d ∷ e ∷ f ∷ g ∷ replicate 3 (Number 0)) ≡ replicate (10 - used) (Number 0)) ⌝ }
-    ensures { λ r. ⌜ r ≡ placed (record { type = kind; pieces = take used (a ∷ b ∷ c ∷ d ∷ e ∷ f ∷ g ∷ replicate 3 (Number 0)) }) ⌝ }
+    requires { ⌜ (used ≤ 10) × (drop used (a ∷ b ∷ c ∷ d ∷ e ∷ f ∷ g ∷ replicate 3 (Number 0)) ≡ replicate (10 - used)
+        (Number 0)) ⌝ }
+    ensures { λ r. ⌜ r ≡ placed
+        (record { type = kind; pieces = take used (a ∷ b ∷ c ∷ d ∷ e ∷ f ∷ g ∷ replicate 3 (Number 0)) }) ⌝ }
 {
     let z = Slot {
         piece: Piece::Number(0),

@@ -20,4 +20,5 @@ nameSpan (Session m) = nowhere
 
 -- and where in s, as the part that is handed back: nowhere where it does not stand within s
 unfoldable pub namedSpan : List ℕ → Message → Span
-namedSpan s m = pick (both (leb (nameSpan m .start) (nameSpan m .end)) (leb (nameSpan m .end) (length s))) (nameSpan m) nowhere
+namedSpan s m =
+    pick (both (leb (nameSpan m .start) (nameSpan m .end)) (leb (nameSpan m .end) (length s))) (nameSpan m) nowhere

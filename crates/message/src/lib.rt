@@ -25,8 +25,8 @@ pub enum Message {
     Session(SessionMessage),
 }
 
-// What reading bytes answers: a message and the bytes it took; or that more bytes are needed; that its type is unknown; that
-// its body is too long; that its fields don't fill the body; that a value is forbidden; that it is over a size.
+// What reading bytes answers: a message and the bytes it took; or that more bytes are needed; that its type is unknown;
+// that its body is too long; that its fields don't fill the body; that a value is forbidden; that it is over a size.
 pub enum Reading {
     Whole(Message, usize),
     More,

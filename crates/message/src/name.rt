@@ -5,8 +5,8 @@ ghost use Rattle.message.specs.Names.{nameSpan, namedSpan};
 use crate::Message;
 use field::Span;
 
-// The part of s, the bytes that m was read from, that is the name of its track: not a copy, and not the same bytes elsewhere. It is
-// the empty part at the front of s where m has none, and where it lies outside s.
+// The part of s, the bytes that m was read from, that is the name of its track: not a copy, and not the same bytes
+// elsewhere. It is the empty part at the front of s where m has none, and where it lies outside s.
 pub fn track_name<'a>(s: &'a [u8], m: Message) -> &'a [u8]
     ensures { λ r. ⌜ PartOf (s .entry) r (namedSpan (now (s .entry)) m) ⌝ }
 {

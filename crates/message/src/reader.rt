@@ -1,5 +1,5 @@
-// A message is read in this order: Type, known or not; Length, at most 16,383; the whole body present; its fields, left to
-// right, the first fault deciding; no byte left over.
+// A message is read in this order: Type, known or not; Length, at most 16,383; the whole body present; its fields, left
+// to right, the first fault deciding; no byte left over.
 ghost use mathlib.Core.Path.{_≡_};
 ghost use Rattle.layout.specs.Layout.{scan};
 ghost use Rattle.layout.specs.Typed.{typed};

@@ -1,4 +1,5 @@
-// A message is written as its shortest form. 5, 6, 3 and 7 in this order, each over the whole message; a refusal writes nothing.
+// A message is written as its shortest form. 5, 6, 3 and 7 in this order, each over the whole message; a refusal writes
+// nothing.
 ghost use mathlib.Core.Path.{_≡_};
 ghost use Rattle.common.specs.Answer.{Leaves};
 ghost use Rattle.measure.specs.Fields.{placed};

@@ -1,5 +1,6 @@
-// moqanswers: reads a trace from standard input to its end, and prints a line for each field: the offset of its tag, what it is and
-// the answer. It holds a piece of the trace and a piece of the text at a time, whatever the trace's length.
+// moqanswers: reads a trace from standard input to its end, and prints a line for each field: the offset of its tag,
+// what it is and the answer. It holds a piece of the trace and a piece of the text at a time, whatever the trace's
+// length.
 ghost use Prim.Native.Nat.{_≤_};
 ghost use lib.ListN.{length};
 ghost use Rattle.moqanswers.specs.Ending.{Ends};
@@ -9,8 +10,8 @@ use replay::Progress;
 use text::Line;
 use text::Putting;
 
-// How far some bytes were told of: the progress behind their whole fields, how many bytes those took, and whether all lines were
-// written.
+// How far some bytes were told of: the progress behind their whole fields, how many bytes those took, and whether all
+// lines were written.
 struct Printed {
     progress: Progress,
     used: usize,
@@ -24,8 +25,8 @@ struct Turned {
     more: bool,
 }
 
-// A field has at most 65,538 bytes, so what is left of one always leaves room to read into. A proved loop has to end, and nothing
-// says that an input does: the turns are counted down from a number that no run uses up.
+// A field has at most 65,538 bytes, so what is left of one always leaves room to read into. A proved loop has to end,
+// and nothing says that an input does: the turns are counted down from a number that no run uses up.
 fn main() {
     let mut buffer = [0u8; 131072];
     let mut progress = replay::begin();

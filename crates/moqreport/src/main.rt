@@ -1,5 +1,5 @@
-// moqreport: reads a trace from standard input to its end, and prints its report. It holds a piece of the trace at a time,
-// whatever the trace's length.
+// moqreport: reads a trace from standard input to its end, and prints its report. It holds a piece of the trace at a
+// time, whatever the trace's length.
 ghost use Prim.Native.Nat.{_≤_};
 ghost use lib.ListN.{length};
 ghost use Rattle.common.specs.Buffer.{Put};
@@ -15,7 +15,8 @@ fn main() {
     let mut buffer = [0u8; 131072];
     let mut progress = replay::begin();
     let mut left: usize = 0;
-    // A proved loop has to end, and nothing says that an input does: the turns are counted down from a number that no run uses up.
+    // A proved loop has to end, and nothing says that an input does: the turns are counted down from a number that no
+    // run uses up.
     let mut turns = u64::MAX;
     while turns > 0 {
         turns -= 1;
@@ -35,7 +36,8 @@ fn main() {
     }
 }
 
-// One read into buffer, behind what is left of the bytes before. It answers how many came, or less than 0 where it failed.
+// One read into buffer, behind what is left of the bytes before. It answers how many came, or less than 0 where it
+// failed.
 fn read_behind(buffer: &mut [u8], left: usize) -> isize
     requires { ⌜ left ≤ length (now buffer) ⌝ }
 {

@@ -45,7 +45,8 @@ fn at_most(n: usize, most: usize) -> usize
 // So many bytes from an offset on go to the front.
 fn move_front(buffer: &mut [u8], from: usize, count: usize)
     requires { ⌜ from + count ≤ length (now buffer) ⌝ }
-    ensures { λ r. ⌜ now (buffer .exit) ≡ take count (drop from (now (buffer .entry))) ++ drop count (now (buffer .entry)) ⌝ }
+    ensures { λ r. ⌜ now (buffer .exit) ≡ take count (drop from (now (buffer .entry)))
+        ++ drop count (now (buffer .entry)) ⌝ }
 {
     let mut i: usize = 0;
     while i < count {

@@ -38,7 +38,8 @@ objectItem (At place) = Number (place .object)
 
 abbrev pub rowLine : Row → List Item
 rowLine r =
-    Number (r .id) ∷ Number (r .alias) ∷ stateItem (r .state) ∷ groupItem (r .greatest) ∷ objectItem (r .greatest) ∷ Number (r .count) ∷ []
+    Number (r .id) ∷ Number (r .alias) ∷ stateItem (r .state) ∷ groupItem (r .greatest) ∷ objectItem (r .greatest)
+    ∷ Number (r .count) ∷ []
 
 -- `trace fault at N`
 abbrev pub faultLine : ℕ → List Item

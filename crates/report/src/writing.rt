@@ -108,10 +108,11 @@ fn write_ledger(out: &mut [u8], l: Ledger) -> Putting
     Putting::Done(put_ledger(out, l))
 }
 
-// The report of a trace that was fed, with left bytes behind its last whole field; 7 where out is too short, and then nothing is
-// written.
+// The report of a trace that was fed, with left bytes behind its last whole field; 7 where out is too short, and then
+// nothing is written.
 pub fn of_progress(p: Progress, left: usize, out: &mut [u8]) -> Putting
-    ensures { λ r. ⌜ Leaves (putText (textOf (finishOf p left)) (now (out .entry))) (toldPutting r) (now (out .exit)) ⌝ }
+    ensures { λ r. ⌜ Leaves (putText (textOf (finishOf p left)) (now (out .entry))) (toldPutting r)
+        (now (out .exit)) ⌝ }
 {
     let ended = p.finish(left);
     let stage = ended.stage;
@@ -124,7 +125,8 @@ pub fn of_progress(p: Progress, left: usize, out: &mut [u8]) -> Putting
 
 // The report of a whole trace.
 pub fn of_trace(s: &[u8], out: &mut [u8]) -> Putting
-    ensures { λ r. ⌜ Leaves (putText (reportOf (now (s .entry))) (now (out .entry))) (toldPutting r) (now (out .exit)) ⌝ }
+    ensures { λ r. ⌜ Leaves (putText (reportOf (now (s .entry))) (now (out .entry))) (toldPutting r)
+        (now (out .exit)) ⌝ }
 {
     let fed = replay::begin().feed(s);
     let used = fed.used;

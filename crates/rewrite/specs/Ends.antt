@@ -1,4 +1,5 @@
--- How a call ends once something was read, by what the writer said. What was read is refused for nothing but want of room.
+-- How a call ends once something was read, by what the writer said. What was read is refused for nothing but want of
+-- room.
 use Prim.Native.Nat.{ℕ}
 use mathlib.Core.List.{List, [], _∷_}
 use Rattle.common.specs.Answer.{Answer, whole, refused, Nothing}

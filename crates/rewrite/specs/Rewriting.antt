@@ -1,5 +1,5 @@
--- What is read from the front of bytes is written again in its shortest form: each call answers 01's number, and writes `info` and `out`
--- only with 0; 7 where either is too short.
+-- What is read from the front of bytes is written again in its shortest form: each call answers 01's number, and writes
+-- `info` and `out` only with 0; 7 where either is too short.
 use Prim.Native.Nat.{ℕ}
 use mathlib.Core.Path.{_≡_}
 use mathlib.Core.List.{List, [], _∷_, _++_}

@@ -13,7 +13,8 @@ use header::SubgroupObjectRead;
 // ---- datagrams
 
 pub fn datagram(s: &[u8], out: &mut [u8], info: &mut [u64]) -> u8
-    ensures { λ r. ⌜ Does (datagramAgain (now (s .entry)) (now (out .entry)) (now (info .entry))) r (now (out .exit)) (now (info .exit)) ⌝ }
+    ensures { λ r. ⌜ Does (datagramAgain (now (s .entry)) (now (out .entry)) (now (info .entry))) r (now (out .exit))
+        (now (info .exit)) ⌝ }
 {
     match header::read_datagram(s) {
         DatagramRead::Unknown => 2,
@@ -41,7 +42,8 @@ fn datagram_type(d: Datagram) -> u64
 // ---- streams
 
 pub fn stream(s: &[u8], out: &mut [u8], info: &mut [u64]) -> u8
-    ensures { λ r. ⌜ Does (streamAgain (now (s .entry)) (now (out .entry)) (now (info .entry))) r (now (out .exit)) (now (info .exit)) ⌝ }
+    ensures { λ r. ⌜ Does (streamAgain (now (s .entry)) (now (out .entry)) (now (info .entry))) r (now (out .exit))
+        (now (info .exit)) ⌝ }
 {
     match header::read_stream(s) {
         StreamRead::More => 1,
@@ -68,7 +70,8 @@ fn stream_type(h: StreamHeader) -> u64
 // ---- objects on a stream, which have no type
 
 pub fn subgroup_object(s: &[u8], out: &mut [u8], info: &mut [u64]) -> u8
-    ensures { λ r. ⌜ Does (subgroupObjectAgain (now (s .entry)) (now (out .entry)) (now (info .entry))) r (now (out .exit)) (now (info .exit)) ⌝ }
+    ensures { λ r. ⌜ Does (subgroupObjectAgain (now (s .entry)) (now (out .entry)) (now (info .entry))) r
+        (now (out .exit)) (now (info .exit)) ⌝ }
 {
     match header::read_subgroup_object(s) {
         SubgroupObjectRead::More => 1,
@@ -84,7 +87,8 @@ pub fn subgroup_object(s: &[u8], out: &mut [u8], info: &mut [u64]) -> u8
 }
 
 pub fn fetch_object(s: &[u8], out: &mut [u8], info: &mut [u64]) -> u8
-    ensures { λ r. ⌜ Does (fetchObjectAgain (now (s .entry)) (now (out .entry)) (now (info .entry))) r (now (out .exit)) (now (info .exit)) ⌝ }
+    ensures { λ r. ⌜ Does (fetchObjectAgain (now (s .entry)) (now (out .entry)) (now (info .entry))) r (now (out .exit))
+        (now (info .exit)) ⌝ }
 {
     match header::read_fetch_object(s) {
         FetchObjectRead::More => 1,

@@ -5,7 +5,8 @@ use crate::telling::tell;
 use message::Reading;
 
 pub fn control(s: &[u8], out: &mut [u8], info: &mut [u64]) -> u8
-    ensures { λ r. ⌜ Does (controlAgain (now (s .entry)) (now (out .entry)) (now (info .entry))) r (now (out .exit)) (now (info .exit)) ⌝ }
+    ensures { λ r. ⌜ Does (controlAgain (now (s .entry)) (now (out .entry)) (now (info .entry))) r (now (out .exit))
+        (now (info .exit)) ⌝ }
 {
     match message::read(s) {
         Reading::More => 1,

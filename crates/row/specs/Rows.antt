@@ -43,7 +43,8 @@ isRow r =
     both (small (r .id))
     (both (small (r .alias))
     (both (leb (r .count) top)
-    (both (smallRange (r .range)) (both (countAgrees (r .greatest) (r .count)) (suits (r .state) (r .range) (r .count))))))
+    (both (smallRange (r .range)) (both (countAgrees (r .greatest) (r .count))
+    (suits (r .state) (r .range) (r .count))))))
 
 -- "unused rows are pending, without range or place, all numbers 0"
 abbrev pub unusedRow : Row

@@ -19,8 +19,8 @@ pub use rows::unused;
 // The count at which a row stops.
 pub const TOP: u64 = 4_294_967_295;
 
-// A range is not known yet, open from a place, or closed at a last group. (The first variant of each enum here is that of an
-// unused row.)
+// A range is not known yet, open from a place, or closed at a last group. (The first variant of each enum here is that
+// of an unused row.)
 pub enum Range {
     Unknown,
     Open(Place),

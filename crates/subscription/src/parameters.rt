@@ -43,7 +43,8 @@ pub enum Front {
 }
 
 pub fn read_parameters(s: &[u8], at: usize, front: Front) -> Answer
-    ensures { λ r. ⌜ told r ≡ typed (frontOf front .type) (led (frontOf front .pieces) (scan parameters (now (s .entry)) at)) ⌝ }
+    ensures { λ r. ⌜ told r ≡ typed (frontOf front .type) (led (frontOf front .pieces)
+        (scan parameters (now (s .entry)) at)) ⌝ }
 {
     match field::read_list(s, Kind::Parameters, at) {
         ListRead::No(fault) => Answer::No(fault),
@@ -53,7 +54,11 @@ pub fn read_parameters(s: &[u8], at: usize, front: Front) -> Answer
 
 // The message, with its parameters.
 fn complete(front: Front, parameters: Entries) -> Message
-    ensures { λ r. ⌜ typedOf r ≡ record { type = frontOf front .type; pieces = frontOf front .pieces ++ Listing Parameters parameters ∷ [] } ⌝ }
+    ensures { λ r. ⌜ typedOf r ≡ record {
+      type = frontOf front .type;
+      pieces = frontOf front .pieces ++ Listing
+          Parameters parameters ∷ [];
+    } ⌝ }
 {
     match front {
         Front::SubscribeUpdate(id, start, end_group, priority) => {

@@ -96,7 +96,8 @@ fn read_subscribe(s: &[u8], at: usize) -> Answer
 
 // The priority and the group order, behind the names.
 fn read_delivery(s: &[u8], at: usize, id: u64, alias: u64, track: Track) -> Answer
-    ensures { λ r. ⌜ told r ≡ typed (SUBSCRIBE .number) (led (Number id ∷ Number alias ∷ Tracked track ∷ []) (scan delivery (now (s .entry)) at)) ⌝ }
+    ensures { λ r. ⌜ told r ≡ typed (SUBSCRIBE .number) (led (Number id ∷ Number alias ∷ Tracked track ∷ [])
+        (scan delivery (now (s .entry)) at)) ⌝ }
 {
     let ByteRead::Whole(priority, a) = field::read_byte(s, at) else {
         return Answer::No(Fault::Cut);
@@ -147,7 +148,9 @@ fn read_filter(s: &[u8], at: usize, head: Head) -> Answer
 
 // The end group, judged by the start.
 fn read_ending(s: &[u8], at: usize, head: Head, start: Place) -> Answer
-    ensures { λ r. ⌜ told r ≡ typed (SUBSCRIBE .number) (led (headPieces head ++ Number 4 ∷ Number (start .group) ∷ Number (start .object) ∷ []) (scan (ending (start .group)) (now (s .entry)) at)) ⌝ }
+    ensures { λ r. ⌜ told r ≡ typed (SUBSCRIBE .number)
+        (led (headPieces head ++ Number 4 ∷ Number (start .group) ∷ Number (start .object) ∷ [])
+        (scan (ending (start .group)) (now (s .entry)) at)) ⌝ }
 {
     let NumberRead::Whole(end_group, a) = field::read_number(s, at) else {
         return Answer::No(Fault::Cut);
@@ -183,7 +186,8 @@ fn read_ok(s: &[u8], at: usize) -> Answer
 
 // Whether content exists, and then the largest place.
 fn read_content(s: &[u8], at: usize, granted: Granted) -> Answer
-    ensures { λ r. ⌜ told r ≡ typed («SUBSCRIBE_OK» .number) (led (grantedPieces granted) (scan content (now (s .entry)) at)) ⌝ }
+    ensures { λ r. ⌜ told r ≡ typed («SUBSCRIBE_OK» .number)
+        (led (grantedPieces granted) (scan content (now (s .entry)) at)) ⌝ }
 {
     let ByteRead::Whole(exists, a) = field::read_byte(s, at) else {
         return Answer::No(Fault::Cut);

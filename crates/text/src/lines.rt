@@ -1,4 +1,5 @@
-// A line, made of its items; measured, and put at the front of what is lent. A place that is not used holds the number 0.
+// A line, made of its items; measured, and put at the front of what is lent. A place that is not used holds the number
+// 0.
 ghost use mathlib.Core.Path.{_≡_};
 ghost use mathlib.Core.List.{[], _∷_};
 ghost use Prim.Native.Nat.{_≤_, _-_, min};

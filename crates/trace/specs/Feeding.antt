@@ -14,7 +14,8 @@ module _ {A : Type 0} (step : A → List ℕ → A) where
   unfoldable pub feedByte : Held A → ℕ → Held A
   feedByte h byte =
       let field = h .rest ++ byte ∷ [] in
-      pick (isWhole field) (record { soFar = step (h .soFar) field; rest = [] }) (record { soFar = h .soFar; rest = field })
+      pick (isWhole field) (record { soFar = step (h .soFar) field; rest = [] })
+      (record { soFar = h .soFar; rest = field })
 
   -- more bytes
   unfoldable pub feed : Held A → List ℕ → Held A

@@ -80,4 +80,5 @@ verdictIn t = t .says
 unfoldable pub linesOf : ℕ → List (List ℕ) → List Verdict → List ℕ
 linesOf offset [] says = []
 linesOf offset (field ∷ fields) says =
-    lineOf (lineBy offset (eventIn field) (headD says (noRule 0))) ++ linesOf (offsetOf offset (fieldSize field)) fields (tail says)
+    lineOf (lineBy offset (eventIn field) (headD says (noRule 0)))
+    ++ linesOf (offsetOf offset (fieldSize field)) fields (tail says)

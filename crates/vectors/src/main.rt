@@ -1,6 +1,7 @@
-// Answers cases: each line of the file `cases` is the name of a reader and bytes in hexadecimal. For each a line is printed: the number
-// that is answered, and behind a 0 the bytes used and the shortest form; for an integer its number and the bytes used; for the name of
-// a message's track the offsets of its bytes; for a trace its report, or what each field is answered, with ` /` for each newline.
+// Answers cases: each line of the file `cases` is the name of a reader and bytes in hexadecimal. For each a line is
+// printed: the number that is answered, and behind a 0 the bytes used and the shortest form; for an integer its number
+// and the bytes used; for the name of a message's track the offsets of its bytes; for a trace its report, or what each
+// field is answered, with ` /` for each newline.
 ghost use mathlib.Core.Path.{_≡_};
 ghost use Prim.Native.Nat.{_≤_};
 ghost use lib.ListN.{length};
@@ -26,11 +27,12 @@ struct Held {
     high: u8,
 }
 
-// Takes one character: a second digit makes a byte with the first, and what is no digit is passed over. A byte for which there is no
-// room is left out.
+// Takes one character: a second digit makes a byte with the first, and what is no digit is passed over. A byte for
+// which there is no room is left out.
 fn take(bytes: &mut [u8], held: Held, c: u8) -> Held
     requires { ⌜ held .have ≤ length (now bytes) ⌝ }
-    ensures { λ r. ⌜ (r .have ≤ length (now (bytes .entry))) × (length (now (bytes .exit)) ≡ length (now (bytes .entry))) ⌝ }
+    ensures { λ r. ⌜ (r .have ≤ length (now (bytes .entry)))
+        × (length (now (bytes .exit)) ≡ length (now (bytes .entry))) ⌝ }
 {
     let have = held.have;
     let high = held.high;
@@ -241,8 +243,9 @@ fn say_offsets(offsets: &[u8]) {
     }
 }
 
-// Where the name of a message lies: a 0, and the offset of each of its bytes. It is asked for among as many bytes as the message was
-// read from, each of them its own offset; so what is handed back tells its place, also where the message holds the same bytes twice.
+// Where the name of a message lies: a 0, and the offset of each of its bytes. It is asked for among as many bytes as
+// the message was read from, each of them its own offset; so what is handed back tells its place, also where the
+// message holds the same bytes twice.
 fn say_name(s: &[u8]) {
     let mut places = [0u8; 2048];
     number_bytes(&mut places);

@@ -51,7 +51,13 @@ standingAfter own (broken rule) s = pick own s (closed s rule)
 -- the rows stay as they are
 abbrev pub replied : View → Bool → Reply → Seen
 replied v own reply =
-    record { says = verdictBy reply; next = record { standing = standingAfter own reply (v .standing); rows = v .rows } }
+    record {
+      says = verdictBy reply;
+      next = record {
+        standing = standingAfter own reply (v .standing);
+        rows = v .rows;
+      };
+    }
 
 abbrev pub unchanged : View → ℕ → Seen
 unchanged v number = record { says = noRule number; next = v }
