@@ -5,7 +5,7 @@ use std::collections::{BTreeMap, BTreeSet};
 use second::generate::damaged::DAMAGES;
 use second::generate::{Call, LedgerCase, Ledgers, Random};
 use second::integer::GREATEST;
-use second::ledger::{Ledger, Part, Place, Range, Row};
+use second::ledger::{Ledger, Part, Place, Range, Row, ROWS};
 use second::numbers::{self, COUNT, EACH, FIRST};
 use second::{calls, hex};
 
@@ -25,6 +25,24 @@ fn beginning(first: &[u64]) -> [u64; COUNT] {
     let mut numbers = [0; COUNT];
     numbers[..first.len()].copy_from_slice(first);
     numbers
+}
+
+/// The number that `include/moq.h` gives a name.
+fn defined(header: &str, name: &str) -> usize {
+    let start = format!("#define {name} ");
+    let line = header.lines().find_map(|line| line.strip_prefix(&start));
+    line.and_then(|value| value.parse().ok()).expect("a number")
+}
+
+/// C's names for the parts of a ledger are the numbers that this side has.
+#[test]
+fn names_in_c() {
+    let header = include_str!("../../include/moq.h");
+    assert_eq!(defined(header, "MOQ_ROWS"), ROWS);
+    assert_eq!(defined(header, "MOQ_OWN_NUMBERS"), FIRST);
+    assert_eq!(defined(header, "MOQ_ROW_NUMBERS"), EACH);
+    let whole = "(MOQ_OWN_NUMBERS + MOQ_ROW_NUMBERS * MOQ_ROWS)";
+    assert!(header.contains(&format!("#define MOQ_LEDGER_NUMBERS {whole}")));
 }
 
 /// The calls of 01's report, one by one, with the numbers behind each.
