@@ -2,6 +2,7 @@
 use mathlib.Core.Path.{_≡_, refl}
 use mathlib.Core.Logic.{⊎-elim}
 use mathlib.Core.List.{List, [], _∷_, map, List·Memᴰ, List·Memᴰ·not-nil, List·Memᴰ·cases-cons}
+use Rattle.common.specs.Lists.{upTo}
 use Rattle.field.specs.Entries.{numberAt, textAt, numberedAt, entryAt, mostOf, entriesAt, few, listAt}
 use Rattle.field.specs.Fields.{fieldAt, placeAt}
 use Rattle.layout.specs.Layout.{scan, place, parameters}
@@ -25,8 +26,9 @@ use Rattle.row.specs.Places.{before, small, smallPlace}
 use Rattle.row.specs.Ranges.{inRange, isKnown, smallRange, settledOf}
 use Rattle.row.specs.Rows.{countAgrees, suits, isRow, isPending, isNowhere, isUnused, greater, risen, countedRow, arriveOf, openOf}
 use Rattle.ledger.specs.Ledgers.{held, rising, hasAlias, distinct, allUnused, bounded, isLedger}
-use Rattle.ledger.specs.Answers.{breaks, stops, gateOf, gated}
-use Rattle.ledger.specs.Steps.{startOf, find, changed, added, subscribeStep, okStep, arrivalStep, smallArrival, takeOf, arrivalOf}
+use Rattle.ledger.specs.Answers.{stops, gateOf, gated}
+use Rattle.ledger.specs.Keys.{look, turn}
+use Rattle.ledger.specs.Steps.{startOf, subscribeStep, byKey, noRow, okAt, arriveAt, smallArrival, takeOf, arrivalOf}
 use Rattle.trace.specs.Fields.{tagOf, valueOf, fieldSize as fieldSize, isWhole}
 use Rattle.trace.specs.Feeding.{feedByte, feed}
 use Rattle.types.specs.Letters.{letters}
@@ -40,7 +42,7 @@ use Rattle.integer.specs.Integer.{wide, room, tag, sizeOf, spell, bytesOf, encO
 use Rattle.blackboard.specs.Table.{Line, answersTo, found, stated, lines}
 
 computed : map found lines ≡ map stated lines
-unfolding found stated lines wide room tag sizeOf spell bytesOf readOf putForm writeOf numberAt fieldAt scan fetchCancel messages typeRowIn typeRowOf known layoutOf bodyUpTo readUpTo writeUpTo allowed allowedOf right sized rightAll sizedAll encodeAll encode encField mean writtenOf frame encOf answersTo smallSpan smallList smallPiece smallAll askable soundOf small smallPlace isKnown smallRange countAgrees suits isRow isPending isNowhere isUnused held rising hasAlias distinct allUnused bounded isLedger breaks stops gateOf gated startOf added subscribeStep takeOf textAt numberedAt entryAt mostOf entriesAt few listAt placeAt place parameters givable filter delivery subscribe content subscribeOk subscriptionOf familyOf madeOf answerOf readingOf before inRange settledOf greater risen countedRow arriveOf openOf find changed okStep arrivalStep smallArrival arrivalOf tagOf valueOf fieldSize isWhole feedByte feed letters decimalIn decimalOf wordOf itemOf endedOf isNone lineOf startedBy controlBy arrivedBy eventOf offsetOf stepOf step fed finishOf replayOf rowsText ledgerText textOf reportOf
+unfolding found stated lines wide room tag sizeOf spell bytesOf readOf putForm writeOf numberAt fieldAt scan fetchCancel messages typeRowIn typeRowOf known layoutOf bodyUpTo readUpTo writeUpTo allowed allowedOf right sized rightAll sizedAll encodeAll encode encField mean writtenOf frame encOf answersTo smallSpan smallList smallPiece smallAll askable soundOf small smallPlace isKnown smallRange countAgrees suits isRow isPending isNowhere isUnused held rising hasAlias distinct allUnused bounded isLedger stops gateOf gated upTo look turn startOf subscribeStep takeOf textAt numberedAt entryAt mostOf entriesAt few listAt placeAt place parameters givable filter delivery subscribe content subscribeOk subscriptionOf familyOf madeOf answerOf readingOf before inRange settledOf greater risen countedRow arriveOf openOf byKey noRow okAt arriveAt smallArrival arrivalOf tagOf valueOf fieldSize isWhole feedByte feed letters decimalIn decimalOf wordOf itemOf endedOf isNone lineOf startedBy controlBy arrivedBy eventOf offsetOf stepOf step fed finishOf replayOf rowsText ledgerText textOf reportOf
 computed = refl
 
 -- two functions that map a list alike agree at each of its members

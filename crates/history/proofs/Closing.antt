@@ -6,20 +6,20 @@ use mathlib.Core.List.{List, [], _∷_, _++_}
 use native.Mathlib.Omega.{arith}
 use lib.Dec.{eqb}
 use Rattle.common.specs.Choice.{both}
-use Rattle.ledger.specs.Answers.{Came, ruleNumber}
+use Rattle.ledger.specs.Answers.{Came, ruleNumber, closingRule}
 use Rattle.ledger.specs.Ledgers.{isLedger, isOpen}
 use Rattle.ledger.specs.declared.Ledger.{Ledger}
 use Rattle.ledger.specs.declared.Part.{Part}
 use Rattle.ledger.specs.declared.Rule.{Rule}
 use Rattle.ledger.specs.declared.Session.{Session}
 use Rattle.ledger.specs.declared.Session.the-variants.{Open, Closed}
-use Rattle.view.specs.Views.{View, Seen, viewOf, seenOf}
-use Rattle.view.specs.Steps.{broken, replied}
-use Rattle.view.proofs.ArraysFollow.{arrays-follow, no-ledger, view-once}
+use Rattle.ledger.specs.Views.{View, Seen, viewOf, seenOf}
+use Rattle.ledger.specs.Steps.{broken, replied}
+use Rattle.view.proofs.LedgersFollow.{ledger-follows, no-ledger, view-once}
 use Rattle.view.proofs.Guards.{closed-stays}
 use Rattle.view.specs.Events.{Event, comes}
 use Rattle.history.specs.Events.{ledgerAfter, Logged, logOf}
-use Rattle.history.specs.Closings.{isPeers, anyBroken, firstBroken, kept}
+use Rattle.history.specs.Closings.{isPeers, anyBroken, firstBroken}
 use Rattle.history.proofs.Keeping.{comes-keeps}
 use Rattle.history.proofs.Moves.{Moves, stayed, broke, counted, turned, taken, raised, ledger-moves, quiet}
 
@@ -30,7 +30,7 @@ closed-next l e shut = go (isLedger l) refl
   where
     go : (b : Bool) → isLedger l ≡ b → comes l e .next ≡ l
     go true w =
-        view-once (comes l e .next) l (comes-keeps l e w) w (ap (λ (s : Seen). s .next) (arrays-follow l e w) ∙ closed-stays (viewOf l) e shut)
+        view-once (comes l e .next) l (comes-keeps l e w) w (ap (λ (s : Seen). s .next) (ledger-follows l e w) ∙ closed-stays (viewOf l) e shut)
     go false w = ap (λ (c : Came). c .next) (no-ledger l e w)
 
 closed-run : (l : Ledger) (es : List Event) → isOpen (l .session) ≡ false → ledgerAfter l es ≡ l
@@ -76,11 +76,11 @@ module _ (v : View) where
 -- how the session stands, and what was told of it
 record Stands (s : Session) (part : Part) (ts : List Logged) : Type 0 where
   opened : isOpen s ≡ not (anyBroken part ts)
-  rule : kept s ≡ firstBroken part ts
+  rule : closingRule s ≡ firstBroken part ts
 
 stands : (l : Ledger) (es : List Event) → l .session ≡ Open → Stands (ledgerAfter l es .session) (l .part) (logOf l es)
 unfolding ledgerAfter logOf anyBroken firstBroken
-stands l [] o = record { opened = ap isOpen o; rule = ap kept o }
+stands l [] o = record { opened = ap isOpen o; rule = ap closingRule o }
 stands l (e ∷ es) o = go (leaves (viewOf l) (ledger-moves l e)) (stands (comes l e .next) es)
   where
     after : Ledger
@@ -98,5 +98,5 @@ module _ (l : Ledger) (es : List Event) (o : isOpen (l .session) ≡ true) where
   pub open-after : isOpen (ledgerAfter l es .session) ≡ not (anyBroken (l .part) (logOf l es))
   open-after = stands l es (is-open (l .session) o) .opened
 
-  pub kept-after : kept (ledgerAfter l es .session) ≡ firstBroken (l .part) (logOf l es)
+  pub kept-after : closingRule (ledgerAfter l es .session) ≡ firstBroken (l .part) (logOf l es)
   kept-after = stands l es (is-open (l .session) o) .rule

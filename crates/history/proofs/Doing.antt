@@ -13,15 +13,14 @@ use Rattle.message.specs.declared.Message.the-variants.{Subscription, Fetch, An
 use Rattle.row.specs.Rows.{isRow}
 use Rattle.row.specs.declared.Row.{Row}
 use Rattle.ledger.specs.Ledgers.{held, hasAlias, distinct, rising}
-use Rattle.ledger.specs.Steps.{idOf, aliasOf, newRow}
+use Rattle.ledger.specs.Steps.{idOf, aliasOf, newRow, broken, replied}
 use Rattle.ledger.specs.declared.Ledger.{Ledger}
 use Rattle.ledger.specs.declared.Rule.{Rule}
 use Rattle.ledger.proofs.Facts.{parts}
 use Rattle.ledger.specs.Keys.{Change, now, put, turn}
-use Rattle.view.specs.Views.{View, Seen, viewOf}
+use Rattle.ledger.specs.Views.{View, Seen, viewOf}
 use Rattle.view.specs.Events.{Event, message, malformed, arrival, comes}
-use Rattle.view.specs.Steps.{broken, replied}
-use Rattle.view.proofs.ArraysFollow.{seen-by}
+use Rattle.view.proofs.LedgersFollow.{seen-by}
 use Rattle.history.specs.Deeds.{Deed, nothing, deedIn}
 use Rattle.history.specs.Ledgers.{nextBy, maximumBy}
 use Rattle.ledger.proofs.Rises.{has-not}

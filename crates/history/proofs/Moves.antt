@@ -24,18 +24,18 @@ use Rattle.row.specs.declared.Ending.the-variants.{SubscribeError as Erring, Su
 use Rattle.row.proofs.Keeping.{arrive-by, open-by}
 use Rattle.ledger.specs.Ledgers.{hasAlias, isOpen}
 use Rattle.ledger.specs.Answers.{noRule, isOwn}
-use Rattle.ledger.specs.Steps.{idOf, aliasOf, newRow}
+use Rattle.ledger.specs.Steps.{idOf, aliasOf, newRow, Reply, answer, broken, verdictBy, standingAfter, replied, unchanged, withHighest, subscribeStep, RowStep, byKey, noRow, okAt, endAt, byId, withMaximum, maximumStep, arriveAt, subscriptionStep}
 use Rattle.ledger.specs.declared.Ledger.{Ledger}
 use Rattle.ledger.specs.declared.Part.{Part}
 use Rattle.ledger.specs.declared.Part.the-variants.{Subscriber, Publisher}
 use Rattle.ledger.specs.declared.Rule.{Rule}
 use Rattle.ledger.specs.declared.Rule.the-variants.{R1, R2, R3, R4, R5, R6, R7}
 use Rattle.ledger.specs.Keys.{Looked, none, one, look, onLooked, Change, gone, now, turn}
-use Rattle.view.specs.Views.{View, Seen, viewOf, seenOf}
+use Rattle.ledger.specs.Views.{View, Seen, viewOf, seenOf}
 use Rattle.view.specs.Events.{Event, message, malformed, arrival, comes, isSound}
-use Rattle.view.specs.Steps.{Reply, answer, broken, verdictBy, standingAfter, replied, unchanged, withHighest, subscribeSeen, RowStep, byKey, noRow, okAt, endAt, byId, withMaximum, maximumSeen, arriveAt, subscriptionSeen, eventSeen, viewStep}
-use Rattle.view.proofs.Turns.{turn-found, turn-same}
-use Rattle.view.proofs.ArraysFollow.{seen-by}
+use Rattle.view.specs.Steps.{eventStep, viewStep}
+use Rattle.ledger.proofs.Keyed.{turn-found, turn-same}
+use Rattle.view.proofs.LedgersFollow.{seen-by}
 use Rattle.history.specs.Closings.{isPeers}
 use Rattle.history.specs.Deeds.{Deed, opened, ended, deedBy}
 
@@ -154,13 +154,13 @@ module _ (v : View) where
         named-by v (isOwn (v .standing .part) by) idOf id (noRow (v .standing) id) at 8 f meets (Moves v (message (Subscription m)))
         (no-row-moves id) (turned id f is) (λ _ q. stayed q) (λ rule. broke (isOwn (v .standing .part) by) rule peers)
 
-  arrival-moves : (a : Arrival) → Moves v (arrival a) (eventSeen v (arrival a))
+  arrival-moves : (a : Arrival) → Moves v (arrival a) (eventStep v (arrival a))
   arrival-moves a =
       named-by v (isOwn (v .standing .part) Publisher) aliasOf (a .alias) (answer 18) (arriveAt (a .place)) 16 (counting (a .place)) (arrival-meets (a .place)) (Moves v (arrival a))
       (stayed no-row) counted (λ _ q. stayed q) (λ rule. broke (isOwn (v .standing .part) Publisher) rule refl)
 
-  subscribe-moves : (m : Subscribe) → Moves v (message (Subscription (ASubscribe m))) (subscribeSeen v m)
-  unfolding subscribeSeen
+  subscribe-moves : (m : Subscribe) → Moves v (message (Subscription (ASubscribe m))) (subscribeStep v m)
+  unfolding subscribeStep
   subscribe-moves m =
       pick-by P (ltb (m .id) (v .standing .next)) (λ _. broke own R2 refl) (λ _.
       pick-by P (leb (v .standing .maximum) (m .id)) (λ _. broke own R3 refl) (λ _.
@@ -173,13 +173,13 @@ module _ (v : View) where
       P : Seen → Type 0
       P = Moves v (message (Subscription (ASubscribe m)))
 
-  maximum-moves : (id : ℕ) → Moves v (message (Subscription (AMaxSubscribeId id))) (maximumSeen v id)
-  unfolding maximumSeen
+  maximum-moves : (id : ℕ) → Moves v (message (Subscription (AMaxSubscribeId id))) (maximumStep v id)
+  unfolding maximumStep
   maximum-moves id =
       pick-by (Moves v (message (Subscription (AMaxSubscribeId id)))) (leb id (v .standing .maximum))
       (λ _. broke (isOwn (v .standing .part) Publisher) R7 refl) (λ more. raised (leb-false id (v .standing .maximum) more))
 
-  message-moves : (m : SubscriptionMessage) → Moves v (message (Subscription m)) (subscriptionSeen v m)
+  message-moves : (m : SubscriptionMessage) → Moves v (message (Subscription m)) (subscriptionStep v m)
   message-moves (ASubscribeUpdate m) = stayed not-kept
   message-moves (ASubscribe m) = subscribe-moves m
   message-moves (ASubscribeOk m) = id-moves (ASubscribeOk m) Publisher refl (m .id) (okAt (m .content)) _ (ok-meets (m .content)) opens
@@ -189,7 +189,7 @@ module _ (v : View) where
   message-moves (AMaxSubscribeId id) = maximum-moves id
   message-moves (ASubscribesBlocked id) = stayed not-kept
 
-  event-moves : (e : Event) → Moves v e (eventSeen v e)
+  event-moves : (e : Event) → Moves v e (eventStep v e)
   event-moves (message (Subscription m)) = message-moves m
   event-moves (message (Fetch m)) = stayed not-kept
   event-moves (message (Announce m)) = stayed not-kept

@@ -6,11 +6,11 @@ use Rattle.message.specs.declared.Message.{Message}
 use Rattle.ledger.specs.Answers.{Came}
 use Rattle.ledger.specs.Ledgers.{isLedger, isOpen}
 use Rattle.ledger.specs.declared.Ledger.{Ledger}
-use Rattle.view.specs.Views.{Seen, viewOf, seenOf}
+use Rattle.ledger.specs.Views.{Seen, viewOf, seenOf}
 use Rattle.view.specs.Events.{Event, message, arrival, comes}
 use Rattle.view.specs.Steps.{viewStep}
 use Rattle.view.specs.Orders.{Apart, SeenInEitherOrder}
-use Rattle.view.proofs.ArraysFollow.{arrays-follow, no-ledger, view-once}
+use Rattle.view.proofs.LedgersFollow.{ledger-follows, no-ledger, view-once}
 use Rattle.view.proofs.EitherOrder as views
 use Rattle.history.specs.Orders.{EitherOrder}
 use Rattle.history.proofs.Keeping.{comes-keeps}
@@ -19,7 +19,7 @@ module _ (l : Ledger) (w : isLedger l ≡ true) where
   -- the views behind two events
   after-both : (e f : Event) → seenOf (comes (comes l e .next) f) ≡ viewStep (viewStep (viewOf l) e .next) f
   after-both e f =
-      arrays-follow (comes l e .next) f (comes-keeps l e w) ∙ ap (λ (s : Seen). viewStep (s .next) f) (arrays-follow l e w)
+      ledger-follows (comes l e .next) f (comes-keeps l e w) ∙ ap (λ (s : Seen). viewStep (s .next) f) (ledger-follows l e w)
 
   carried : {e f : Event} → SeenInEitherOrder (viewOf l) e f → EitherOrder l e f
   carried {e} {f} x =
@@ -27,8 +27,8 @@ module _ (l : Ledger) (w : isLedger l ≡ true) where
         next =
             view-once _ _ (comes-keeps (comes l e .next) f (comes-keeps l e w)) (comes-keeps (comes l f .next) e (comes-keeps l f w))
             (ap (λ (s : Seen). s .next) (after-both e f) ∙ x .next ∙ sym (ap (λ (s : Seen). s .next) (after-both f e)));
-        first = ap (λ (s : Seen). s .says) (after-both f e) ∙ x .first ∙ sym (ap (λ (s : Seen). s .says) (arrays-follow l e w));
-        second = ap (λ (s : Seen). s .says) (after-both e f) ∙ x .second ∙ sym (ap (λ (s : Seen). s .says) (arrays-follow l f w));
+        first = ap (λ (s : Seen). s .says) (after-both f e) ∙ x .first ∙ sym (ap (λ (s : Seen). s .says) (ledger-follows l e w));
+        second = ap (λ (s : Seen). s .says) (after-both e f) ∙ x .second ∙ sym (ap (λ (s : Seen). s .says) (ledger-follows l f w));
       }
 
 -- what is no ledger stays as it is

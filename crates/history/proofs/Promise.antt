@@ -16,17 +16,17 @@ use Rattle.row.specs.Rows.{countedRow}
 use Rattle.row.specs.declared.Row.{Row}
 use Rattle.ledger.specs.Ledgers.{held, hasAlias, isLedger, isOpen}
 use Rattle.ledger.specs.Answers.{Verdict, Came, noRule}
-use Rattle.ledger.specs.Steps.{idOf, aliasOf, takeOf}
+use Rattle.ledger.specs.Steps.{idOf, aliasOf, takeOf, broken, replied, subscribeStep}
 use Rattle.ledger.specs.declared.Ledger.{Ledger}
 use Rattle.ledger.specs.declared.Rule.{Rule}
 use Rattle.ledger.proofs.Facts.{parts, ledger-used}
 use Rattle.ledger.proofs.Parts.{held-long}
 use Rattle.ledger.specs.Keys.{Change, turn}
-use Rattle.view.specs.Views.{View, Seen, viewOf}
+use Rattle.ledger.specs.Views.{View, Seen, viewOf}
 use Rattle.view.specs.Events.{Event, message, comes, isSound}
-use Rattle.view.specs.Steps.{broken, replied, subscribeSeen, viewStep}
+use Rattle.view.specs.Steps.{viewStep}
 use Rattle.ledger.proofs.Keyed.{Known}
-use Rattle.view.proofs.ArraysFollow.{arrays-follow, no-ledger}
+use Rattle.view.proofs.LedgersFollow.{ledger-follows, no-ledger}
 use Rattle.view.proofs.Guards.{passed}
 use Rattle.history.specs.Events.{ledgerAfter, logOf}
 use Rattle.history.specs.Deeds.{Deed, deedIn}
@@ -50,8 +50,8 @@ module _ (v : View) (m : Subscribe) where
 
   -- ---- from an 11
 
-  full-waits : subscribeSeen v m .says ≡ noRule 11 → Waits m v
-  unfolding subscribeSeen
+  full-waits : subscribeStep v m .says ≡ noRule 11 → Waits m v
+  unfolding subscribeStep
   full-waits =
       pick-by P (ltb (m .id) (v .standing .next)) (λ _. broke-rule) (λ new.
       pick-by P (leb (v .standing .maximum) (m .id)) (λ _. broke-rule) (λ below.
@@ -77,7 +77,7 @@ module _ (v : View) (m : Subscribe) where
   -- ---- to an 8
 
   waits-taken : Waits m v → isSound (asking m) ≡ true → isOpen (v .standing .session) ≡ true → length (v .rows) < v .standing .capacity → viewStep v (asking m) .says ≡ noRule 8
-  unfolding subscribeSeen
+  unfolding subscribeStep
   waits-taken w s o free =
       ap (λ (c : Seen). c .says) (passed v (asking m) s o)
       ∙ rw (le-ltb (m .id) (v .standing .next) (w .new), lt-leb (v .standing .maximum) (m .id) (w .below), w .fresh, lt-leb (v .standing .capacity) (length (v .rows)) free)
@@ -126,7 +126,7 @@ pub promised : (l : Ledger) (m : Subscribe) (es : List Event) → takeOf l (Subs
 promised l m es eleven none o free =
     let w = eleven-ledger l (asking m) eleven in
     let v = run-keeps l es w in
-    let (waits, sound) = eleven-waits (viewOf l) m (sym (ap (λ (s : Seen). s .says) (arrays-follow l (asking m) w)) ∙ eleven) in
+    let (waits, sound) = eleven-waits (viewOf l) m (sym (ap (λ (s : Seen). s .says) (ledger-follows l (asking m) w)) ∙ eleven) in
     let few : length (held (ledgerAfter l es)) < ledgerAfter l es .capacity = omega (arith, held-long (ledgerAfter l es) (parts (ledgerAfter l es) v .long) (ledger-used (ledgerAfter l es) v)) in
-    ap (λ (s : Seen). s .says) (arrays-follow (ledgerAfter l es) (asking m) v)
+    ap (λ (s : Seen). s .says) (ledger-follows (ledgerAfter l es) (asking m) v)
     ∙ waits-taken (viewOf (ledgerAfter l es)) m (waits-after m l es none waits) sound o few

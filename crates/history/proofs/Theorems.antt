@@ -14,7 +14,7 @@ use Rattle.message.specs.declared.Message.{Message}
 use Rattle.message.specs.declared.Message.the-variants.{Subscription}
 use Rattle.row.specs.Places.{before}
 use Rattle.row.specs.declared.Greatest.the-variants.{Nowhere, At}
-use Rattle.ledger.specs.Answers.{noRule}
+use Rattle.ledger.specs.Answers.{noRule, closingRule}
 use Rattle.ledger.specs.Ledgers.{held, rising, distinct, isLedger, isOpen}
 use Rattle.ledger.specs.Runs.{arrivalsIn, runOf}
 use Rattle.ledger.specs.Steps.{startOf, takeOf, arrivalOf}
@@ -27,7 +27,7 @@ use Rattle.view.specs.Orders.{Apart}
 use Rattle.history.specs.Events.{ledgerAfter, Logged, logOf}
 use Rattle.history.specs.Orders.{Reordered, EitherOrder, Exchanged}
 use Rattle.history.specs.Rows.{greatestOf, rowsOf}
-use Rattle.history.specs.Closings.{anyBroken, firstBroken, kept}
+use Rattle.history.specs.Closings.{anyBroken, firstBroken}
 use Rattle.history.specs.Ledgers.{ShownBy}
 use Rattle.history.specs.Takings.{NoneTaken}
 use Rattle.history.specs.Runs.{Follows}
@@ -98,7 +98,7 @@ pub closed-by-the-peer-alone : (l : Ledger) (es : List Event) → isOpen (l .ses
 closed-by-the-peer-alone = open-after
 
 -- The rule that is kept is the one that the first of them broke.
-pub first-broken-rule-is-kept : (l : Ledger) (es : List Event) → isOpen (l .session) ≡ true → kept (ledgerAfter l es .session) ≡ firstBroken (l .part) (logOf l es)
+pub first-broken-rule-is-kept : (l : Ledger) (es : List Event) → isOpen (l .session) ≡ true → closingRule (ledgerAfter l es .session) ≡ firstBroken (l .part) (logOf l es)
 first-broken-rule-is-kept = kept-after
 
 -- Once the session is closed, nothing changes the ledger.

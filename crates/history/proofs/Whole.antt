@@ -9,7 +9,7 @@ use Rattle.common.specs.Choice.{pick, both}
 use Rattle.row.specs.Places.{small}
 use Rattle.row.specs.declared.Row.{Row}
 use Rattle.ledger.specs.Ledgers.{held, isLedger, isOpen}
-use Rattle.ledger.specs.Answers.{Came}
+use Rattle.ledger.specs.Answers.{Came, closingRule}
 use Rattle.ledger.specs.Steps.{startOf}
 use Rattle.ledger.specs.declared.Ledger.{Ledger}
 use Rattle.ledger.specs.declared.Part.{Part}
@@ -17,13 +17,12 @@ use Rattle.ledger.specs.declared.Rule.the-variants.{R1, R2, R3, R4, R5, R6, R7}
 use Rattle.ledger.specs.declared.Session.{Session}
 use Rattle.ledger.specs.declared.Session.the-variants.{Open, Closed}
 use Rattle.ledger.proofs.Facts.{parts}
-use Rattle.view.proofs.SameLedger.{same-ledger}
-use Rattle.view.specs.Views.{viewOf}
+use Rattle.view.proofs.LedgersFollow.{view-once}
+use Rattle.ledger.specs.Views.{viewOf}
 use Rattle.view.specs.Events.{Event, comes}
 use Rattle.history.specs.Events.{ledgerAfter, Logged, logOf}
 use Rattle.history.specs.Deeds.{deedOf}
 use Rattle.history.specs.Rows.{rowsOf}
-use Rattle.history.specs.Closings.{kept}
 use Rattle.history.specs.Ledgers.{through, nextBy, maximumBy, ShownBy}
 use Rattle.history.proofs.Closing.{kept-after}
 use Rattle.history.proofs.Telling.{laters, no-laters, laters-none, laters-on}
@@ -108,7 +107,7 @@ standing n =
     (pick (eqb n 3) (Closed R3)
     (pick (eqb n 4) (Closed R4) (pick (eqb n 5) (Closed R5) (pick (eqb n 6) (Closed R6) (Closed R7)))))))
 
-standing-back : (s : Session) → standing (kept s) ≡ s
+standing-back : (s : Session) → standing (closingRule s) ≡ s
 unfolding standing
 standing-back Open = refl
 standing-back (Closed R1) = refl
@@ -124,5 +123,14 @@ told-once {x = x} {y = y} v w a b =
     let session : x .session ≡ y .session =
     sym (standing-back (x .session)) ∙ ap standing (a .closing ∙ sym (b .closing)) ∙ standing-back (y .session)
     in
-    same-ledger x y (parts x v) (parts y w) (a .rows ∙ sym (b .rows)) (a .part ∙ sym (b .part)) session
-    (a .capacity ∙ sym (b .capacity)) (a .maximum ∙ sym (b .maximum)) (a .next ∙ sym (b .next))
+    view-once x y v w
+    (λ i. record {
+      standing = record {
+        part = (a .part ∙ sym (b .part)) i;
+        session = session i;
+        capacity = (a .capacity ∙ sym (b .capacity)) i;
+        maximum = (a .maximum ∙ sym (b .maximum)) i;
+        next = (a .next ∙ sym (b .next)) i;
+      };
+      rows = (a .rows ∙ sym (b .rows)) i;
+    })

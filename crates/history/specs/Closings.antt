@@ -4,12 +4,10 @@ use mathlib.Core.Bool.{Bool, true, false, not}
 use mathlib.Core.List.{List, [], _∷_}
 use lib.Dec.{eqb}
 use Rattle.common.specs.Choice.{pick, both}
-use Rattle.ledger.specs.Answers.{isOwn, ruleNumber}
+use Rattle.ledger.specs.Answers.{isOwn}
 use Rattle.ledger.specs.Senders.{Sender, the, either, senderOf}
 use Rattle.ledger.specs.declared.Part.{Part}
 use Rattle.ledger.specs.declared.Part.the-variants.{Publisher}
-use Rattle.ledger.specs.declared.Session.{Session}
-use Rattle.ledger.specs.declared.Session.the-variants.{Open, Closed}
 use Rattle.view.specs.Events.{Event, message, malformed, arrival}
 use Rattle.history.specs.Events.{Logged}
 
@@ -39,8 +37,3 @@ anyBroken part (t ∷ ts) = pick (closing part t) true (anyBroken part ts)
 unfoldable pub firstBroken : Part → List Logged → ℕ
 firstBroken part [] = 0
 firstBroken part (t ∷ ts) = pick (closing part t) (t .says .rule) (firstBroken part ts)
-
--- the rule that a session is closed by, 0 where it is open
-abbrev pub kept : Session → ℕ
-kept Open = 0
-kept (Closed rule) = ruleNumber rule

@@ -7,7 +7,8 @@ use Rattle.ledger.specs.declared.Ledger.{Ledger}
 use Rattle.history.specs.Events.{Logged}
 use Rattle.history.specs.Deeds.{Deed, asked, opened, ended, raised, counted, nothing, deedOf}
 use Rattle.history.specs.Rows.{rowsOf}
-use Rattle.history.specs.Closings.{firstBroken, kept}
+use Rattle.history.specs.Closings.{firstBroken}
+use Rattle.ledger.specs.Answers.{closingRule}
 
 -- a number of the ledger, changed by one deed after the other
 unfoldable pub through : (ℕ → Deed → ℕ) → ℕ → List Logged → ℕ
@@ -39,4 +40,4 @@ pub record ShownBy (start : Ledger) (ts : List Logged) (after : Ledger) : Type 0
   pub rows : held after ≡ rowsOf ts
   pub next : after .next ≡ through nextBy 0 ts
   pub maximum : after .maximum ≡ through maximumBy (start .maximum) ts
-  pub closing : kept (after .session) ≡ firstBroken (start .part) ts
+  pub closing : closingRule (after .session) ≡ firstBroken (start .part) ts

@@ -10,7 +10,8 @@ use lib.ListN.{length, length-take}
 use Rattle.common.specs.Choice.{pick}
 use Rattle.row.specs.declared.Row.{Row}
 use Rattle.ledger.specs.Ledgers.{held, hasAlias}
-use Rattle.ledger.specs.Steps.{find, atFound, aliasOf}
+use Rattle.ledger.specs.Steps.{aliasOf}
+use Rattle.ledger.specs.Arrays.{find}
 use Rattle.ledger.specs.declared.Ledger.{Ledger}
 use Rattle.ledger.specs.declared.Found.{Found}
 use Rattle.ledger.specs.declared.Found.the-variants.{At, Missing}
@@ -43,20 +44,27 @@ module _ {A : Type 0} (key : A → ℕ) (n : ℕ) where
 -- ---- a row in use
 
 module _ (key : Row → ℕ) (n : ℕ) (l : Ledger) where
-  by-place : (P : Found → Type 0) → (HasNone key n (held l) → P Missing) → ((i : ℕ) → IsFirst key n (held l) i → P (At i)) → P (find key n 0 (held l))
+  pub by-place : (P : Found → Type 0) → (HasNone key n (held l) → P Missing) → ((i : ℕ) → IsFirst key n (held l) i → P (At i)) → P (find key n 0 (held l))
   by-place P none at = find-by key n 0 (held l) P none (λ i h. subst (λ (k : ℕ). P (At k)) (sym (zero-add i)) (at i h))
-
-  pub on-place : {A : Type 0} (Q : A → Type 0) (missing : A) (at : ℕ → A) → (HasNone key n (held l) → Q missing) → ((i : ℕ) → IsFirst key n (held l) i → Q (at i)) → Q (atFound (find key n 0 (held l)) missing at)
-  on-place Q missing at = by-place (λ f. Q (atFound f missing at))
 
   pub first-used : {i : ℕ} → IsFirst key n (held l) i → i < l .used
   unfolding held
   first-used h = omega (arith, first-below key n h, length-take (l .used) (l .rows))
 
-  pub found-used : {f : Found} {i : ℕ} → f ≡ find key n 0 (held l) → f ≡ At i → i < l .used
-  found-used {f} {i} found at =
-      by-place (λ (g : Found). f ≡ g → i < l .used) (λ _ e. absurd (let z : _≡_ {A = ℕ} 0 1 = cc in omega arith))
-      (λ j h e. let is : j ≡ i = cc in omega (arith, first-used h)) found
+  -- by what the search found
+  module _ {f : Found} (found : f ≡ find key n 0 (held l)) where
+    pub found-none : f ≡ Missing → HasNone key n (held l)
+    found-none missing =
+        by-place (λ (g : Found). f ≡ g → HasNone key n (held l)) (λ h _. h)
+        (λ j h e. absurd (let z : _≡_ {A = ℕ} 0 1 = cc in omega arith)) found
+
+    pub found-first : {i : ℕ} → f ≡ At i → IsFirst key n (held l) i
+    found-first {i} at =
+        by-place (λ (g : Found). f ≡ g → IsFirst key n (held l) i) (λ _ e. absurd (let z : _≡_ {A = ℕ} 0 1 = cc in omega arith))
+        (λ j h e. let is : j ≡ i = cc in subst (IsFirst key n (held l)) is h) found
+
+    pub found-used : {i : ℕ} → f ≡ At i → i < l .used
+    found-used at = first-used (found-first at)
 
 -- one is found exactly where one has the alias
 abbrev pub isFound : Found → Bool

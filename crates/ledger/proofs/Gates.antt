@@ -1,5 +1,5 @@
 -- What every call looks at first, and what it then comes to. Assumes nothing.
-use Prim.Native.Nat.{ℕ, _≤_}
+use Prim.Native.Nat.{ℕ}
 use mathlib.Core.Path.{_≡_, refl, sym, ap, _∙_}
 use mathlib.Core.Bool.{Bool, true, false}
 use native.Mathlib.Omega.{arith}
@@ -12,7 +12,6 @@ use Rattle.ledger.specs.declared.Answer.{Answer}
 use Rattle.ledger.specs.declared.Answer.the-variants.{Forbidden, Done, NotKept, AlreadyClosed, Full, Stale, Breaks, NotALedger, StartRefused, Counted, Outside, NoRow, StillPending}
 use Rattle.ledger.specs.declared.Gate.{Gate}
 use Rattle.ledger.specs.declared.Gate.the-variants.{Pass, Stop}
-use Rattle.ledger.proofs.Facts.{parts, ledger-used}
 
 -- every answer has a number
 some-number : (a : Answer) → toldAnswer a .number ≡ 0 → ⊥
@@ -63,8 +62,6 @@ module _ (l : Ledger) {sound want : Bool} (judged : sound ≡ want) {g : Gate} (
   unfolding gated
   went e h = h ∙ sym (rw (eq-eqb (gateOf l want) 0 (at-zero e)))
 
-  pub went-used : g ≡ Pass → l .used ≤ 64
-  went-used e = ledger-used l (gate-passed l want (at-zero e) .0)
-
-  pub went-room : g ≡ Pass → l .capacity ≤ 64
-  went-room e = parts l (gate-passed l want (at-zero e) .0) .within .few
+  -- with a ledger
+  pub went-ledger : g ≡ Pass → isLedger l ≡ true
+  went-ledger e = gate-passed l want (at-zero e) .0

@@ -10,7 +10,7 @@ use Rattle.row.specs.Rows.{unusedRow}
 use Rattle.row.specs.declared.Row.{Row}
 use Rattle.ledger.specs.Keys.{gone, now, turn}
 use Rattle.ledger.specs.Ledgers.{held}
-use Rattle.ledger.specs.Steps.{rowAt, withRows, changed, added, freed}
+use Rattle.ledger.specs.Arrays.{rowAt, withRows, changed, added, freed}
 use Rattle.ledger.specs.declared.Ledger.{Ledger}
 use Rattle.ledger.proofs.Finds.{IsFirst, first-used}
 use Rattle.ledger.proofs.Keyed.{changed-there, gone-there}

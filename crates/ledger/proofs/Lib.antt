@@ -10,7 +10,8 @@ pub mod Keyed
 pub mod Rises
 pub mod Sounds
 pub mod HeldRows
-pub mod Changes
+pub mod Shapes
+pub mod InPlaces
 pub mod Keeps
 pub mod OneAnswer
 pub mod Naming

@@ -4,7 +4,7 @@ use mathlib.Core.Path.{_≡_, refl, sym, _∙_}
 use mathlib.Core.List.{List}
 use borrow.Author.Tests.{eq-eqb, ne-eqb}
 use lib.ListN.{length, take, drop, getD}
-use Rattle.ledger.specs.Steps.{find}
+use Rattle.ledger.specs.Arrays.{find}
 use Rattle.ledger.specs.declared.Found.the-variants.{At, Missing}
 use Rattle.ledger.proofs.Parts.{part-next, part-end}
 

@@ -8,7 +8,7 @@ use lib.ListN.{length, take, drop, getD, set, length-append, length-take, length
 use lib.Seq.{take-all, take-at, take-suc, set-at, append-snoc, getD-drop, getD-append-add, length-take-le}
 use Rattle.row.specs.Rows.{unusedRow}
 use Rattle.row.specs.declared.Row.{Row}
-use Rattle.ledger.specs.Steps.{withRows, freed}
+use Rattle.ledger.specs.Arrays.{withRows, freed}
 use Rattle.ledger.specs.declared.Ledger.{Ledger}
 use Rattle.ledger.proofs.Parts.{rest-next, rest-end}
 

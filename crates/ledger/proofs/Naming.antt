@@ -7,7 +7,8 @@ use native.Mathlib.Omega.{arith}
 use lib.ListN.{length, take, getD, set, length-set, length-map, List·getD-map}
 use lib.Seq.{take-all, take-suc, take-suc-set}
 use Rattle.row.specs.declared.Row.{Row}
-use Rattle.ledger.specs.Steps.{find, aliasOf}
+use Rattle.ledger.specs.Steps.{aliasOf}
+use Rattle.ledger.specs.Arrays.{find}
 use Rattle.ledger.specs.Runs.{itself}
 
 pub take-map : {A B : Type 0} (f : A → B) (n : ℕ) (xs : List A) → take n (map f xs) ≡ map f (take n xs)

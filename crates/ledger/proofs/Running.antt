@@ -1,12 +1,12 @@
 -- A run of arrivals, one turn after the other. Assumes nothing.
 use Prim.Native.Nat.{ℕ, suc, _+_, _*_, _/_, _≤_, _<_}
-use mathlib.Core.Path.{_≡_, refl, sym, ap, _∙_}
+use mathlib.Core.Path.{_≡_, refl, sym, ap, subst, _∙_}
 use mathlib.Core.Bool.{Bool, true, false}
 use mathlib.Core.List.{List, [], _∷_, _++_, map, append-nil}
 use native.Mathlib.Numerals.{add-one}
 use native.Mathlib.Nat.{add-div-right, lt-div-mul-add, div-mul-le-self}
 use native.Mathlib.Omega.{arith}
-use borrow.Author.Tests.{ne-eqb, le-leb, lt-leb}
+use borrow.Author.Tests.{ne-eqb, eqb-true, le-leb, lt-leb}
 use lib.Dec.{leb, eqb}
 use lib.ListN.{length, take, drop, getD, set, length-drop, length-append, length-map}
 use lib.Seq.{drop-cons, set-at, append-snoc, map-set-same}
@@ -19,16 +19,19 @@ use Rattle.row.specs.declared.Arriving.{Arriving}
 use Rattle.row.proofs.Keeping.{after, after-alias}
 use Rattle.ledger.specs.Ledgers.{held, isLedger, isOpen}
 use Rattle.ledger.specs.Answers.{Came, noRule, same, stops, gateOf, gated}
-use Rattle.ledger.specs.Steps.{find, aliasOf, rowAt, changed, arrivalStep, arrivalOf, smallArrival}
+use Rattle.ledger.specs.Views.{viewOf, cameOf}
+use Rattle.ledger.specs.Steps.{aliasOf, arrivalStep, arrivalOf, smallArrival}
+use Rattle.ledger.specs.Arrays.{find, rowAt, changed}
 use Rattle.ledger.specs.Runs.{arrivalsIn, itself, afterArrivals, answerNumbers, runOf, Runs}
 use Rattle.ledger.specs.declared.Ledger.{Ledger}
 use Rattle.ledger.specs.declared.Filled.the-variants.{Done, NotALedger, TooShort}
 use Rattle.ledger.specs.declared.Found.{Found}
 use Rattle.ledger.specs.declared.Found.the-variants.{At, Missing}
 use Rattle.ledger.proofs.Facts.{parts, ledger-used}
-use Rattle.ledger.proofs.Finds.{found-used, on-place}
+use Rattle.ledger.proofs.Gates.{gate-passed}
+use Rattle.ledger.proofs.Finds.{found-used, by-place}
 use Rattle.ledger.proofs.Naming.{take-map, find-map}
-use Rattle.ledger.proofs.Taking.{no-alias, answered}
+use Rattle.ledger.proofs.Taking.{no-alias, by-row, answered}
 use Rattle.ledger.proofs.Keeps.{keeps-arrival}
 
 -- ---- arrivals in a list of numbers
@@ -73,10 +76,17 @@ numbers-long l (a ∷ came) = ap suc (numbers-long (arrivalOf l a .next) came)
 module _ (l : Ledger) (a : Arrival) where
   -- it changes nothing, or the row that it is found at
   arrival-by : (P : Ledger → Type 0) → P l → ((i : ℕ) → P (changed l i (after (a .place) (rowAt l i)))) → P (arrivalOf l a .next)
-  unfolding arrivalOf gated arrivalStep after
+  unfolding arrivalOf gated after
   arrival-by P as-was row =
       pick-by (λ (c : Came). P (c .next)) (eqb (gateOf l (smallArrival a)) 0)
-      (λ _. on-place aliasOf (a .alias) l (λ (c : Came). P (c .next)) _ _ (λ _. as-was) (λ i _. row i)) (λ _. as-was)
+      (λ e. passed (gate-passed l (smallArrival a) (eqb-true (gateOf l (smallArrival a)) 0 e) .0)) (λ _. as-was)
+    where
+      passed : isLedger l ≡ true → P (cameOf (arrivalStep (viewOf l) a) .next)
+      passed w =
+          by-place aliasOf (a .alias) l (λ f. f ≡ find aliasOf (a .alias) 0 (held l) → P (cameOf (arrivalStep (viewOf l) a) .next))
+          (λ _ e. subst P (ap (λ (c : Came). c .next) (no-alias l w a e refl)) as-was)
+          (λ i _ e. subst P (ap (λ (c : Came). c .next) (by-row l w a e refl)) (row i))
+          refl
 
   arrival-session : arrivalOf l a .next .session ≡ l .session
   unfolding changed
@@ -98,7 +108,7 @@ module _ (l : Ledger) (a : Arrival) where
   arrival-stopped n e h = rw (e, ne-eqb n 0 h)
 
   -- and else it is looked at
-  arrival-went : gateOf l (smallArrival a) ≡ 0 → arrivalOf l a ≡ arrivalStep l a
+  arrival-went : gateOf l (smallArrival a) ≡ 0 → arrivalOf l a ≡ cameOf (arrivalStep (viewOf l) a)
   unfolding arrivalOf gated
   arrival-went e = rw e
 
@@ -174,22 +184,22 @@ module _ {start : Ledger} {run before names : List ℕ} {opened : Bool} {used : 
           unfolding held
           by-alias = found ∙ rw (g .named, g .uses, take-map aliasOf (l .used) (l .rows), find-map)
 
-          step : arrivalOf l (arrivalAt run (3 * k)) ≡ arrivalStep l (arrivalAt run (3 * k))
+          step : arrivalOf l (arrivalAt run (3 * k)) ≡ cameOf (arrivalStep (viewOf l) (arrivalAt run (3 * k)))
           step = arrival-went l (arrivalAt run (3 * k)) (sym gate ∙ z)
 
           -- by what the step came to
-          taken-turn : {n : ℕ} {next : Ledger} → record { says = noRule n; next = next } ≡ arrivalStep l (arrivalAt run (3 * k)) → Along start run before names opened used (set answers k n) next (k + 1)
+          taken-turn : {n : ℕ} {next : Ledger} → record { says = noRule n; next = next } ≡ cameOf (arrivalStep (viewOf l) (arrivalAt run (3 * k))) → Along start run before names opened used (set answers k n) next (k + 1)
           taken-turn e = let s = e ∙ sym step in turn (ap (λ (c : Came). c .next) s) (ap (λ (c : Came). c .says .number) s)
 
           pub missed-turn : f ≡ Missing → Along start run before names opened used (set answers k 18) l (k + 1)
-          missed-turn e = taken-turn (no-alias l (arrivalAt run (3 * k)) by-alias e)
+          missed-turn e = taken-turn (no-alias l (g .is) (arrivalAt run (3 * k)) by-alias e)
 
           module _ {i : ℕ} (at : f ≡ At i) where
             pub inside : i < 64
             inside = omega (arith, found-used aliasOf (getD run (3 * k) 0) l by-alias at, ledger-used l (g .is))
 
             pub counted-turn : (w : Arriving) {r : Row} {m : ℕ} → toldArriving w (rowAt l i) ≡ arriveOf (rowAt l i) (arrivalAt run (3 * k) .place) → r ≡ leftBy w (rowAt l i) → m ≡ arrivedNumber w → Along start run before names opened used (set answers k m) (changed l i r) (k + 1)
-            counted-turn w came left number = taken-turn (rw (left, number) (answered l (arrivalAt run (3 * k)) by-alias at {w = w} came {v = w} refl))
+            counted-turn w came left number = taken-turn (rw (left, number) (answered l (g .is) (arrivalAt run (3 * k)) by-alias at {v = w} came {u = w} refl))
 
   -- behind the last
   module _ {count : ℕ} (e : count ≡ length run / 3) (all : count ≤ k) (to : k ≤ count) where

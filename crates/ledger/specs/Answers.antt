@@ -2,14 +2,14 @@
 use Prim.Native.Nat.{ℕ}
 use mathlib.Core.Bool.{Bool, true, false}
 use lib.Dec.{eqb}
-use Rattle.common.specs.Choice.{guard, pick}
+use Rattle.common.specs.Choice.{guard}
 use Rattle.ledger.specs.Ledgers.{isLedger, isOpen}
 use Rattle.ledger.specs.declared.Part.{Part}
 use Rattle.ledger.specs.declared.Part.the-variants.{Subscriber, Publisher}
 use Rattle.ledger.specs.declared.Rule.{Rule}
 use Rattle.ledger.specs.declared.Rule.the-variants.{R1, R2, R3, R4, R5, R6, R7}
 use Rattle.ledger.specs.declared.Session.{Session}
-use Rattle.ledger.specs.declared.Session.the-variants.{Closed}
+use Rattle.ledger.specs.declared.Session.the-variants.{Open, Closed}
 use Rattle.ledger.specs.declared.Ledger.{Ledger}
 use Rattle.ledger.specs.declared.Answer.{Answer}
 use Rattle.ledger.specs.declared.Answer.the-variants.{Forbidden, Done, NotKept, AlreadyClosed, Full, Stale, Breaks, NotALedger, StartRefused, Counted, Outside, NoRow, StillPending}
@@ -25,6 +25,11 @@ ruleNumber R4 = 4
 ruleNumber R5 = 5
 ruleNumber R6 = 6
 ruleNumber R7 = 7
+
+-- the rule that a session is closed by, 0 while it is open
+abbrev pub closingRule : Session → ℕ
+closingRule Open = 0
+closingRule (Closed rule) = ruleNumber rule
 
 -- "R3 closes as Too Many Subscribes, R4 as Duplicate Track Alias, the others as Protocol Violation": table 1 of source
 -- document 004
@@ -69,7 +74,7 @@ pub record Came : Type 0 where
 abbrev pub told : Taken → Came
 told t = record { says = toldAnswer (t .answer); next = t .ledger }
 
--- ---- the answers that leave the ledger as it was, and those that do not
+-- ---- an answer that leaves the ledger as it was, and one that does not
 
 abbrev pub same : Ledger → ℕ → Came
 same l number = record { says = noRule number; next = l }
@@ -77,28 +82,12 @@ same l number = record { says = noRule number; next = l }
 abbrev pub done : Ledger → Came
 done next = record { says = noRule 8; next = next }
 
-abbrev pub closedBy : Ledger → Rule → Ledger
-closedBy l rule = record {
-  rows = l .rows;
-  part = l .part;
-  session = Closed rule;
-  capacity = l .capacity;
-  maximum = l .maximum;
-  next = l .next;
-  used = l .used;
-}
-
 -- a message that this end sends
 abbrev pub isOwn : Part → Part → Bool
 isOwn Subscriber Subscriber = true
 isOwn Subscriber Publisher = false
 isOwn Publisher Subscriber = false
 isOwn Publisher Publisher = true
-
--- 13, "breaks rule R1 to R7, number given": "own message: same ledger; peer's: closed, rule kept, rows unchanged"
-unfoldable pub breaks : Ledger → Bool → Rule → Came
-breaks l own rule =
-    record { says = record { number = 13; rule = ruleNumber rule }; next = pick own l (closedBy l rule) }
 
 -- ---- "Order: 14, 5, 10, then the rest"
 
@@ -113,6 +102,6 @@ abbrev pub toldGate : Gate → Verdict
 toldGate Pass = noRule 0
 toldGate (Stop answer) = toldAnswer answer
 
--- the rest, behind the gate
+-- the rest, past the gate
 unfoldable pub gated : Ledger → Bool → Came → Came
-gated l sound rest = pick (eqb (gateOf l sound) 0) rest (same l (gateOf l sound))
+gated l sound rest = guard (eqb (gateOf l sound) 0) (same l (gateOf l sound)) rest

@@ -1,6 +1,8 @@
 pub mod Ledgers
 pub mod Answers
 pub mod Senders
-pub mod Steps
-pub mod Runs
 pub mod Keys
+pub mod Views
+pub mod Steps
+pub mod Arrays
+pub mod Runs

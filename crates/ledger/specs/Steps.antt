@@ -1,13 +1,15 @@
--- The ledger's steps, in the order and the words of document 01.
-use Prim.Native.Nat.{ℕ, suc, _+_, _-_}
-use mathlib.Core.Bool.{Bool, true, false, not}
-use mathlib.Core.List.{List, [], _∷_, _++_}
-use lib.ListN.{take, drop, getD, set}
+-- The ledger's steps, in the order and the words of document 01. A step is said of a view: what stands beside the rows,
+-- and the list of rows held.
+use Prim.Native.Nat.{ℕ, _+_}
+use mathlib.Core.Bool.{Bool, true, false}
+use mathlib.Core.List.{[], _∷_, _++_}
+use lib.ListN.{length}
 use lib.Dec.{leb, ltb, eqb}
 use Rattle.common.specs.Choice.{guard, pick, both}
 use Rattle.field.specs.declared.Arrival.{Arrival}
+use Rattle.field.specs.declared.Place.{Place}
+use Rattle.subscription.specs.declared.Content.{Content}
 use Rattle.subscription.specs.declared.Subscribe.{Subscribe}
-use Rattle.subscription.specs.declared.SubscribeOk.{SubscribeOk}
 use Rattle.subscription.specs.declared.SubscriptionMessage.{SubscriptionMessage}
 use Rattle.subscription.specs.declared.SubscriptionMessage.the-variants.{SubscribeUpdate as ASubscribeUpdate, Subscribe as ASubscribe, SubscribeOk as ASubscribeOk, SubscribeError as ASubscribeError, Unsubscribe as AUnsubscribe, SubscribeDone as ASubscribeDone, MaxSubscribeId as AMaxSubscribeId, SubscribesBlocked as ASubscribesBlocked}
 use Rattle.message_writer.specs.Sound.{soundOf}
@@ -15,20 +17,21 @@ use Rattle.message.specs.declared.Message.{Message}
 use Rattle.message.specs.declared.Message.the-variants.{Subscription, Fetch, Announce, Session}
 use Rattle.row.specs.Places.{small, smallPlace}
 use Rattle.row.specs.Ranges.{askedOf}
-use Rattle.row.specs.Rows.{unusedRow, pendingRow, arriveOf, openOf, mayEnd}
+use Rattle.row.specs.Rows.{pendingRow, arriveOf, openOf, mayEnd}
 use Rattle.row.specs.declared.Row.{Row}
 use Rattle.row.specs.declared.Ending.{Ending}
 use Rattle.row.specs.declared.Ending.the-variants.{SubscribeError as Erring, SubscribeDone as Ended, Unsubscribe as Leaving}
-use Rattle.ledger.specs.Ledgers.{mostRows, held, hasAlias, emptyLedger}
-use Rattle.ledger.specs.Answers.{Came, noRule, same, done, isOwn, breaks, gated}
+use Rattle.ledger.specs.Ledgers.{mostRows, hasAlias, emptyLedger}
+use Rattle.ledger.specs.Answers.{Verdict, Came, noRule, ruleNumber, done, isOwn, gated}
 use Rattle.ledger.specs.Senders.{sender}
+use Rattle.ledger.specs.Keys.{look, onLooked, Change, gone, now, turn}
+use Rattle.ledger.specs.Views.{Standing, View, Seen, viewOf, cameOf}
 use Rattle.ledger.specs.declared.Part.{Part}
+use Rattle.ledger.specs.declared.Part.the-variants.{Publisher}
+use Rattle.ledger.specs.declared.Rule.{Rule}
 use Rattle.ledger.specs.declared.Rule.the-variants.{R1, R2, R3, R4, R5, R6, R7}
+use Rattle.ledger.specs.declared.Session.the-variants.{Closed}
 use Rattle.ledger.specs.declared.Ledger.{Ledger}
-use Rattle.ledger.specs.declared.Key.{Key}
-use Rattle.ledger.specs.declared.Key.the-variants.{Id, Alias}
-use Rattle.ledger.specs.declared.Found.{Found}
-use Rattle.ledger.specs.declared.Found.the-variants.{At, Missing}
 
 -- ---- starting
 
@@ -43,54 +46,39 @@ startOf part capacity maximum =
     guard (both (leb 1 capacity) (both (leb capacity mostRows) (small maximum))) (refusedStart part)
     (done (emptyLedger part capacity maximum))
 
--- ---- rows in their places
+-- ---- what is replied
 
--- where the first stands, counted from `from`, that has this number
-unfoldable pub find : {A : Type 0} → (A → ℕ) → ℕ → ℕ → List A → Found
-find of n from [] = Missing
-find of n from (r ∷ rs) = pick (eqb (of r) n) (At from) (find of n (from + 1) rs)
+-- 01's number of an answer; or 13, "breaks rule R1 to R7, number given"
+pub data Reply : Type 0 where
+  answer : ℕ → Reply
+  broken : Rule → Reply
 
--- what comes of it where none has it, and where one stands
-abbrev pub atFound : {A : Type 0} → Found → A → (ℕ → A) → A
-atFound Missing missing at = missing
-atFound (At i) missing at = at i
+abbrev pub verdictBy : Reply → Verdict
+verdictBy (answer number) = noRule number
+verdictBy (broken rule) = record { number = 13; rule = ruleNumber rule }
 
-abbrev pub idOf : Row → ℕ
-idOf r = r .id
+abbrev pub closed : Standing → Rule → Standing
+closed s rule =
+    record { part = s .part; session = Closed rule; capacity = s .capacity; maximum = s .maximum; next = s .next }
 
-abbrev pub aliasOf : Row → ℕ
-aliasOf r = r .alias
+-- "own message: same ledger; peer's: closed, rule kept, rows unchanged"
+abbrev pub standingAfter : Bool → Reply → Standing → Standing
+standingAfter own (answer number) s = s
+standingAfter own (broken rule) s = pick own s (closed s rule)
 
-abbrev pub keyOf : Key → Row → ℕ
-keyOf Id = idOf
-keyOf Alias = aliasOf
+-- the rows stay as they are
+abbrev pub replied : View → Bool → Reply → Seen
+replied v own reply =
+    record {
+      says = verdictBy reply;
+      next = record {
+        standing = standingAfter own reply (v .standing);
+        rows = v .rows;
+      };
+    }
 
-abbrev pub rowAt : Ledger → ℕ → Row
-rowAt l i = getD (l .rows) i unusedRow
-
--- other rows, of which so many are in use, and another next ID
-abbrev pub withRows : Ledger → List Row → ℕ → ℕ → Ledger
-withRows l rows used next = record {
-  rows = rows;
-  part = l .part;
-  session = l .session;
-  capacity = l .capacity;
-  maximum = l .maximum;
-  next = next;
-  used = used;
-}
-
--- one row changed
-unfoldable pub changed : Ledger → ℕ → Row → Ledger
-changed l i r = withRows l (set (l .rows) i r) (l .used) (l .next)
-
--- "a pending row is added last", "and the ID becomes the highest"
-unfoldable pub added : Ledger → Row → Ledger
-added l r = withRows l (set (l .rows) (l .used) r) (l .used + 1) (r .id + 1)
-
--- "row removed, rows after move up one place"
-unfoldable pub freed : Ledger → ℕ → Ledger
-freed l i = withRows l (take i (l .rows) ++ (drop (suc i) (l .rows) ++ unusedRow ∷ [])) (l .used - 1) (l .next)
+abbrev pub unchanged : View → ℕ → Seen
+unchanged v number = record { says = noRule number; next = v }
 
 -- ---- SUBSCRIBE
 
@@ -98,94 +86,126 @@ freed l i = withRows l (take i (l .rows) ++ (drop (suc i) (l .rows) ++ unusedRow
 abbrev pub newRow : Subscribe → Row
 newRow m = pendingRow (m .id) (m .alias) (askedOf (m .filter))
 
+-- "the ID becomes the highest"
+abbrev pub withHighest : Standing → ℕ → Standing
+withHighest s id =
+    record { part = s .part; session = s .session; capacity = s .capacity; maximum = s .maximum; next = id + 1 }
+
 -- "SUBSCRIBE (sent by the subscriber). R2: ID not above the highest accepted, if any. R3: ID not below the maximum. R4:
 -- alias held by any row. Then 11. Else a pending row is added last, its range not known yet for filter 2 and as asked
 -- for 3 and 4, and the ID becomes the highest."
-unfoldable pub subscribeStep : Ledger → Subscribe → Came
-subscribeStep l m =
-    let own = isOwn (l .part) (sender (ASubscribe m)) in
-    pick (ltb (m .id) (l .next)) (breaks l own R2)
-    (pick (leb (l .maximum) (m .id)) (breaks l own R3)
-    (pick (hasAlias (m .alias) (held l)) (breaks l own R4)
-    (pick (leb (l .capacity) (l .used)) (same l 11) (done (added l (newRow m))))))
+unfoldable pub subscribeStep : View → Subscribe → Seen
+subscribeStep v m =
+    let s = v .standing in
+    let own = isOwn (s .part) (sender (ASubscribe m)) in
+    pick (ltb (m .id) (s .next)) (replied v own (broken R2))
+    (pick (leb (s .maximum) (m .id)) (replied v own (broken R3))
+    (pick (hasAlias (m .alias) (v .rows)) (replied v own (broken R4))
+    (pick (leb (s .capacity) (length (v .rows))) (unchanged v 11)
+    (record { says = noRule 8; next = record { standing = withHighest s (m .id); rows = v .rows ++ newRow m ∷ [] } }))))
+
+-- ---- what names a row: a message by its ID, an arrival by its alias
+
+abbrev pub idOf : Row → ℕ
+idOf r = r .id
+
+abbrev pub aliasOf : Row → ℕ
+aliasOf r = r .alias
+
+-- what is replied at a row, and what becomes of it
+pub record RowStep : Type 0 where
+  pub reply : Reply
+  pub row : Change Row
+
+-- the row that has a number is looked up, and turned
+unfoldable pub byKey : View → Bool → (Row → ℕ) → ℕ → Reply → (Row → RowStep) → Seen
+byKey v own key n missing at =
+    let reply = onLooked missing (λ r. at r .reply) (look key n (v .rows)) in
+    record {
+      says = verdictBy reply;
+      next = record { standing = standingAfter own reply (v .standing); rows = turn key n (λ r. at r .row) (v .rows) };
+    }
 
 -- ---- SUBSCRIBE_OK, SUBSCRIBE_ERROR, SUBSCRIBE_DONE (publisher), UNSUBSCRIBE (subscriber)
 
 -- "No row: R5 if the ID is above the highest or none was accepted, else 12."
-unfoldable pub noRow : Ledger → Part → ℕ → Came
-noRow l by id = pick (leb (l .next) id) (breaks l (isOwn (l .part) by) R5) (same l 12)
+unfoldable pub noRow : Standing → ℕ → Reply
+noRow s id = pick (leb (s .next) id) (broken R5) (answer 12)
+
+abbrev pub byId : View → Part → ℕ → (Row → RowStep) → Seen
+byId v by id at = byKey v (isOwn (v .standing .part) by) idOf id (noRow (v .standing) id) at
+
+-- "R6": the row stays as it is
+abbrev pub breaksR6 : Row → RowStep
+breaksR6 r = record { reply = broken R6; row = now r }
 
 -- "OK on pending makes it active"; "R6: OK or ERROR on active"
-unfoldable pub okStep : Ledger → SubscribeOk → Came
-okStep l m =
-    let by = sender (ASubscribeOk m) in
-    atFound (find idOf (m .id) 0 (held l)) (noRow l by (m .id)) (λ i.
-    let at = openOf (rowAt l i) (m .content) in
-    pick (eqb (at .number) 8) (done (changed l i (at .row))) (breaks l (isOwn (l .part) by) R6))
+unfoldable pub okAt : Content → Row → RowStep
+okAt content r =
+    let at = openOf r content in
+    record { reply = pick (eqb (at .number) 8) (answer 8) (broken R6); row = now (at .row) }
 
 -- "ERROR on pending, DONE on active and UNSUBSCRIBE on either free it"; "R6: OK or ERROR on active, DONE on pending"
-unfoldable pub endStep : Ledger → Part → Ending → ℕ → Came
-endStep l by ending id =
-    atFound (find idOf id 0 (held l)) (noRow l by id) (λ i.
-    pick (mayEnd ending (rowAt l i .state)) (done (freed l i)) (breaks l (isOwn (l .part) by) R6))
+unfoldable pub endAt : Ending → Row → RowStep
+endAt ending r =
+    pick (mayEnd ending (r .state)) (record { reply = answer 8; row = gone }) (breaksR6 r)
 
 -- ---- MAX_SUBSCRIBE_ID
 
-abbrev pub withMaximum : Ledger → ℕ → Ledger
-withMaximum l maximum = record {
-  rows = l .rows;
-  part = l .part;
-  session = l .session;
-  capacity = l .capacity;
-  maximum = maximum;
-  next = l .next;
-  used = l .used;
-}
+abbrev pub withMaximum : Standing → ℕ → Standing
+withMaximum s maximum =
+    record { part = s .part; session = s .session; capacity = s .capacity; maximum = maximum; next = s .next }
 
 -- "MAX_SUBSCRIBE_ID (publisher). R7: not larger than the maximum."
-unfoldable pub maximumStep : Ledger → ℕ → Came
-maximumStep l id =
-    pick (leb id (l .maximum)) (breaks l (isOwn (l .part) (sender (AMaxSubscribeId id))) R7) (done (withMaximum l id))
+unfoldable pub maximumStep : View → ℕ → Seen
+maximumStep v id =
+    let s = v .standing in
+    pick (leb id (s .maximum)) (replied v (isOwn (s .part) (sender (AMaxSubscribeId id))) (broken R7))
+    (record { says = noRule 8; next = record { standing = withMaximum s id; rows = v .rows } })
+
+-- ---- each message; "All other messages: 9."
+
+abbrev pub subscriptionStep : View → SubscriptionMessage → Seen
+subscriptionStep v (ASubscribeUpdate m) = unchanged v 9
+subscriptionStep v (ASubscribe m) = subscribeStep v m
+subscriptionStep v (ASubscribeOk m) = byId v (sender (ASubscribeOk m)) (m .id) (okAt (m .content))
+subscriptionStep v (ASubscribeError m) = byId v (sender (ASubscribeError m)) (m .id) (endAt Erring)
+subscriptionStep v (AUnsubscribe id) = byId v (sender (AUnsubscribe id)) id (endAt Leaving)
+subscriptionStep v (ASubscribeDone m) = byId v (sender (ASubscribeDone m)) (m .id) (endAt Ended)
+subscriptionStep v (AMaxSubscribeId id) = maximumStep v id
+subscriptionStep v (ASubscribesBlocked id) = unchanged v 9
+
+abbrev pub messageStep : View → Message → Seen
+messageStep v (Subscription m) = subscriptionStep v m
+messageStep v (Fetch m) = unchanged v 9
+messageStep v (Announce m) = unchanged v 9
+messageStep v (Session m) = unchanged v 9
+
+-- "Malformed: R1.", always the peer's
+abbrev pub malformedStep : View → Seen
+malformedStep v = replied v false (broken R1)
 
 -- ---- arrivals
 
--- "for an arrival 18, 19, 17": 18 where no row has the alias; else what is answered at the row, and the row that it
--- leaves
-unfoldable pub arrivalStep : Ledger → Arrival → Came
-arrivalStep l a =
-    atFound (find aliasOf (a .alias) 0 (held l)) (same l 18) (λ i.
-    let at = arriveOf (rowAt l i) (a .place) in
-    record { says = noRule (at .number); next = changed l i (at .row) })
+-- "for an arrival 18, 19, 17"; "With an active row and a place in range it is counted"
+unfoldable pub arriveAt : Place → Row → RowStep
+arriveAt place r = let at = arriveOf r place in record { reply = answer (at .number); row = now (at .row) }
+
+-- 18, "no row has this alias"; what arrives is the publisher's
+abbrev pub arrivalStep : View → Arrival → Seen
+arrivalStep v a = byKey v (isOwn (v .standing .part) Publisher) aliasOf (a .alias) (answer 18) (arriveAt (a .place))
 
 unfoldable pub smallArrival : Arrival → Bool
 smallArrival a = both (small (a .alias)) (smallPlace (a .place))
 
--- ---- each call: the gate, then its step
-
--- what each message does; "All other messages: 9."
-abbrev pub subscriptionStep : Ledger → SubscriptionMessage → Came
-subscriptionStep l (ASubscribeUpdate m) = same l 9
-subscriptionStep l (ASubscribe m) = subscribeStep l m
-subscriptionStep l (ASubscribeOk m) = okStep l m
-subscriptionStep l (ASubscribeError m) = endStep l (sender (ASubscribeError m)) Erring (m .id)
-subscriptionStep l (AUnsubscribe id) = endStep l (sender (AUnsubscribe id)) Leaving id
-subscriptionStep l (ASubscribeDone m) = endStep l (sender (ASubscribeDone m)) Ended (m .id)
-subscriptionStep l (AMaxSubscribeId id) = maximumStep l id
-subscriptionStep l (ASubscribesBlocked id) = same l 9
-
-abbrev pub messageStep : Ledger → Message → Came
-messageStep l (Subscription m) = subscriptionStep l m
-messageStep l (Fetch m) = same l 9
-messageStep l (Announce m) = same l 9
-messageStep l (Session m) = same l 9
+-- ---- each call: the gate, then its step, and what it comes to is kept as a ledger
 
 -- "A message is taken by a ledger, which hands back the next ledger and an answer."
 unfoldable pub takeOf : Ledger → Message → Came
-takeOf l m = gated l (soundOf m) (messageStep l m)
+takeOf l m = gated l (soundOf m) (cameOf (messageStep (viewOf l) m))
 
--- "Malformed: R1.", always the peer's
 unfoldable pub malformedOf : Ledger → Came
-malformedOf l = gated l true (breaks l false R1)
+malformedOf l = gated l true (cameOf (malformedStep (viewOf l)))
 
 unfoldable pub arrivalOf : Ledger → Arrival → Came
-arrivalOf l a = gated l (smallArrival a) (arrivalStep l a)
+arrivalOf l a = gated l (smallArrival a) (cameOf (arrivalStep (viewOf l) a))

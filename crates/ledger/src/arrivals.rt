@@ -1,8 +1,9 @@
 // Arrivals.
 ghost use mathlib.Core.Path.{_≡_};
-ghost use Prim.Native.Nat.{_≤_};
-ghost use Rattle.ledger.specs.Ledgers.{mostRows};
+ghost use mathlib.Core.Bool.{true};
+ghost use Rattle.ledger.specs.Ledgers.{isLedger};
 ghost use Rattle.ledger.specs.Answers.{told};
+ghost use Rattle.ledger.specs.Views.{viewOf, cameOf};
 ghost use Rattle.ledger.specs.Steps.{arrivalStep, smallArrival};
 use crate::Answer;
 use crate::Found;
@@ -26,8 +27,8 @@ pub fn is_small(a: Arrival) -> bool
 }
 
 pub fn count(l: Ledger, a: Arrival) -> Taken
-    requires { ⌜ l .used ≤ mostRows ⌝ }
-    ensures { λ r. ⌜ told r ≡ arrivalStep l a ⌝ }
+    requires { ⌜ isLedger l ≡ true ⌝ }
+    ensures { λ r. ⌜ told r ≡ cameOf (arrivalStep (viewOf l) a) ⌝ }
 {
     let place = a.place;
     let Found::At(i) = find_row(l, Key::Alias, a.alias) else {

@@ -1,13 +1,17 @@
 // SUBSCRIBE_ERROR, SUBSCRIBE_DONE and UNSUBSCRIBE, which free a row.
 ghost use mathlib.Core.Path.{_≡_};
+ghost use mathlib.Core.Bool.{true};
 ghost use Prim.Native.Nat.{_≤_, _<_};
-ghost use Rattle.ledger.specs.Ledgers.{mostRows};
+ghost use Rattle.ledger.specs.Ledgers.{mostRows, isLedger};
 ghost use Rattle.ledger.specs.Answers.{told};
-ghost use Rattle.ledger.specs.Steps.{freed, endStep};
+ghost use Rattle.ledger.specs.Views.{viewOf, cameOf};
+ghost use Rattle.ledger.specs.Steps.{byId, endAt};
+ghost use Rattle.ledger.specs.Arrays.{freed};
 use crate::Answer;
 use crate::Found;
 use crate::Key;
 use crate::Ledger;
+use crate::MOST_ROWS;
 use crate::Part;
 use crate::Rule;
 use crate::Taken;
@@ -17,10 +21,13 @@ use crate::rules::is_own;
 use crate::subscribing::no_row;
 use row::Ending;
 
+// The last place for a row.
+const LAST: usize = MOST_ROWS - 1;
+
 // A message of this kind, which the part `by` sends.
 pub fn end(l: Ledger, by: Part, ending: Ending, id: u64) -> Taken
-    requires { ⌜ l .used ≤ mostRows ⌝ }
-    ensures { λ r. ⌜ told r ≡ endStep l by ending id ⌝ }
+    requires { ⌜ isLedger l ≡ true ⌝ }
+    ensures { λ r. ⌜ told r ≡ cameOf (byId (viewOf l) by id (endAt ending)) ⌝ }
 {
     let Found::At(i) = find_row(l, Key::Id, id) else {
         return no_row(l, by, id);
@@ -44,12 +51,12 @@ fn without(l: Ledger, at: usize) -> Ledger
 {
     let mut next = l;
     let mut i = at;
-    while i < 63 {
+    while i < LAST {
         let row = l.rows[i + 1];
         next.rows[i] = row;
         i += 1;
     }
-    next.rows[63] = row::unused();
+    next.rows[LAST] = row::unused();
     next.used = l.used - 1;
     next
 }

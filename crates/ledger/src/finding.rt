@@ -2,13 +2,13 @@
 ghost use mathlib.Core.Path.{_≡_};
 ghost use Prim.Native.Nat.{_≤_};
 ghost use Rattle.ledger.specs.Ledgers.{mostRows, held};
-ghost use Rattle.ledger.specs.Steps.{find, keyOf};
+ghost use Rattle.ledger.specs.Arrays.{find, keyOf};
 use crate::Found;
 use crate::Key;
 use crate::Ledger;
 use row::Row;
 
-fn number(row: Row, key: Key) -> u64
+fn key_of(row: Row, key: Key) -> u64
     ensures { λ r. ⌜ r ≡ keyOf key row ⌝ }
 {
     match key {
@@ -25,7 +25,7 @@ pub fn find_row(l: Ledger, key: Key, n: u64) -> Found
     let mut i: usize = 0;
     while i < used {
         let row = l.rows[i];
-        if number(row, key) == n {
+        if key_of(row, key) == n {
             return Found::At(i);
         }
         i += 1;

@@ -1,12 +1,14 @@
 // A message is taken by a ledger, which hands back the next ledger and an answer: a method for each kind of message,
 // and for arrivals.
 ghost use mathlib.Core.Path.{_≡_};
+ghost use mathlib.Core.Bool.{true};
 ghost use Rattle.message.specs.declared.Message.the-variants.{Subscription};
 ghost use Rattle.subscription.specs.declared.SubscriptionMessage.the-variants.{Subscribe as ASubscribe, SubscribeOk as ASubscribeOk, SubscribeError as ASubscribeError, Unsubscribe as AUnsubscribe, SubscribeDone as ASubscribeDone, MaxSubscribeId as AMaxSubscribeId};
 ghost use Rattle.ledger.specs.Ledgers.{isLedger};
 ghost use Rattle.message_writer.specs.Sound.{soundOf};
-ghost use Rattle.ledger.specs.Answers.{told, same, gated};
-ghost use Rattle.ledger.specs.Steps.{takeOf, malformedOf, arrivalOf, maximumStep};
+ghost use Rattle.ledger.specs.Answers.{told, gated};
+ghost use Rattle.ledger.specs.Views.{viewOf, cameOf};
+ghost use Rattle.ledger.specs.Steps.{unchanged, maximumStep, takeOf, malformedOf, arrivalOf};
 use crate::Answer;
 use crate::Gate;
 use crate::Ledger;
@@ -165,7 +167,7 @@ impl Ledger {
 
 // A message that the ledger doesn't keep.
 fn other(l: Ledger, m: Message) -> Taken
-    ensures { λ r. ⌜ told r ≡ gated l (soundOf m) (same l 9) ⌝ }
+    ensures { λ r. ⌜ told r ≡ gated l (soundOf m) (cameOf (unchanged (viewOf l) 9)) ⌝ }
 {
     if let Gate::Stop(answer) = gate(l, message_writer::is_sound(m)) {
         return Taken { answer, ledger: l };
@@ -178,7 +180,8 @@ fn other(l: Ledger, m: Message) -> Taken
 
 // MAX_SUBSCRIBE_ID raises the maximum.
 fn raise(l: Ledger, id: u64) -> Taken
-    ensures { λ r. ⌜ told r ≡ maximumStep l id ⌝ }
+    requires { ⌜ isLedger l ≡ true ⌝ }
+    ensures { λ r. ⌜ told r ≡ cameOf (maximumStep (viewOf l) id) ⌝ }
 {
     if id <= l.maximum {
         let part = l.part;

@@ -1,6 +1,10 @@
 // What breaking a rule does, and the code that a session is closed with.
 ghost use mathlib.Core.Path.{_≡_};
-ghost use Rattle.ledger.specs.Answers.{told, isOwn, breaks, closeCode};
+ghost use mathlib.Core.Bool.{true};
+ghost use Rattle.ledger.specs.Ledgers.{isLedger};
+ghost use Rattle.ledger.specs.Answers.{told, isOwn, closeCode};
+ghost use Rattle.ledger.specs.Views.{viewOf, cameOf};
+ghost use Rattle.ledger.specs.Steps.{broken, replied};
 use crate::Answer;
 use crate::Ledger;
 use crate::Part;
@@ -26,7 +30,8 @@ pub fn is_own(part: Part, sender: Part) -> bool
 
 // A message that breaks a rule: this end's own leaves the ledger as it is, the peer's closes the session.
 pub fn break_rule(l: Ledger, own: bool, rule: Rule) -> Taken
-    ensures { λ r. ⌜ told r ≡ breaks l own rule ⌝ }
+    requires { ⌜ isLedger l ≡ true ⌝ }
+    ensures { λ r. ⌜ told r ≡ cameOf (replied (viewOf l) own (broken rule)) ⌝ }
 {
     if own {
         return Taken {

@@ -8,7 +8,8 @@ ghost use lib.ListN.{length, take};
 ghost use Rattle.row.specs.Rows.{arrivedNumber, leftBy};
 ghost use Rattle.ledger.specs.Ledgers.{mostRows, isOpen};
 ghost use Rattle.ledger.specs.Answers.{stops};
-ghost use Rattle.ledger.specs.Steps.{find, aliasOf, smallArrival};
+ghost use Rattle.ledger.specs.Steps.{aliasOf, smallArrival};
+ghost use Rattle.ledger.specs.Arrays.{find};
 ghost use Rattle.ledger.specs.Runs.{runOf, Runs, itself};
 use crate::Filled;
 use crate::Found;
@@ -61,7 +62,7 @@ impl Ledger {
                     let row = l.rows[i];
                     let came = row::arrive(row, place);
                     l.rows[i] = left(row, came);
-                    n = number(came);
+                    n = arrived_number(came);
                 }
             }
             answers[k] = n;
@@ -122,7 +123,7 @@ fn find_name(names: &[u64; MOST_ROWS], used: usize, alias: u64) -> Found
     Found::Missing
 }
 
-// The row behind an arrival, and document 01's number for it.
+// The row after an arrival, and document 01's number for it.
 fn left(row: Row, came: Arriving) -> Row
     ensures { λ r. ⌜ r ≡ leftBy came row ⌝ }
 {
@@ -133,7 +134,7 @@ fn left(row: Row, came: Arriving) -> Row
     }
 }
 
-fn number(came: Arriving) -> u8
+fn arrived_number(came: Arriving) -> u8
     ensures { λ r. ⌜ r ≡ arrivedNumber came ⌝ }
 {
     match came {

@@ -1,9 +1,13 @@
 // SUBSCRIBE, which adds a row, and SUBSCRIBE_OK, which makes it active.
 ghost use mathlib.Core.Path.{_≡_};
-ghost use Prim.Native.Nat.{_≤_, _<_};
-ghost use Rattle.ledger.specs.Ledgers.{mostRows};
-ghost use Rattle.ledger.specs.Answers.{told};
-ghost use Rattle.ledger.specs.Steps.{added, changed, noRow, subscribeStep, okStep};
+ghost use mathlib.Core.Bool.{true};
+ghost use Prim.Native.Nat.{_<_};
+ghost use Rattle.ledger.specs.Ledgers.{mostRows, isLedger};
+ghost use Rattle.ledger.specs.Answers.{told, isOwn};
+ghost use Rattle.ledger.specs.Views.{standingOf, viewOf, cameOf};
+ghost use Rattle.ledger.specs.Steps.{replied, noRow, subscribeStep, byId, okAt};
+ghost use Rattle.ledger.specs.Arrays.{added, changed};
+ghost use Rattle.ledger.specs.declared.Part.the-variants.{Publisher};
 use crate::Answer;
 use crate::Found;
 use crate::Key;
@@ -20,8 +24,8 @@ use subscription::Subscribe;
 use subscription::SubscribeOk;
 
 pub fn add(l: Ledger, m: Subscribe) -> Taken
-    requires { ⌜ (l .used ≤ mostRows) × (l .capacity ≤ mostRows) ⌝ }
-    ensures { λ r. ⌜ told r ≡ subscribeStep l m ⌝ }
+    requires { ⌜ isLedger l ≡ true ⌝ }
+    ensures { λ r. ⌜ told r ≡ cameOf (subscribeStep (viewOf l) m) ⌝ }
 {
     let part = l.part;
     let own = is_own(part, Part::Subscriber);
@@ -72,7 +76,8 @@ pub fn with_row(l: Ledger, i: usize, row: Row) -> Ledger
 
 // A message about a subscription that has no row: unknown, or stale.
 pub fn no_row(l: Ledger, sender: Part, id: u64) -> Taken
-    ensures { λ r. ⌜ told r ≡ noRow l sender id ⌝ }
+    requires { ⌜ isLedger l ≡ true ⌝ }
+    ensures { λ r. ⌜ told r ≡ cameOf (replied (viewOf l) (isOwn (l .part) sender) (noRow (standingOf l) id)) ⌝ }
 {
     if id < l.next {
         return Taken {
@@ -85,8 +90,8 @@ pub fn no_row(l: Ledger, sender: Part, id: u64) -> Taken
 }
 
 pub fn accept(l: Ledger, m: SubscribeOk) -> Taken
-    requires { ⌜ l .used ≤ mostRows ⌝ }
-    ensures { λ r. ⌜ told r ≡ okStep l m ⌝ }
+    requires { ⌜ isLedger l ≡ true ⌝ }
+    ensures { λ r. ⌜ told r ≡ cameOf (byId (viewOf l) Publisher (m .id) (okAt (m .content))) ⌝ }
 {
     let Found::At(i) = find_row(l, Key::Id, m.id) else {
         return no_row(l, Part::Publisher, m.id);

@@ -4,7 +4,7 @@ use mathlib.Core.Bool.{Bool, true, false, not}
 use Rattle.field.specs.declared.Place.{Place}
 use Rattle.layout.proofs.Steps.{kept, broken}
 use Rattle.row.specs.Ranges.{inRange}
-use Rattle.row.specs.Rows.{isPending, leaving, countedRow, arriveOf, toldArriving}
+use Rattle.row.specs.Rows.{isPending, replying, countedRow, arriveOf, toldArriving}
 use Rattle.row.specs.declared.State.the-variants.{Pending, Active}
 use Rattle.row.specs.declared.Row.{Row}
 use Rattle.row.specs.declared.Arriving.the-variants.{Waiting, Outside, Counted}
@@ -21,4 +21,4 @@ module _ (r : Row) (place : Place) where
 
     pub counts : {next : Row} → not b ≡ false → next ≡ countedRow r place → toldArriving (Counted next) r ≡ arriveOf r place
     unfolding arriveOf isPending
-    counts h n = ap (leaving 16) n ∙ rw (e, kept within h)
+    counts h n = ap (replying 16) n ∙ rw (e, kept within h)

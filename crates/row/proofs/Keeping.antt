@@ -12,7 +12,7 @@ use Rattle.subscription.specs.declared.Content.{Content}
 use Rattle.subscription.specs.declared.Content.the-variants.{Nothing, Largest}
 use Rattle.row.specs.Places.{before, small, smallPlace}
 use Rattle.row.specs.Ranges.{inRange, isKnown, smallRange, latest, moved, settledOf}
-use Rattle.row.specs.Rows.{top, countAgrees, suits, isRow, pendingRow, greater, risen, isPending, countedRow, AtRow, leaving, arriveOf, activeRow, breaksR6, openOf}
+use Rattle.row.specs.Rows.{top, countAgrees, suits, isRow, pendingRow, greater, risen, isPending, countedRow, AtRow, replying, arriveOf, activeRow, breaksR6, openOf}
 use Rattle.row.specs.declared.State.{State}
 use Rattle.row.specs.declared.State.the-variants.{Pending, Active}
 use Rattle.row.specs.declared.Range.{Range}
@@ -40,7 +40,7 @@ is-active Pending e = absurd (let z : _≡_ {A = ℕ} 0 1 = cc in omega arith)
 is-active Active e = refl
 
 -- it waits, it is outside, or it is counted at an active row
-pub arrive-by : (P : AtRow → Type 0) (place : Place) (r : Row) → P (leaving 19 r) → P (leaving 17 r) → (r .state ≡ Active → P (leaving 16 (countedRow r place))) → P (arriveOf r place)
+pub arrive-by : (P : AtRow → Type 0) (place : Place) (r : Row) → P (replying 19 r) → P (replying 17 r) → (r .state ≡ Active → P (replying 16 (countedRow r place))) → P (arriveOf r place)
 unfolding arriveOf
 arrive-by P place r waits misses counts =
     pick-by P (isPending (r .state)) (λ _. waits) (λ e.
@@ -96,7 +96,7 @@ unfoldable pub opened : Content → Row → Row
 opened content r = openOf r content .row
 
 -- a rule is broken, or a pending row is active now
-pub open-by : (P : AtRow → Type 0) (content : Content) (r : Row) → P (breaksR6 r) → P (leaving 8 (activeRow r (settledOf (r .range) content))) → P (openOf r content)
+pub open-by : (P : AtRow → Type 0) (content : Content) (r : Row) → P (breaksR6 r) → P (replying 8 (activeRow r (settledOf (r .range) content))) → P (openOf r content)
 unfolding openOf
 open-by P content r refused active = pick-by P (isPending (r .state)) (λ _. active) (λ _. refused)
 

@@ -96,15 +96,15 @@ pub record AtRow : Type 0 where
   pub rule : ℕ
   pub row : Row
 
-abbrev pub leaving : ℕ → Row → AtRow
-leaving number row = record { number = number; rule = 0; row = row }
+abbrev pub replying : ℕ → Row → AtRow
+replying number row = record { number = number; rule = 0; row = row }
 
 -- 19, "row still pending"; 17, "outside the range"; 16, "arrival counted": "With an active row and a place in range it
 -- is counted"
 unfoldable pub arriveOf : Row → Place → AtRow
 arriveOf r place =
-    pick (isPending (r .state)) (leaving 19 r)
-    (guard (inRange (r .range) place) (leaving 17 r) (leaving 16 (countedRow r place)))
+    pick (isPending (r .state)) (replying 19 r)
+    (guard (inRange (r .range) place) (replying 17 r) (replying 16 (countedRow r place)))
 
 -- an active row, with the range that SUBSCRIBE_OK settles
 abbrev pub activeRow : Row → Range → Row
@@ -124,7 +124,7 @@ breaksR6 r = record { number = 13; rule = 6; row = r }
 -- "OK on pending makes it active"
 unfoldable pub openOf : Row → Content → AtRow
 openOf r content =
-    guard (isPending (r .state)) (breaksR6 r) (leaving 8 (activeRow r (settledOf (r .range) content)))
+    guard (isPending (r .state)) (breaksR6 r) (replying 8 (activeRow r (settledOf (r .range) content)))
 
 -- "ERROR on pending, DONE on active and UNSUBSCRIBE on either free it"
 abbrev pub mayEnd : Ending → State → Bool
@@ -148,8 +148,8 @@ leftBy Outside r = r
 leftBy (Counted next) r = next
 
 abbrev pub toldArriving : Arriving → Row → AtRow
-toldArriving came r = leaving (arrivedNumber came) (leftBy came r)
+toldArriving came r = replying (arrivedNumber came) (leftBy came r)
 
 abbrev pub toldOpening : Opening → Row → AtRow
 toldOpening Refused r = breaksR6 r
-toldOpening (Opened next) r = leaving 8 next
+toldOpening (Opened next) r = replying 8 next

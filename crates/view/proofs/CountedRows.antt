@@ -6,7 +6,7 @@ use Rattle.field.specs.declared.Place.{Place}
 use Rattle.row.proofs.Keeping.{after, arrive-by}
 use Rattle.row.proofs.Ordering.{greater-either}
 use Rattle.row.specs.Ranges.{inRange}
-use Rattle.row.specs.Rows.{isPending, AtRow, risen, countedRow, leaving, arriveOf}
+use Rattle.row.specs.Rows.{isPending, AtRow, risen, countedRow, replying, arriveOf}
 use Rattle.row.specs.declared.Row.{Row}
 use Rattle.row.specs.declared.Greatest.the-variants.{At}
 
@@ -26,7 +26,7 @@ number-is : (r : Row) (p : Place) → arriveOf r p .number ≡ pick (isPending (
 unfolding arriveOf
 number-is r p = go (isPending (r .state)) (inRange (r .range) p)
   where
-    go : (s b : Bool) → pick s (leaving 19 r) (pick b (leaving 16 (countedRow r p)) (leaving 17 r)) .number ≡ pick s 19 (pick b 16 17)
+    go : (s b : Bool) → pick s (replying 19 r) (pick b (replying 16 (countedRow r p)) (replying 17 r)) .number ≡ pick s 19 (pick b 16 17)
     go true b = refl
     go false true = refl
     go false false = refl
@@ -48,7 +48,7 @@ after-is : (p : Place) (r : Row) → after p r ≡ grown r p (counts r p)
 unfolding after arriveOf counts
 after-is p r = go (isPending (r .state)) (inRange (r .range) p)
   where
-    go : (s b : Bool) → pick s (leaving 19 r) (pick b (leaving 16 (countedRow r p)) (leaving 17 r)) .row ≡ grown r p (both (not s) b)
+    go : (s b : Bool) → pick s (replying 19 r) (pick b (replying 16 (countedRow r p)) (replying 17 r)) .row ≡ grown r p (both (not s) b)
     go true b = refl
     go false true = refl
     go false false = refl

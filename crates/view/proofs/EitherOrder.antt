@@ -20,14 +20,14 @@ use Rattle.row.specs.declared.Ending.the-variants.{SubscribeError as Erring, Su
 use Rattle.row.proofs.Keeping.{after, after-alias, opened, opened-id}
 use Rattle.ledger.specs.Answers.{noRule, isOwn}
 use Rattle.ledger.specs.Ledgers.{isOpen}
-use Rattle.ledger.specs.Steps.{idOf, aliasOf}
+use Rattle.ledger.specs.Steps.{idOf, aliasOf, Reply, answer, broken, verdictBy, standingAfter, unchanged, RowStep, byKey, noRow, okAt, endAt, byId, arriveAt}
 use Rattle.ledger.specs.declared.Part.{Part}
 use Rattle.ledger.specs.declared.Part.the-variants.{Subscriber, Publisher}
 use Rattle.ledger.specs.Keys.{Looked, none, one, look, onLooked, Change, now, turn}
 use Rattle.ledger.proofs.Keyed.{Known}
-use Rattle.view.specs.Views.{Standing, View, Seen}
+use Rattle.ledger.specs.Views.{Standing, View, Seen}
 use Rattle.view.specs.Events.{Event, message, arrival, isSound}
-use Rattle.view.specs.Steps.{Reply, answer, broken, verdictBy, standingAfter, unchanged, RowStep, byKey, noRow, okAt, endAt, byId, arriveAt, eventSeen, viewStep}
+use Rattle.view.specs.Steps.{eventStep, viewStep}
 use Rattle.view.specs.Orders.{Names, ok, error, finished, left, updated, NotKept, blocked, fetch, announce, session, Apart, different, first-not-kept, second-not-kept, SeenInEitherOrder}
 use Rattle.view.proofs.Guards.{passed, forbidden, closed-stays, open-before}
 use Rattle.view.proofs.Turns.{look-other, turn-other, found-turned, turn-twice}
@@ -80,7 +80,7 @@ record ByKey (key : Row → ℕ) (e : Event) : Type 0 where
   own : Part → Bool
   missing : Standing → Reply
   at : Row → RowStep
-  is : (v : View) → eventSeen v e ≡ byKey v (own (v .standing .part)) key number (missing (v .standing)) at
+  is : (v : View) → eventStep v e ≡ byKey v (own (v .standing .part)) key number (missing (v .standing)) at
 
 module _ {key : Row → ℕ} {e : Event} (x : ByKey key e) where
   abbrev replyOf : Standing → List Row → Reply
@@ -192,7 +192,7 @@ arrivals-either v a b =
 -- ---- two messages
 
 -- a message that the ledger doesn't keep leaves every view as it is
-not-kept : {m : Message} → NotKept m → (v : View) → eventSeen v (message m) ≡ unchanged v 9
+not-kept : {m : Message} → NotKept m → (v : View) → eventStep v (message m) ≡ unchanged v 9
 not-kept updated v = refl
 not-kept blocked v = refl
 not-kept fetch v = refl
@@ -234,7 +234,7 @@ unfolding endAt
 end-knows ending r =
     pick-by (λ (x : RowStep). Known idOf r (x .row)) (mayEnd ending (r .state)) (λ _. tt) (λ _. refl)
 
-names-id : (m : Message) (by : Part) (id : ℕ) (at : Row → RowStep) → ((v : View) → eventSeen v (message m) ≡ byId v by id at) → ((r : Row) → Known idOf r (at r .row)) → ById m id
+names-id : (m : Message) (by : Part) (id : ℕ) (at : Row → RowStep) → ((v : View) → eventStep v (message m) ≡ byId v by id at) → ((r : Row) → Known idOf r (at r .row)) → ById m id
 names-id m by id at is knows =
     record {
       acts = record { number = id; own = λ part. isOwn part by; missing = λ s. noRow s id; at = at; is = is };

@@ -3,12 +3,13 @@ use mathlib.Core.Path.{_≡_, refl, sym, ap, _∙_}
 use mathlib.Core.Bool.{Bool, true, false}
 use Rattle.common.proofs.Cases.{pick-by}
 use Rattle.ledger.specs.Ledgers.{isOpen}
-use Rattle.view.specs.Views.{View, Seen}
+use Rattle.ledger.specs.Views.{View, Seen}
 use Rattle.view.specs.Events.{Event, isSound}
-use Rattle.view.specs.Steps.{unchanged, eventSeen, viewStep}
+use Rattle.ledger.specs.Steps.{unchanged}
+use Rattle.view.specs.Steps.{eventStep, viewStep}
 
 module _ (v : View) (e : Event) where
-  pub passed : isSound e ≡ true → isOpen (v .standing .session) ≡ true → viewStep v e ≡ eventSeen v e
+  pub passed : isSound e ≡ true → isOpen (v .standing .session) ≡ true → viewStep v e ≡ eventStep v e
   unfolding viewStep
   passed s o = rw (s, o)
 

@@ -1,6 +1,5 @@
 pub mod Turns
-pub mod SameLedger
-pub mod ArraysFollow
+pub mod LedgersFollow
 pub mod Guards
 pub mod CountedRows
 pub mod EitherOrder

@@ -5,21 +5,21 @@ use Rattle.field.specs.declared.Arrival.{Arrival}
 use Rattle.message.specs.declared.Message.{Message}
 use Rattle.ledger.specs.Ledgers.{isLedger, isOpen}
 use Rattle.ledger.specs.declared.Ledger.{Ledger}
-use Rattle.view.specs.Views.{View, viewOf, seenOf}
+use Rattle.ledger.specs.Views.{View, viewOf, seenOf}
 use Rattle.view.specs.Events.{Event, message, arrival, comes}
 use Rattle.view.specs.Steps.{viewStep}
 use Rattle.view.specs.Orders.{Apart, SeenInEitherOrder}
-use Rattle.view.proofs.ArraysFollow as arrays
+use Rattle.view.proofs.LedgersFollow as ledgers
 use Rattle.view.proofs.EitherOrder as order
 
--- 1. The ledger's arrays follow the view's step: of every event a ledger says what the step says, and the view of the next ledger is
+-- 1. A ledger follows the step of its view: of every event it says what the step says, and the view of the next ledger is
 -- the next view.
-pub arrays-follow : (l : Ledger) (e : Event) → isLedger l ≡ true → seenOf (comes l e) ≡ viewStep (viewOf l) e
-arrays-follow = arrays.arrays-follow
+pub ledger-follows : (l : Ledger) (e : Event) → isLedger l ≡ true → seenOf (comes l e) ≡ viewStep (viewOf l) e
+ledger-follows = ledgers.ledger-follows
 
 -- A view loses nothing: two ledgers that have the same are the same.
 pub view-loses-nothing : (k l : Ledger) → isLedger k ≡ true → isLedger l ≡ true → viewOf k ≡ viewOf l → k ≡ l
-view-loses-nothing = arrays.view-once
+view-loses-nothing = ledgers.view-once
 
 -- 2. Two arrivals may change places, in any view: the next view is the same, and each keeps its own answer.
 pub arrivals-in-either-order : (v : View) (a b : Arrival) → SeenInEitherOrder v (arrival a) (arrival b)

@@ -11,43 +11,6 @@ use Rattle.ledger.proofs.Finds.{HasNone, end, other, IsFirst, here, later}
 use Rattle.ledger.proofs.Keyed.{Known}
 use Rattle.ledger.specs.Keys.{Looked, none, one, look, onLooked, Change, gone, now, put, turn}
 
-module _ {A : Type 0} (key : A → ℕ) (n : ℕ) where
-  -- ---- by key and by place
-
-  pub look-none : {xs : List A} → HasNone key n xs → look key n xs ≡ none
-  unfolding look
-  look-none end = refl
-  look-none (other e h) = rw e (look-none h)
-
-  pub look-at : {xs : List A} {i : ℕ} → IsFirst key n xs i → (d : A) → look key n xs ≡ one (getD xs i d)
-  unfolding look
-  look-at (here e) d = rw e
-  look-at (later e h) d = rw e (look-at h d)
-
-  -- ---- what a turn depends on
-
-  -- only on what is done to the one that is found; and nothing where that is nothing
-  pub turn-found : (f g : A → Change A) (xs : List A) → ((x : A) → look key n xs ≡ one x → f x ≡ g x) → turn key n f xs ≡ turn key n g xs
-  unfolding look turn
-  turn-found f g [] e = refl
-  turn-found f g (x ∷ xs) e = go (eqb (key x) n) refl (turn-found f g xs)
-    where
-      go : (b : Bool) → eqb (key x) n ≡ b → (((y : A) → look key n xs ≡ one y → f y ≡ g y) → turn key n f xs ≡ turn key n g xs) → pick b (put (f x) xs) (x ∷ turn key n f xs) ≡ pick b (put (g x) xs) (x ∷ turn key n g xs)
-      go true p ih = ap (λ (c : Change A). put c xs) (e x (rw p))
-      go false p ih = ap (λ t. x ∷ t) (ih (λ y q. e y (rw p q)))
-
-  pub turn-now : (xs : List A) → turn key n now xs ≡ xs
-  unfolding turn
-  turn-now [] = refl
-  turn-now (x ∷ xs) = go (eqb (key x) n) (turn-now xs)
-    where
-      go : (b : Bool) → turn key n now xs ≡ xs → pick b (x ∷ xs) (x ∷ turn key n now xs) ≡ x ∷ xs
-      go true ih = refl
-      go false ih = ap (λ t. x ∷ t) ih
-
-  pub turn-same : (f : A → Change A) (xs : List A) → ((x : A) → look key n xs ≡ one x → f x ≡ now x) → turn key n f xs ≡ xs
-  turn-same f xs e = turn-found f now xs e ∙ turn-now xs
-
 -- ---- two turns
 
 -- what is put in the place of one is not the one that has another number

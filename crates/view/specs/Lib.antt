@@ -1,4 +1,3 @@
-pub mod Views
 pub mod Events
 pub mod Steps
 pub mod Orders

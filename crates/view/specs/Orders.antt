@@ -11,7 +11,7 @@ use Rattle.subscription.specs.declared.SubscribeError.{SubscribeError}
 use Rattle.subscription.specs.declared.SubscribeDone.{SubscribeDone}
 use Rattle.subscription.specs.declared.SubscribeUpdate.{SubscribeUpdate}
 use Rattle.subscription.specs.declared.SubscriptionMessage.the-variants.{SubscribeUpdate as ASubscribeUpdate, SubscribeOk as ASubscribeOk, SubscribeError as ASubscribeError, Unsubscribe as AUnsubscribe, SubscribeDone as ASubscribeDone, SubscribesBlocked as ASubscribesBlocked}
-use Rattle.view.specs.Views.{View}
+use Rattle.ledger.specs.Views.{View}
 use Rattle.view.specs.Events.{Event}
 use Rattle.view.specs.Steps.{viewStep}
 

@@ -7,7 +7,7 @@ use native.Mathlib.Omega.{arith}
 use borrow.Author.Needs.{needs}
 use lib.ListN.{length}
 use Rattle.layout.proofs.Steps.{kept, broken}
-use Rattle.ledger.specs.Steps.{changed}
+use Rattle.ledger.specs.Arrays.{changed}
 use Rattle.ledger.proofs.Running.{Along, begins, within, stopped-turn, missed-turn, counted-turn, fits, inside, ends, same-long, not-one, no-room}
 use Rattle.ledger.proofs.Ledger.arrivals.Statement.{statement}
 use Rattle.ledger.proofs.Ledger.arrivals.Tie as tie

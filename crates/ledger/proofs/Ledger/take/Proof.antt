@@ -1,6 +1,7 @@
 -- `take` meets its contract. Assumes nothing.
 use mathlib.Core.Path.{refl, ap}
 use borrow.Author.Needs.{needs}
+use Rattle.ledger.specs.Views.{viewOf}
 use Rattle.ledger.specs.Steps.{subscriptionStep, messageStep}
 use Rattle.ledger.proofs.Taking.{of-kind, not-kept}
 use Rattle.ledger.proofs.Ledger.take.Statement.{statement}
@@ -39,8 +40,8 @@ take-spec =
     (λ c. of-kind _ _ (c .subscribe-done .ensures) (c .before .before .before .before .before .m .given .1) (c .before .before .x4 .given .1))
     (λ c. of-kind _ _ (c .unsubscribe .ensures) (c .before .before .before .before .before .m .given .1) (c .before .before .x5 .given .1))
     (λ c. of-kind _ _ (c .max-subscribe-id .ensures) (c .before .before .before .before .before .m .given .1) (c .before .before .x6 .given .1))
-    (λ c. not-kept _ _ (c .other .ensures) (ap (subscriptionStep _) (c .before .enum-told .given .1)) (c .before .before .before .before .m .given .1))
-    (λ c. not-kept _ _ (c .other2 .ensures) (ap (subscriptionStep _) (c .before .enum-told2 .given .1)) (c .before .before .before .before .m .given .1))
-    (λ c. not-kept _ _ (c .other3 .ensures) (ap (messageStep _) (c .before .enum-told3 .given .1)) refl)
-    (λ c. not-kept _ _ (c .other4 .ensures) (ap (messageStep _) (c .before .enum-told4 .given .1)) refl)
-    (λ c. not-kept _ _ (c .other5 .ensures) (ap (messageStep _) (c .before .enum-told5 .given .1)) refl))
+    (λ c. not-kept _ _ (c .other .ensures) (ap (subscriptionStep (viewOf _)) (c .before .enum-told .given .1)) (c .before .before .before .before .m .given .1))
+    (λ c. not-kept _ _ (c .other2 .ensures) (ap (subscriptionStep (viewOf _)) (c .before .enum-told2 .given .1)) (c .before .before .before .before .m .given .1))
+    (λ c. not-kept _ _ (c .other3 .ensures) (ap (messageStep (viewOf _)) (c .before .enum-told3 .given .1)) refl)
+    (λ c. not-kept _ _ (c .other4 .ensures) (ap (messageStep (viewOf _)) (c .before .enum-told4 .given .1)) refl)
+    (λ c. not-kept _ _ (c .other5 .ensures) (ap (messageStep (viewOf _)) (c .before .enum-told5 .given .1)) refl))

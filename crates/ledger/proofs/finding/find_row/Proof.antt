@@ -5,7 +5,7 @@ use native.Mathlib.Omega.{arith}
 use borrow.Author.Needs.{needs}
 use lib.ListN.{length, length-map}
 use Rattle.ledger.specs.Ledgers.{held}
-use Rattle.ledger.specs.Steps.{keyOf}
+use Rattle.ledger.specs.Arrays.{keyOf}
 use Rattle.ledger.proofs.Looking.{Looking, looks, is-here, not-here, nowhere}
 use Rattle.ledger.proofs.finding.find_row.Statement.{statement}
 use Rattle.ledger.proofs.finding.find_row.Tie as tie
@@ -27,7 +27,7 @@ find-row-spec =
     (tie.spec
     Inv-loop μ-loop
     (λ c. looks _ _ _ _) (λ c. search needs) (λ c. search needs) (λ c κs. search needs)
-    (λ c. is-here _ _ _ _ _ (omega (arith, places (c .before .before .before .before .before))) (c .before .before .before .before .loop .inv) _ (omega arith) (c .before .number .ensures) (c .if1 .taken))
+    (λ c. is-here _ _ _ _ _ (omega (arith, places (c .before .before .before .before .before))) (c .before .before .before .before .loop .inv) _ (omega arith) (c .before .key-of .ensures) (c .if1 .taken))
     (λ c. search needs) (λ c. search needs)
-    (λ c. not-here _ _ _ _ _ (omega (arith, places (c .before .before .before .before .before))) (c .before .before .before .before .loop .inv) _ (omega arith) (c .before .number .ensures) (c .if1 .left))
+    (λ c. not-here _ _ _ _ _ (omega (arith, places (c .before .before .before .before .before))) (c .before .before .before .before .loop .inv) _ (omega arith) (c .before .key-of .ensures) (c .if1 .left))
     (λ c. nowhere _ _ _ _ _ (omega (arith, places (c .before .before))) (c .before .loop .inv) (omega arith)))

@@ -1,7 +1,7 @@
 -- `other` meets its contract. Assumes nothing.
 use borrow.Author.Needs.{needs}
-use mathlib.Core.Path.{refl}
-use Rattle.ledger.proofs.Gates.{stopped, went}
+use Rattle.ledger.proofs.Gates.{stopped, went, went-ledger}
+use Rattle.ledger.proofs.Taking.{stays}
 use Rattle.ledger.proofs.messages.other.Statement.{statement}
 use Rattle.ledger.proofs.messages.other.Tie as tie
 
@@ -14,4 +14,5 @@ other-spec =
     (λ c. search needs)
     (λ c. stopped _ (c .before .before .before .before .is-sound .ensures) (c .before .before .before .gate .ensures) _ (c .before .answer .given .1))
     (λ c. search needs)
-    (λ c. went _ (c .before .before .before .is-sound .ensures) (c .before .before .gate .ensures) (c .enum-told .given .1) refl))
+    (λ c. went _ (c .before .before .before .is-sound .ensures) (c .before .before .gate .ensures) (c .enum-told .given .1)
+    (stays _ (went-ledger _ (c .before .before .before .is-sound .ensures) (c .before .before .gate .ensures) (c .enum-told .given .1)) 9)))

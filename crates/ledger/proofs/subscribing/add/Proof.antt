@@ -1,6 +1,7 @@
 -- `add` meets its contract. Assumes nothing.
 use borrow.Author.Needs.{needs}
 use native.Mathlib.Omega.{arith}
+use Rattle.ledger.proofs.Facts.{parts, ledger-used}
 use Rattle.ledger.proofs.Taking.{not-higher, not-lower, alias-held, is-full, is-added}
 use Rattle.ledger.proofs.subscribing.add.Statement.{statement}
 use Rattle.ledger.proofs.subscribing.add.Tie as tie
@@ -11,16 +12,16 @@ add-spec =
     (tie.spec
     (λ c κs. search needs)
     (λ c κs. search needs)
-    (λ c. not-higher _ _ (c .before .before .before .before .is-own .ensures) (c .before .if1 .taken) (c .break-rule .ensures))
+    (λ c. not-higher _ (c .before .before .before .before .before .pre) _ (c .before .before .before .before .is-own .ensures) (c .before .if1 .taken) (c .break-rule .ensures))
     (λ c κs. search needs)
-    (λ c. not-lower _ _ (c .before .before .before .before .before .before .before .is-own .ensures) (c .before .before .before .before .if1 .left) (c .before .if2 .taken) (c .break-rule2 .ensures))
-    (λ c κs. search needs)
+    (λ c. not-lower _ (c .before .before .before .before .before .before .before .before .pre) _ (c .before .before .before .before .before .before .before .is-own .ensures) (c .before .before .before .before .if1 .left) (c .before .if2 .taken) (c .break-rule2 .ensures))
+    (λ c κs. ledger-used _ (c .before .before .before .before .before .before .before .pre))
     (λ c. search needs)
     (λ c κs. search needs)
-    (λ c. alias-held _ _ (c .before .before .before .before .before .before .before .before .before .before .is-own .ensures) (c .before .before .before .before .before .before .before .if1 .left) (c .before .before .before .before .if2 .left) (c .before .before .before .find-row .ensures) (c .before .enum-told .given .1) (c .break-rule3 .ensures))
+    (λ c. alias-held _ (c .before .before .before .before .before .before .before .before .before .before .before .pre) _ (c .before .before .before .before .before .before .before .before .before .before .is-own .ensures) (c .before .before .before .before .before .before .before .if1 .left) (c .before .before .before .before .if2 .left) (c .before .before .before .find-row .ensures) (c .before .enum-told .given .1) (c .break-rule3 .ensures))
     (λ c. search needs)
-    (λ c. is-full _ _ (c .before .before .before .before .before .before .before .before .before .before .before .is-own .ensures) (c .before .before .before .before .before .before .before .before .if1 .left) (c .before .before .before .before .before .if2 .left) (c .before .before .before .before .find-row .ensures) (c .before .before .enum-told2 .given .1) (c .if3 .taken))
+    (λ c. is-full _ (c .before .before .before .before .before .before .before .before .before .before .before .before .pre) _ (c .before .before .before .before .before .before .before .before .before .before .before .is-own .ensures) (c .before .before .before .before .before .before .before .before .if1 .left) (c .before .before .before .before .before .if2 .left) (c .before .before .before .before .find-row .ensures) (c .before .before .enum-told2 .given .1) (c .if3 .taken))
     (λ c κs. search needs)
     (λ c κs. search needs)
-    (λ c κs. (omega arith, rw (c .pending .ensures) (c .before .before .before .before .before .before .before .if2 .left)))
-    (λ c. is-added _ _ (c .before .before .before .before .before .before .before .before .before .before .before .before .before .before .is-own .ensures) (c .before .before .before .before .before .before .before .before .before .before .before .if1 .left) (c .before .before .before .before .before .before .before .before .if2 .left) (c .before .before .before .before .before .before .before .find-row .ensures) (c .before .before .before .before .before .enum-told2 .given .1) (c .before .before .before .if3 .left) (c .before .before .asked .ensures) (c .before .pending .ensures) (c .with-last .ensures)))
+    (λ c κs. (omega (arith, parts _ (c .before .before .before .before .before .before .before .before .before .before .before .before .before .before .pre) .within .few), rw (c .pending .ensures) (c .before .before .before .before .before .before .before .if2 .left)))
+    (λ c. is-added _ (c .before .before .before .before .before .before .before .before .before .before .before .before .before .before .before .pre) _ (c .before .before .before .before .before .before .before .before .before .before .before .before .before .before .is-own .ensures) (c .before .before .before .before .before .before .before .before .before .before .before .if1 .left) (c .before .before .before .before .before .before .before .before .if2 .left) (c .before .before .before .before .before .before .before .find-row .ensures) (c .before .before .before .before .before .enum-told2 .given .1) (c .before .before .before .if3 .left) (c .before .before .asked .ensures) (c .before .pending .ensures) (c .with-last .ensures)))

@@ -3,6 +3,7 @@ use borrow.Author.Needs.{needs}
 use mathlib.Core.Path.{_∙_}
 use borrow.Author.Tests.{le-leb, lt-leb}
 use Rattle.ledger.specs.Steps.{noRow}
+use Rattle.ledger.proofs.Taking.{stays}
 use Rattle.ledger.proofs.subscribing.no_row.Statement.{statement}
 use Rattle.ledger.proofs.subscribing.no_row.Tie as tie
 
@@ -11,7 +12,7 @@ unfolding noRow
 no-row-spec =
     tie.close
     (tie.spec
-    (λ c. rw (lt-leb _ _ (c .if1 .taken)))
+    (λ c. stays _ (c .before .before .pre) _ ∙ rw (lt-leb _ _ (c .if1 .taken)))
     (λ c κs. search needs)
     (λ c κs. search needs)
     (λ c. c .break-rule .ensures ∙ rw (c .before .is-own .ensures, le-leb _ _ (c .before .before .if1 .left))))

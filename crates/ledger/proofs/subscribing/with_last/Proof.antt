@@ -1,7 +1,7 @@
 -- `with_last` meets its contract. Assumes nothing.
 use borrow.Author.Needs.{needs}
 use mathlib.Core.Path.{refl}
-use Rattle.ledger.specs.Steps.{added}
+use Rattle.ledger.specs.Arrays.{added}
 use Rattle.ledger.proofs.subscribing.with_last.Statement.{statement}
 use Rattle.ledger.proofs.subscribing.with_last.Tie as tie
 

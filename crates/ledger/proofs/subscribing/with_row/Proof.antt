@@ -1,7 +1,7 @@
 -- `with_row` meets its contract. Assumes nothing.
 use borrow.Author.Needs.{needs}
 use mathlib.Core.Path.{refl}
-use Rattle.ledger.specs.Steps.{changed}
+use Rattle.ledger.specs.Arrays.{changed}
 use Rattle.ledger.proofs.subscribing.with_row.Statement.{statement}
 use Rattle.ledger.proofs.subscribing.with_row.Tie as tie
 

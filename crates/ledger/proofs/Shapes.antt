@@ -1,4 +1,4 @@
--- A ledger is known by its rows in use and the numbers beside them: all other rows are unused. Assumes nothing.
+-- A ledger is the one that has its view: the rows in use stand first, and every other place is unused. Assumes nothing.
 use Prim.Native.Nat.{ℕ, _-_, _≤_}
 use mathlib.Core.Path.{_≡_, refl, sym, ap, _∙_}
 use mathlib.Core.Bool.{true, not}
@@ -7,6 +7,7 @@ use native.Mathlib.Omega.{arith}
 use borrow.Author.Tests.{eqb-true}
 use lib.Dec.{eqb}
 use lib.ListN.{length, take, drop, replicate, take-append-drop, length-drop}
+use Rattle.common.specs.Lists.{upTo}
 use Rattle.common.proofs.Tests.{both-first, both-second}
 use Rattle.row.specs.Ranges.{isKnown}
 use Rattle.row.specs.Rows.{unusedRow, isPending, isNowhere, isUnused}
@@ -17,10 +18,15 @@ use Rattle.row.specs.declared.Range.the-variants.{Unknown, Open, Closed}
 use Rattle.row.specs.declared.Greatest.{Greatest}
 use Rattle.row.specs.declared.Greatest.the-variants.{Nowhere, At}
 use Rattle.row.specs.declared.Row.{Row}
-use Rattle.ledger.specs.Ledgers.{held, allUnused}
+use Rattle.ledger.specs.Ledgers.{mostRows, held, allUnused}
+use Rattle.ledger.specs.Answers.{Came, same}
+use Rattle.ledger.specs.Views.{Seen, viewOf, ledgerOf, cameOf, seenOf}
+use Rattle.ledger.specs.Steps.{unchanged}
 use Rattle.ledger.specs.declared.Ledger.{Ledger}
 use Rattle.ledger.proofs.Facts.{IsLedger}
 use Rattle.ledger.proofs.Parts.{held-long}
+
+-- ---- there is one unused row
 
 is-pending : (s : State) → isPending s ≡ true → s ≡ Pending
 unfolding isPending
@@ -38,7 +44,6 @@ unfolding isNowhere
 is-nowhere Nowhere e = refl
 is-nowhere (At p) e = absurd (let z : _≡_ {A = ℕ} 0 1 = cc in omega arith)
 
--- there is one unused row,
 pub unused-is : (r : Row) → isUnused r ≡ true → r ≡ unusedRow
 unfolding isUnused
 unused-is r e =
@@ -65,34 +70,48 @@ all-unused-are [] e = refl
 all-unused-are (r ∷ rs) e =
     λ i. unused-is r (both-first (isUnused r) (allUnused rs) e) i ∷ all-unused-are rs (both-second (isUnused r) (allUnused rs) e) i
 
--- so the rows are those in use, and as many unused ones as there is room for
-pub rows-are : (l : Ledger) → IsLedger l → l .rows ≡ held l ++ replicate (64 - length (held l)) unusedRow
-unfolding held
-rows-are l w =
-    let few : l .used ≤ 64 = omega (arith, w .within .few, w .within .room) in
-    let used : length (take (l .used) (l .rows)) ≡ l .used = held-long l (w .long) few in
-    let left : length (drop (l .used) (l .rows)) ≡ 64 - length (take (l .used) (l .rows)) =
-    length-drop (l .used) (l .rows) ∙ (λ i. w .long i - sym used i)
-    in
-    sym (take-append-drop (l .used) (l .rows))
-    ∙ ap (λ (t : List Row). take (l .used) (l .rows) ++ t)
-    (all-unused-are (drop (l .used) (l .rows)) (w .rest) ∙ ap (λ (n : ℕ). replicate n unusedRow) left)
+-- ---- the places of a ledger
 
--- two ledgers with the same rows in use, and the same beside them, are the same
-pub same-ledger : (l m : Ledger) → IsLedger l → IsLedger m → held l ≡ held m → l .part ≡ m .part → l .session ≡ m .session → l .capacity ≡ m .capacity → l .maximum ≡ m .maximum → l .next ≡ m .next → l ≡ m
-same-ledger l m v w h part session capacity maximum next =
-    let rows : l .rows ≡ m .rows =
-    rows-are l v ∙ ap (λ (rs : List Row). rs ++ replicate (64 - length rs) unusedRow) h ∙ sym (rows-are m w)
-    in
-    let long : length (held l) ≡ l .used = held-long l (v .long) (omega (arith, v .within .few, v .within .room)) in
-    let long′ : length (held m) ≡ m .used = held-long m (w .long) (omega (arith, w .within .few, w .within .room)) in
-    let used : l .used ≡ m .used = sym long ∙ ap length h ∙ long′ in
-    λ i. record {
-      rows = rows i;
-      part = part i;
-      session = session i;
-      capacity = capacity i;
-      maximum = maximum i;
-      next = next i;
-      used = used i;
-    }
+-- there are as many as a ledger has, those in use are among them, and the others hold the unused row
+pub record Shaped (rows : List Row) (used : ℕ) : Type 0 where
+  pub long : length rows ≡ mostRows
+  pub few : used ≤ mostRows
+  pub rest : allUnused (drop used rows) ≡ true
+
+pub shaped : (l : Ledger) → IsLedger l → Shaped (l .rows) (l .used)
+shaped l w = record { long = w .long; few = omega (arith, w .within .few, w .within .room); rest = w .rest }
+
+module _ (l : Ledger) (h : Shaped (l .rows) (l .used)) where
+  pub used-is : length (held l) ≡ l .used
+  used-is = held-long l (h .long) (h .few)
+
+  rows-are : upTo mostRows unusedRow (held l) ≡ l .rows
+  unfolding held upTo
+  rows-are =
+      let left : length (drop (l .used) (l .rows)) ≡ mostRows - length (take (l .used) (l .rows)) =
+      length-drop (l .used) (l .rows) ∙ (λ i. h .long i - sym used-is i)
+      in
+      sym
+      (sym (take-append-drop (l .used) (l .rows))
+      ∙ ap (λ (t : List Row). take (l .used) (l .rows) ++ t)
+      (all-unused-are (drop (l .used) (l .rows)) (h .rest) ∙ ap (λ (n : ℕ). replicate n unusedRow) left))
+
+  -- the ledger that has the view of a ledger is this one
+  pub ledger-is : ledgerOf (viewOf l) ≡ l
+  ledger-is = λ i. record {
+    rows = rows-are i;
+    part = l .part;
+    session = l .session;
+    capacity = l .capacity;
+    maximum = l .maximum;
+    next = l .next;
+    used = used-is i;
+  }
+
+  -- so an answer that leaves the view leaves the ledger
+  pub same-kept : (number : ℕ) → same l number ≡ cameOf (unchanged (viewOf l) number)
+  same-kept number = ap (λ (k : Ledger). same k number) (sym ledger-is)
+
+-- what a call comes to is kept as it is seen
+pub kept-as : (c : Came) → Shaped (c .next .rows) (c .next .used) → {s : Seen} → seenOf c ≡ s → c ≡ cameOf s
+kept-as c h e = (λ i. record { says = c .says; next = sym (ledger-is (c .next) h) i }) ∙ ap cameOf e
