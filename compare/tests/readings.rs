@@ -1,6 +1,7 @@
-//! The project's readings of what the documents leave open, each `ex:` line as
-//! a row of a table; 01's lines checked on the blackboard and its report;
-//! RFC 9000's sample integers; 004's worked examples.
+//! How the project reads what the documents leave open: the example lines of
+//! docs/DECISIONS.md, Part I, each as a row of a table under its label there;
+//! 01's lines checked on the blackboard and its report; RFC 9000's sample
+//! integers; 004's worked examples.
 
 use second::answer::{BODY, FORBIDDEN, SHORT, SIZE};
 use second::fields::{Namespace, Parameters, Track, Versions};
@@ -664,7 +665,7 @@ fn starts_and_steps() {
             "8, 8, 11, 8, 8",
         ),
         ("start 0 64 10; other GOAWAY; malformed; other GOAWAY", "8, 9, 13 R1, 10"),
-        // a count of entries is a number of the message
+        // F7: a count of entries is a number of the message
         (
             "start 0 64 10; subscribe 3 7 1 4 5 6 7 4611686018427387904; subscribe 3 7 1 4 5 6 7 4611686018427387903",
             "8, 5, 8",
