@@ -16,12 +16,17 @@ fn main() -> ExitCode {
     }
 }
 
-/// Empty lines and lines that begin with `#` are passed over.
+/// A line that begins with `#` is a heading and is printed as it is, so that
+/// cases and answers can be read side by side. Empty lines are passed over.
 fn run() -> io::Result<()> {
     let mut out = BufWriter::new(io::stdout().lock());
     for (at, line) in io::stdin().lock().lines().enumerate() {
         let line = line?;
-        if line.is_empty() || line.starts_with('#') {
+        if line.is_empty() {
+            continue;
+        }
+        if line.starts_with('#') {
+            writeln!(out, "{line}")?;
             continue;
         }
         let Some(answer) = cases::answer_line(&line) else {

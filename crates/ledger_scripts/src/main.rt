@@ -43,7 +43,7 @@ fn part(n: u64) -> Part {
     Part::Publisher
 }
 
-// A part of no bytes, and so many entries of no bytes: of both the ledger looks at the numbers alone.
+// A part of no bytes, and entries of no bytes: of both the ledger looks at the numbers alone.
 fn no_span() -> Span {
     Span { start: 0, end: 0 }
 }
@@ -56,14 +56,24 @@ fn entries(count: u64) -> Entries {
     }
 }
 
+// Each subscription asks for a track of its own, which its ID names: one namespace field, and a name of one byte that
+// stands where the ID says.
+fn track(id: u64) -> Track {
+    let at = (id % 4096) as usize;
+    Track {
+        namespace: entries(1),
+        name: Span {
+            start: at,
+            end: at + 1,
+        },
+    }
+}
+
 fn subscribe(l: Ledger, n: [u64; 8], filter: Filter) -> Taken {
     l.subscribe(Subscribe {
         id: n[0],
         alias: n[1],
-        track: Track {
-            namespace: entries(1),
-            name: no_span(),
-        },
+        track: track(n[0]),
         priority: 0,
         order: (n[2] % 256) as u8,
         filter,

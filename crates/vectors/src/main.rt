@@ -1,7 +1,7 @@
-// Answers cases: each line of the file `cases` is the name of a reader and bytes in hexadecimal. For each a line is
-// printed: the number that is answered, and behind a 0 the bytes used and the shortest form; for an integer its number
-// and the bytes used; for the name of a message's track the offsets of its bytes; for a trace its report, or what each
-// field is answered, with ` /` for each newline.
+// Answers cases: each line of the file `cases` is a heading, or the name of a reader and bytes in hexadecimal. For each
+// case a line is printed: the number that is answered, and after a 0 the bytes used and the shortest form; for an
+// integer its number and the bytes used; for the name of a message's track the offsets of its bytes; for a trace its
+// report, or what each field is answered, with ` /` for each newline.
 ghost use mathlib.Core.Path.{_≡_};
 ghost use Prim.Native.Nat.{_≤_};
 ghost use lib.ListN.{length};
@@ -264,40 +264,58 @@ fn say_name(s: &[u8]) {
 // Has bytes answered by the reader of this name.
 fn answer(word: &[u8], s: &[u8]) {
     if is_same(word, b"integer") {
-        say_integer(s);
+        return say_integer(s);
     }
     if is_same(word, b"control") {
-        say_control(s);
+        return say_control(s);
     }
     if is_same(word, b"name") {
-        say_name(s);
+        return say_name(s);
     }
     if is_same(word, b"stream") {
-        say_stream(s);
+        return say_stream(s);
     }
     if is_same(word, b"datagram") {
-        say_datagram(s);
+        return say_datagram(s);
     }
     if is_same(word, b"subobj") {
-        say_subgroup_object(s);
+        return say_subgroup_object(s);
     }
     if is_same(word, b"fetchobj") {
-        say_fetch_object(s);
+        return say_fetch_object(s);
     }
     if is_same(word, b"trace") {
-        say_report(s);
+        return say_report(s);
     }
     if is_same(word, b"answers") {
-        say_answers(s);
+        return say_answers(s);
     }
+    say(b"no reader has this name\n");
 }
 
-// A line has room for 2,048 bytes.
-fn answer_line(line: &[u8]) {
+fn is_heading(line: &[u8]) -> bool {
+    if line.len() == 0 {
+        return false;
+    }
+    line[0] == b'#'
+}
+
+// A case has room for 2,048 bytes.
+fn answer_case(line: &[u8]) {
     let mut bytes = [0u8; 2048];
     let end = find(line, 0, b' ');
     let n = decode(&line[end..], &mut bytes);
     answer(&line[..end], &bytes[..n]);
+}
+
+// A heading is printed as it is, so that cases and answers can be read side by side.
+fn answer_line(line: &[u8]) {
+    if is_heading(line) {
+        say(line);
+        say(b"\n");
+        return;
+    }
+    answer_case(line);
 }
 
 // Takes the text apart, line by line. What stands after its last line's end is not answered.
@@ -318,7 +336,7 @@ fn main() {
     let mut text = [0u8; 262144];
     let fd = os::open_read(b"cases");
     if fd < 0 {
-        os::fail(b"lines: cases");
+        os::fail(b"vectors: cases");
         return;
     }
     let n = io::read_full(fd, &mut text);
