@@ -12,7 +12,7 @@ use borrow.Author.Tests.{lt-ltb}
 use Rattle.integer.specs.Integer.{encOf, greatest}
 use Rattle.integer.proofs.Laws.{round-trip}
 use Rattle.field.specs.Outcome.{whole}
-use Rattle.field.specs.Entries.{size, numberAt, textAt, numberedAt, entryAt, mostOf, entriesAt, few, Listed, listAt}
+use Rattle.field.specs.Entries.{longestTrack, size, numberAt, textAt, numberedAt, entryAt, mostOf, entriesAt, few, Listed, listAt}
 use Rattle.field.specs.Fields.{FieldForm, integer, byte, bytes, list, track, fieldAt}
 use Rattle.field.specs.Value.{part, Item, item, itemsOf, total, Value, number, octet, text, items, fullName, contents, mean, encText, encItem, encItems, encList, encField}
 use Rattle.field.specs.declared.Span.{Span}
@@ -158,15 +158,15 @@ fit-little (aField z h) = h
 fit-little (aParameter n h) = h
 fit-little (aVersion n h) = omega arith
 
--- so many bytes more are not too many: in a namespace there are at most 4,096
-fit-most : (kind : Kind) (held : ℕ) {n : ℕ} → n ≤ greatest → (kind ≡ Namespace → held + n ≤ 4_096) → n ≤ mostOf true kind held
+-- as many bytes more are not too many: in a namespace there are at most `longestTrack`
+fit-most : (kind : Kind) (held : ℕ) {n : ℕ} → n ≤ greatest → (kind ≡ Namespace → held + n ≤ longestTrack) → n ≤ mostOf true kind held
 unfolding mostOf
 fit-most Namespace held h room = omega (arith, room refl)
 fit-most Parameters held h room = h
 fit-most Versions held h room = h
 
 -- as many as there are items are read, up to their end, and hold the bytes that the items hold
-pub entries-back : (kind : Kind) {is : List Item} (s : List ℕ) (held : ℕ) {at : ℕ} {rest : List ℕ} → AllFit kind is → (kind ≡ Namespace → held + total is ≤ 4_096)
+pub entries-back : (kind : Kind) {is : List Item} (s : List ℕ) (held : ℕ) {at : ℕ} {rest : List ℕ} → AllFit kind is → (kind ≡ Namespace → held + total is ≤ longestTrack)
     → From s at (encItems kind is) rest → entriesAt true kind (length is) held s at ≡ whole (held + total is) (at + length (encItems kind is))
 unfolding entriesAt encItems total
 entries-back kind s held {at} none room f = rw (add-zero held, add-zero at)
@@ -194,7 +194,7 @@ pub record ListFit (kind : Kind) (is : List Item) (also : ℕ) : Type 0 where
   pub countable : length is ≤ greatest
   pub few-enough : few kind (length is) ≡ true
   pub all-fit : AllFit kind is
-  pub room : kind ≡ Namespace → total is + also ≤ 4_096
+  pub room : kind ≡ Namespace → total is + also ≤ longestTrack
 
 -- what is found where it stands
 abbrev pub listed : Kind → ℕ → List Item → Listed
@@ -263,6 +263,6 @@ track-field s {is} name {at} h f =
     let g = behind xs ys f in
     record {
       found = Tracked (record { namespace = listed Namespace at is .entries; name = textSpan next name });
-      reads = rw (list-back Namespace s h (front xs ys f), text-back (4_096 - total is) s name (omega arith) (omega arith) g, further at xs ys);
+      reads = rw (list-back Namespace s h (front xs ys f), text-back (longestTrack - total is) s name (omega arith) (omega arith) g, further at xs ys);
       means = ap₂ fullName (list-items Namespace s h (front xs ys f)) (text-part s name g);
     }

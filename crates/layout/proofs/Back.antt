@@ -12,7 +12,7 @@ use borrow.Author.Tests.{leb-true, eqb-true}
 use Rattle.common.specs.Choice.{pick, both}
 use Rattle.integer.specs.Integer.{greatest}
 use Rattle.field.specs.Outcome.{whole}
-use Rattle.field.specs.Entries.{few}
+use Rattle.field.specs.Entries.{longestTrack, few}
 use Rattle.field.specs.Fields.{FieldForm, integer, byte, bytes, list, track}
 use Rattle.field.specs.Value.{Value, number, octet, text, items, fullName, Item, total, mean, encField, encode}
 use Rattle.field.specs.declared.Kind.{Kind}
@@ -56,9 +56,9 @@ items-fit kind (i ∷ is) h =
     more (item-fit kind i (p .0)) (items-fit kind is (p .1))
 
 -- in a namespace there are at most 4,096 bytes,
-within-room : (kind : Kind) (held : ℕ) → within kind held ≡ true → kind ≡ Namespace → held ≤ 4_096
+within-room : (kind : Kind) (held : ℕ) → within kind held ≡ true → kind ≡ Namespace → held ≤ longestTrack
 unfolding within
-within-room kind held h e = leb-true held 4_096 (rw e at h)
+within-room kind held h e = leb-true held longestTrack (rw e at h)
 
 -- and a good list can be written and is not over a size
 pub list-fit : (kind : Kind) (is : List Item) (also : ℕ) → goodList kind is also ≡ true → ListFit kind is also

@@ -7,7 +7,7 @@ use native.Mathlib.Omega.{arith}
 use borrow.Author.Tests.{le-leb, eq-eqb}
 use Rattle.integer.specs.Integer.{greatest}
 use Rattle.field.specs.Outcome.{whole}
-use Rattle.field.specs.Entries.{size, numberAt, entryAt, mostOf, entriesAt, Listed, listAt}
+use Rattle.field.specs.Entries.{longestTrack, size, numberAt, entryAt, mostOf, entriesAt, Listed, listAt}
 use Rattle.field.specs.Fields.{FieldForm}
 use Rattle.field.specs.Value.{item, itemsOf, contents, mean}
 use Rattle.field.specs.declared.Entry.{Entry}
@@ -68,7 +68,7 @@ good-list kind s at also {l} h k =
 -- where there is no name, its entries alone are within the size
 alone : (kind : Kind) (s : List ℕ) (at : ℕ) {l : Listed} {end : ℕ} → listAt kind s at ≡ whole l end → within kind (l .held + 0) ≡ true
 unfolding within
-alone Namespace s at {l} h = le-leb (l .held + 0) 4_096 (omega (arith, held-small s at h))
+alone Namespace s at {l} h = le-leb (l .held + 0) longestTrack (omega (arith, held-small s at h))
 alone Parameters s at h = refl
 alone Versions s at h = refl
 
@@ -92,6 +92,6 @@ field-good {s} {at} (some-bytes {p = p} e) =
 field-good {s} {at} (a-list {kind = kind} e) =
     record { as-asked = refl; hands-on = refl; allowed = good-list kind s at 0 e (alone kind s at e) }
 field-good {s} {at} (a-track {l = l} {next = next} {name = name} e f) =
-    let t = text-at (4_096 - l .held) s next f in
-    let small : l .held + size name ≤ 4_096 = omega (arith, held-small s at e, t .short) in
-    record { as-asked = refl; hands-on = refl; allowed = rw (length-part s name (t .within)) (good-list Namespace s at (size name) e (le-leb (l .held + size name) 4_096 small)) }
+    let t = text-at (longestTrack - l .held) s next f in
+    let small : l .held + size name ≤ longestTrack = omega (arith, held-small s at e, t .short) in
+    record { as-asked = refl; hands-on = refl; allowed = rw (length-part s name (t .within)) (good-list Namespace s at (size name) e (le-leb (l .held + size name) longestTrack small)) }

@@ -23,6 +23,14 @@ use Rattle.message.specs.declared.Reading.the-variants.{Whole, More, Unk
 abbrev pub longestBody : ℕ
 longestBody = 16_383
 
+-- the longest message whose body takes up to a limit: its body, after a Type and a Length of eight bytes each
+abbrev pub longestUpTo : ℕ → ℕ
+longestUpTo limit = 8 + 8 + limit
+
+-- and with 01's limit: 16,399 bytes, which always decide
+abbrev pub longestMessage : ℕ
+longestMessage = longestUpTo longestBody
+
 -- a body that ends at `end` must be filled: 4 where its fields end before, or are cut
 abbrev pub filledBy : ℕ → Outcome Typed → Answer Typed
 filledBy end (whole m last) = guard (eqb last end) (refused 4) (answered m end)

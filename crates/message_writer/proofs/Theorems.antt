@@ -21,7 +21,7 @@ use Rattle.encode.specs.Writing.{toldWriting}
 use Rattle.encode.specs.declared.Writing.{Writing}
 use Rattle.types.specs.Table.{known, layoutOf}
 use Rattle.message.specs.Types.{typedOf}
-use Rattle.message.specs.Reading.{longestBody, readOf, told}
+use Rattle.message.specs.Reading.{longestBody, longestMessage, readOf, told}
 use Rattle.message.specs.Part.{PartOf}
 use Rattle.message.specs.Names.{nameSpan, namedSpan}
 use Rattle.message_writer.specs.Writing.{writeOf}
@@ -34,7 +34,6 @@ use Rattle.message.proofs.Front.{WholeAt}
 use Rattle.message.proofs.Front as front
 use Rattle.message.proofs.Stable as stable
 use Rattle.message.proofs.Numbers as refusals
-use Rattle.message.proofs.Enough.{longestMessage}
 use Rattle.message.proofs.Enough as enough
 use Rattle.message.proofs.Fields as fields
 use Rattle.message_writer.proofs.RoundTrip as round-trip
@@ -64,7 +63,7 @@ module _ (s : List ℕ) where
   more _ = enough.more longestBody s
 
   -- No more than 16,399 bytes are ever wanted.
-  pub decided : longestMessage longestBody ≤ length s → readOf s ≡ refused 1 → ⊥
+  pub decided : longestMessage ≤ length s → readOf s ≡ refused 1 → ⊥
   decided = enough.decided longestBody s
 
   module _ {t : Typed} {used : ℕ} where
