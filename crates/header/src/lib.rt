@@ -15,6 +15,15 @@ pub use objects::read_subgroup_object;
 pub use rules::is_status;
 pub use streams::read_stream;
 
+// The numbers of their types: of a datagram, and of the header of a stream.
+pub const OBJECT_DATAGRAM: u64 = 0x1;
+
+pub const OBJECT_DATAGRAM_STATUS: u64 = 0x2;
+
+pub const SUBGROUP_HEADER: u64 = 0x4;
+
+pub const FETCH_HEADER: u64 = 0x5;
+
 // What stands before the payload of an object datagram, or before its status.
 pub struct ObjectDatagram {
     pub alias: u64,
