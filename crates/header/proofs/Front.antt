@@ -4,10 +4,9 @@ use mathlib.Core.Path.{_≡_, refl, sym, ap, _∙_}
 use mathlib.Core.List.{List, _++_}
 use native.Mathlib.Omega.{arith}
 use Rattle.common.specs.Answer.{Answer, whole as answered, refused}
-use Rattle.field.specs.Outcome.{Outcome, whole, no, answer}
+use Rattle.field.specs.Outcome.{Outcome, whole, no, onFound, answer}
 use Rattle.field.specs.Entries.{numberAt}
 use Rattle.field.specs.Fields.{integer}
-use Rattle.field.specs.Value.{onFound}
 use Rattle.field.specs.declared.Fault.{Fault}
 use Rattle.field.specs.declared.Fault.the-variants.{Cut}
 use Rattle.field.specs.declared.Piece.{Piece}

@@ -6,9 +6,8 @@ use lib.ListN.{length}
 use lib.Dec.{eqb, ltb}
 use Rattle.common.specs.Choice.{pick, both}
 use Rattle.common.specs.Answer.{Answer, whole as answered, refused}
-use Rattle.field.specs.Outcome.{answer}
+use Rattle.field.specs.Outcome.{onFound, answer}
 use Rattle.field.specs.Entries.{numberAt}
-use Rattle.field.specs.Value.{onFound}
 use Rattle.field.specs.declared.Piece.{Piece}
 use Rattle.layout.specs.Layout.{scan}
 use Rattle.layout.specs.Typed.{Typed, typed}

@@ -10,7 +10,7 @@ use Rattle.common.specs.Choice.{guard, pick}
 use Rattle.common.specs.Answer.{number}
 use Rattle.field.specs.Entries.{numberAt}
 use Rattle.field.specs.Fields.{placeAt}
-use Rattle.field.specs.Value.{onFound}
+use Rattle.field.specs.Outcome.{onFound}
 use Rattle.message.specs.Reading.{told, onWhole}
 use Rattle.message.proofs.OneReading.{readingOf}
 use Rattle.message.specs.declared.Reading.{Reading}
