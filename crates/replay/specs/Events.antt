@@ -37,7 +37,8 @@ malformedBy answer = guard (leb 2 answer) Fault (Malformed answer)
 abbrev pub readingBy : List ℕ → Reading → Event
 readingBy value r = onWhole r (λ m used. filling value used (Control m)) (malformedBy (number (told r)))
 
--- the one reading that `told r ≡ readOf value` names
+-- the one reading that `told r ≡ readOf value` names: there is one, and no other (message/proofs/OneReading.antt:
+-- `reading-is`, `reading-only`)
 unfoldable pub controlBy : List ℕ → Event
 controlBy value = readingBy value (readingOf value)
 
