@@ -6,6 +6,7 @@ use mathlib.Core.Bool.{Bool, false, not}
 use lib.ListN.{length}
 use borrow.Author.Tests.{lt-ltb, le-ltb}
 use Rattle.common.specs.Answer.{Answer, whole as answered, refused}
+use Rattle.common.proofs.Tests.{kept}
 use Rattle.field.specs.Outcome.{Outcome, whole, answer}
 use Rattle.field.specs.Fields.{integer, fieldAt}
 use Rattle.field.specs.Told.{toldNumber}
@@ -16,7 +17,7 @@ use Rattle.field.specs.declared.Piece.{Piece}
 use Rattle.field.specs.declared.Piece.the-variants.{Number}
 use Rattle.layout.specs.Layout.{scan}
 use Rattle.layout.specs.Typed.{Typed, led, typed}
-use Rattle.layout.proofs.Steps.{To, Stops, there, is-whole, is-no, number-then, kept}
+use Rattle.layout.proofs.Steps.{To, Stops, there, is-whole, is-no, number-then}
 use Rattle.header.specs.Rules.{isObjectStatus}
 use Rattle.header.specs.Layouts.{objectDatagram, status, datagramStatus, «OBJECT_DATAGRAM_STATUS», datagrams}
 use Rattle.header.specs.Told.{objectPieces, datagramTyped, toldObject}

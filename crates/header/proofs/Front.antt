@@ -2,8 +2,8 @@
 use Prim.Native.Nat.{ℕ}
 use mathlib.Core.Path.{_≡_, refl, sym, ap, _∙_}
 use mathlib.Core.List.{List, _++_}
-use native.Mathlib.Omega.{arith}
 use Rattle.common.specs.Answer.{Answer, whole as answered, refused}
+use Rattle.common.proofs.Cases.{apart}
 use Rattle.field.specs.Outcome.{Outcome, whole, no, onFound, answer}
 use Rattle.field.specs.Entries.{numberAt}
 use Rattle.field.specs.Fields.{integer}
@@ -17,10 +17,6 @@ use Rattle.layout.specs.Typed.{Typed, typed}
 use Rattle.layout.proofs.Stable.{stays}
 use Rattle.header.specs.Layouts.{InTable, listed, unlisted, onListed}
 use Rattle.header.specs.Reading.{headedOf}
-
--- what is whole was not refused
-pub apart : {A : Type 0} {a : A} {used n : ℕ} → refused n ≡ answered a used → ⊥
-apart h = let z : _≡_ {A = ℕ} 0 1 = cc in omega arith
 
 -- what is told whole was read whole
 pub was-whole : {A : Type 0} {a : A} {used : ℕ} (o : Outcome A) → answer 1 o ≡ answered a used → o ≡ whole a used

@@ -4,6 +4,7 @@ use mathlib.Core.Path.{_≡_, refl, sym, ap, _∙_}
 use mathlib.Core.List.{List, _++_}
 use native.Mathlib.Omega.{arith}
 use Rattle.common.specs.Answer.{Answer, refused}
+use Rattle.common.proofs.Cases.{apart}
 use Rattle.field.specs.Outcome.{Outcome, whole, no, faultNumber, answer}
 use Rattle.field.specs.Entries.{numberAt}
 use Rattle.field.specs.Fields.{integer, fieldAt}
@@ -16,7 +17,7 @@ use Rattle.layout.specs.Typed.{Typed, typed}
 use Rattle.layout.proofs.Cuts.{more-decides}
 use Rattle.header.specs.Layouts.{InTable, listed, onListed}
 use Rattle.header.specs.Reading.{headedOf}
-use Rattle.header.proofs.Front.{apart, Judged, no-type, not-listed, by-fields, judged}
+use Rattle.header.proofs.Front.{Judged, no-type, not-listed, by-fields, judged}
 
 -- ---- 1 is the answer for cut fields, and for no others
 

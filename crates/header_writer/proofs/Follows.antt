@@ -8,7 +8,7 @@ use lib.ListN.{length}
 use lib.Dec.{eqb, ltb}
 use borrow.Author.Tests.{ne-eqb, le-ltb}
 use Rattle.common.specs.Answer.{Answer, whole as answered, refused}
-use Rattle.common.proofs.Cases.{pick-by}
+use Rattle.common.proofs.Cases.{pick-by, apart}
 use Rattle.common.specs.Choice.{both}
 use Rattle.common.proofs.Tests.{both-false}
 use Rattle.layout.specs.Typed.{Typed}
@@ -18,7 +18,6 @@ use Rattle.header.specs.Told.{datagramTyped}
 use Rattle.header_writer.specs.Codecs.{takesPayload}
 use Rattle.header.specs.declared.Datagram.{Datagram}
 use Rattle.header.specs.declared.Datagram.the-variants.{Object, Status}
-use Rattle.header.proofs.Front.{apart}
 
 module _ (s : List ℕ) {t : Typed} {used : ℕ} where
   -- a header without a status is whole, whatever follows it,
