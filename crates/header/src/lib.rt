@@ -15,7 +15,7 @@ pub use objects::read_subgroup_object;
 pub use rules::is_status;
 pub use streams::read_stream;
 
-// The numbers of their types: of a datagram, and of the header of a stream.
+// The types of headers, by number: those of a datagram, and those that a stream begins with.
 pub const OBJECT_DATAGRAM: u64 = 0x1;
 
 pub const OBJECT_DATAGRAM_STATUS: u64 = 0x2;
