@@ -31,10 +31,10 @@ as-told P {a} {b} {last} {end} p h =
 
 -- ---- a list
 
--- a count that is allowed, and as many entries
+-- a count that is few enough, and as many entries
 pub record ListAt (kind : Kind) (s : List ℕ) (at : ℕ) (l : Listed) (end : ℕ) : Type 0 where
   pub count-at : numberAt s at ≡ whole (l .entries .count) (l .entries .start)
-  pub allowed : few kind (l .entries .count) ≡ true
+  pub is-few : few kind (l .entries .count) ≡ true
   pub run : entriesAt true kind (l .entries .count) 0 s (l .entries .start) ≡ whole (l .held) (l .entries .end)
   pub ends : end ≡ l .entries .end
 
@@ -46,7 +46,7 @@ list-at kind s at {l} {end} h =
     pick-by (λ r. r ≡ whole l end → ListAt kind s at l end) (few kind (t .found))
     (λ f e.
     let u = steps (entriesAt true kind (t .found) 0 s (t .end)) _ e in
-    as-told (ListAt kind s at) (record { count-at = t .first; allowed = f; run = u .first; ends = refl }) (u .then))
+    as-told (ListAt kind s at) (record { count-at = t .first; is-few = f; run = u .first; ends = refl }) (u .then))
     (λ f e. absurd (let z : _≡_ {A = ℕ} 0 1 = cc in omega arith))
     (t .then)
 

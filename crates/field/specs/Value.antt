@@ -5,7 +5,7 @@ use mathlib.Core.List.{List, [], _∷_, _++_}
 use mathlib.Core.Bool.{Bool}
 use lib.ListN.{length, take, drop}
 use Rattle.integer.specs.Integer.{encOf, greatest}
-use Rattle.field.specs.Outcome.{Outcome, whole, no, andThen}
+use Rattle.field.specs.Outcome.{Outcome, whole, andThen, onFound}
 use Rattle.field.specs.Entries.{size, entryAt, entriesAt}
 use Rattle.field.specs.declared.Span.{Span}
 use Rattle.field.specs.declared.Entry.{Entry}
@@ -32,10 +32,6 @@ abbrev pub item : List ℕ → Entry → Item
 item s e = record { number = e .number; bytes = part s (e .bytes) }
 
 -- count entries from an offset on, by content; none from where one is missing on
-abbrev pub onFound : {A B : Type 0} → Outcome A → (A → ℕ → B) → B → B
-onFound (whole a end) f none = f a end
-onFound (no fault) f none = none
-
 unfoldable pub itemsOf : Kind → ℕ → List ℕ → ℕ → List Item
 itemsOf kind zero s at = []
 itemsOf kind (suc count) s at = onFound (entryAt kind greatest s at) (λ e end. item s e ∷ itemsOf kind count s end) []

@@ -8,7 +8,7 @@ use borrow.Author.Tests.{eqb-true, ne-eqb, not-true, leb-true}
 use lib.Dec.{eqb, leb, ltb}
 use Rattle.common.specs.Choice.{pick}
 use Rattle.common.specs.Lists.{Each}
-use Rattle.layout.proofs.Back.{both-true}
+use Rattle.common.proofs.Tests.{both-each}
 use Rattle.message.specs.declared.Message.the-variants.{Subscription, Fetch, Announce, Session}
 use Rattle.row.specs.Rows.{isRow}
 use Rattle.row.specs.declared.Row.{Row}
@@ -44,16 +44,16 @@ alias-lone : (rs : List Row) → distinct rs ≡ true → Lone aliasOf rs
 unfolding distinct
 alias-lone [] e = tt
 alias-lone (r ∷ rs) e =
-    let (fresh, more) = both-true (not (hasAlias (r .alias) rs)) (distinct rs) e in
+    let (fresh, more) = both-each (not (hasAlias (r .alias) rs)) (distinct rs) e in
     (alias-others (r .alias) rs (not-true (hasAlias (r .alias) rs) fresh), alias-lone rs more)
 
 -- the first of rows that rise, and those behind it
 rising-first : (low next : ℕ) (r : Row) (rs : List Row) → rising low next (r ∷ rs) ≡ true → (low ≤ r .id) × (rising (r .id + 1) next rs ≡ true)
 unfolding rising
 rising-first low next r rs e =
-    let (above, e₁) = both-true (leb low (r .id)) _ e in
-    let (_, e₂) = both-true (ltb (r .id) next) _ e₁ in
-    let (_, more) = both-true (isRow r) _ e₂ in
+    let (above, e₁) = both-each (leb low (r .id)) _ e in
+    let (_, e₂) = both-each (ltb (r .id) next) _ e₁ in
+    let (_, more) = both-each (isRow r) _ e₂ in
     (leb-true low (r .id) above, more)
 
 id-others : (n low next : ℕ) (rs : List Row) → n + 1 ≤ low → rising low next rs ≡ true → Others idOf n rs

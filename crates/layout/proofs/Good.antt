@@ -63,7 +63,7 @@ unfolding goodList
 good-list kind s at also {l} h k =
     let t = list-at kind s at h in
     let f = list-fits kind s at h in
-    rw (f .counted, f .sum, le-leb (l .entries .count) greatest (number-at s at (t .count-at) .small), t .allowed, good-items true kind (l .entries .count) 0 s (l .entries .start) (t .run)) k
+    rw (f .counted, f .sum, le-leb (l .entries .count) greatest (number-at s at (t .count-at) .small), t .is-few, good-items true kind (l .entries .count) 0 s (l .entries .start) (t .run)) k
 
 -- where there is no name, its entries alone are within the size
 alone : (kind : Kind) (s : List ℕ) (at : ℕ) {l : Listed} {end : ℕ} → listAt kind s at ≡ whole l end → within kind (l .held + 0) ≡ true
@@ -78,20 +78,20 @@ alone Versions s at h = refl
 pub record Good (form : FieldForm) (s : List ℕ) (p : Piece) : Type 0 where
   pub as-asked : formOf (mean s p) ≡ form
   pub hands-on : handed (mean s p) ≡ control p
-  pub allowed : good (mean s p) ≡ true
+  pub is-good : good (mean s p) ≡ true
 
 -- so is every field that was found
 pub field-good : {s : List ℕ} {at : ℕ} {form : FieldForm} {p : Piece} {end : ℕ} → FieldAt s at form p end → Good form s p
 unfolding mean good within mostOf
 field-good {s} {at} (a-number {n = n} e) =
-    record { as-asked = refl; hands-on = refl; allowed = le-leb n greatest (number-at s at e .small) }
-field-good (a-byte e) = record { as-asked = refl; hands-on = refl; allowed = refl }
+    record { as-asked = refl; hands-on = refl; is-good = le-leb n greatest (number-at s at e .small) }
+field-good (a-byte e) = record { as-asked = refl; hands-on = refl; is-good = refl }
 field-good {s} {at} (some-bytes {p = p} e) =
     let t = text-at greatest s at e in
-    record { as-asked = refl; hands-on = refl; allowed = rw (length-part s p (t .within)) (le-leb (size p) greatest (t .short)) }
+    record { as-asked = refl; hands-on = refl; is-good = rw (length-part s p (t .within)) (le-leb (size p) greatest (t .short)) }
 field-good {s} {at} (a-list {kind = kind} e) =
-    record { as-asked = refl; hands-on = refl; allowed = good-list kind s at 0 e (alone kind s at e) }
+    record { as-asked = refl; hands-on = refl; is-good = good-list kind s at 0 e (alone kind s at e) }
 field-good {s} {at} (a-track {l = l} {next = next} {name = name} e f) =
     let t = text-at (longestTrack - l .held) s next f in
     let small : l .held + size name ≤ longestTrack = omega (arith, held-small s at e, t .short) in
-    record { as-asked = refl; hands-on = refl; allowed = rw (length-part s name (t .within)) (good-list Namespace s at (size name) e (le-leb (l .held + size name) longestTrack small)) }
+    record { as-asked = refl; hands-on = refl; is-good = rw (length-part s name (t .within)) (good-list Namespace s at (size name) e (le-leb (l .held + size name) longestTrack small)) }

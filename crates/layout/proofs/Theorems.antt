@@ -29,7 +29,7 @@ module _ (l : Layout) where
 
   -- 2. What is read whole is permitted, and its shortest form is no longer than what was read;
   pub shortest : (s : List ℕ) (at : ℕ) {vs : List Value} {end : ℕ} → valuesBy l s at ≡ whole vs end → (permitted l vs ≡ true) × (at + length (encode vs) ≤ end)
-  shortest s at h = let r = shorter.shortest l s at h in (r .allowed, r .least .fits)
+  shortest s at h = let r = shorter.shortest l s at h in (r .is-permitted, r .least .fits)
 
   -- of forms that are as short it is the only one;
   pub only : (s : List ℕ) (at : ℕ) {vs : List Value} {end : ℕ} → Octets s → valuesBy l s at ≡ whole vs end → end ≤ at + length (encode vs) → drop at s ≡ encode vs ++ drop end s
@@ -37,7 +37,7 @@ module _ (l : Layout) where
 
   -- so encoded again it reads back the same.
   pub again : (s : List ℕ) (at : ℕ) {vs : List Value} {end : ℕ} (before rest : List ℕ) → valuesBy l s at ≡ whole vs end → valuesBy l (before ++ (encode vs ++ rest)) (length before) ≡ whole vs (length before + length (encode vs))
-  again s at {vs} before rest h = back.reads-back l vs before rest (shorter.shortest l s at h .allowed)
+  again s at {vs} before rest h = back.reads-back l vs before rest (shorter.shortest l s at h .is-permitted)
 
   -- 3. Bytes that follow change nothing of what was read whole,
   pub whole-stays : (s t : List ℕ) (at : ℕ) {ps : List Piece} {end : ℕ} → scan l s at ≡ whole ps end → scan l (s ++ t) at ≡ whole ps end

@@ -11,7 +11,7 @@ use lib.Seq.{getD-drop, drop-drop, drop-at, take-at}
 use lib.Dec.{eqb, leb}
 use Rattle.common.specs.Choice.{pick}
 use Rattle.common.specs.Buffer.{over}
-use Rattle.layout.proofs.Back.{both-true}
+use Rattle.common.proofs.Tests.{both-each}
 use Rattle.row.specs.declared.State.{State}
 use Rattle.row.specs.declared.State.the-variants.{Pending, Active}
 use Rattle.row.specs.declared.Range.{Range}
@@ -111,7 +111,7 @@ same-is [] [] h = refl
 same-is [] (n ∷ ns) h = cc
 same-is (m ∷ ms) [] h = cc
 same-is (m ∷ ms) (n ∷ ns) h =
-    let p = both-true (eqb m n) (areSame ms ns) h in
+    let p = both-each (eqb m n) (areSame ms ns) h in
     rw (eqb-true m n (p .0), same-is ms ns (p .1))
 
 -- ---- unpacking

@@ -12,7 +12,7 @@ use Rattle.field.specs.declared.Span.{Span}
 use Rattle.field.specs.declared.Track.{Track}
 use Rattle.field.specs.declared.Piece.{Piece}
 use Rattle.field.specs.declared.Piece.the-variants.{Track as Tracked}
-use Rattle.measure.specs.Small.{smallSpan, smallList, smallPiece, smallAll}
+use Rattle.measure.specs.Small.{smallSpan, smallPiece, smallAll}
 use Rattle.measure.specs.Fields.{mostPieces, slot, fieldsOf, pieceCount}
 use Rattle.measure.specs.declared.Slot.{Slot}
 use Rattle.measure.specs.declared.Fields.{Fields}
@@ -22,18 +22,17 @@ use Rattle.measure.proofs.Rows.{fieldsFrom, from-first, from-next, from
 
 -- a part that ends before it starts has no bytes
 pub short-backward : (p : Span) → p .end < p .start → true ≡ smallSpan p
-unfolding smallSpan
 short-backward p h = sym (le-leb (size p) greatest (omega arith))
 
 module _ {p : Piece} {t : Track} (e : p ≡ Tracked t) where
   -- a namespace with too many fields decides,
   pub track-great : greatest < t .namespace .count → false ≡ smallPiece p
-  unfolding smallPiece smallList
+  unfolding smallPiece
   track-great h = rw (e, lt-leb (t .namespace .count) greatest h)
 
   -- and another leaves it to the name
   pub track-small : {b : Bool} → t .namespace .count ≤ greatest → b ≡ smallSpan (t .name) → b ≡ smallPiece p
-  unfolding smallPiece smallList
+  unfolding smallPiece
   track-small h s = rw (e, le-leb (t .namespace .count) greatest h) s
 
 -- ---- all of them

@@ -10,9 +10,8 @@ use lib.Dec.{eqb}
 use borrow.Author.Tests.{le-leb, lt-leb, eq-eqb, eqb-true}
 use Rattle.common.specs.Answer.{Answer, whole as answered, refused}
 use Rattle.common.proofs.Cases.{pick-by, pick-le, apart}
-use Rattle.field.specs.Outcome.{Outcome, whole, no}
+use Rattle.field.specs.Outcome.{Outcome, whole, no, onFound}
 use Rattle.field.specs.Entries.{numberAt}
-use Rattle.field.specs.Value.{onFound}
 use Rattle.field.specs.declared.Fault.{Fault}
 use Rattle.field.specs.declared.Piece.{Piece}
 use Rattle.field.proofs.Found.{number-at}

@@ -6,9 +6,8 @@ use lib.ListN.{length, take}
 use lib.Dec.{leb, eqb}
 use Rattle.common.specs.Choice.{guard}
 use Rattle.common.specs.Answer.{Answer, whole as answered, refused}
-use Rattle.field.specs.Outcome.{Outcome, whole, no, faultNumber}
+use Rattle.field.specs.Outcome.{Outcome, whole, no, onFound, faultNumber}
 use Rattle.field.specs.Entries.{numberAt}
-use Rattle.field.specs.Value.{onFound}
 use Rattle.layout.specs.Layout.{scan}
 use Rattle.layout.specs.Typed.{Typed, typed}
 use Rattle.types.specs.Table.{known, layoutOf}

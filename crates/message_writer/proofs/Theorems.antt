@@ -76,8 +76,8 @@ module _ (s : List ℕ) where
     is-known h = front.parts longestBody s h .head .is-known
 
     -- and its fields are permitted: no number is above the greatest, no value is forbidden, nothing is over a size.
-    pub allowed : readOf s ≡ answered t used → permitted (layoutOf (t .type)) (map (mean (take used s)) (t .pieces)) ≡ true
-    allowed h = fields.allowed s (front.parts longestBody s h)
+    pub is-permitted : readOf s ≡ answered t used → permitted (layoutOf (t .type)) (map (mean (take used s)) (t .pieces)) ≡ true
+    is-permitted h = fields.is-permitted s (front.parts longestBody s h)
 
     -- 4. Its bytes are there, and they are two at least;
     pub used-there : readOf s ≡ answered t used → (2 ≤ used) × (used ≤ length s)

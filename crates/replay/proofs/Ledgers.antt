@@ -9,10 +9,9 @@ use lib.ListN.{length, getD}
 use Rattle.common.specs.Answer.{number}
 use Rattle.common.proofs.Cases.{pick-by}
 use Rattle.integer.specs.Integer.{greatest}
-use Rattle.field.specs.Outcome.{Outcome, whole, no}
+use Rattle.field.specs.Outcome.{Outcome, whole, no, onFound}
 use Rattle.field.specs.Entries.{numberAt}
 use Rattle.field.specs.Fields.{placeAt}
-use Rattle.field.specs.Value.{onFound}
 use Rattle.field.specs.declared.Place.{Place}
 use Rattle.field.proofs.Found.{number-at}
 use Rattle.message.specs.Reading.{told, onWhole}

@@ -10,7 +10,7 @@ use Rattle.common.specs.Choice.{guard, pick}
 use Rattle.common.specs.Answer.{number}
 use Rattle.field.specs.Entries.{numberAt}
 use Rattle.field.specs.Fields.{placeAt}
-use Rattle.field.specs.Value.{onFound}
+use Rattle.field.specs.Outcome.{onFound}
 use Rattle.message.specs.Reading.{told, onWhole}
 use Rattle.message.proofs.OneReading.{readingOf}
 use Rattle.message.specs.declared.Reading.{Reading}
@@ -37,7 +37,8 @@ malformedBy answer = guard (leb 2 answer) Fault (Malformed answer)
 abbrev pub readingBy : List ℕ → Reading → Event
 readingBy value r = onWhole r (λ m used. filling value used (Control m)) (malformedBy (number (told r)))
 
--- the one reading that `told r ≡ readOf value` names
+-- the one reading that `told r ≡ readOf value` names: there is one, and no other (message/proofs/OneReading.antt:
+-- `reading-is`, `reading-only`)
 unfoldable pub controlBy : List ℕ → Event
 controlBy value = readingBy value (readingOf value)
 
