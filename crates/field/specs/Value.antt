@@ -34,7 +34,7 @@ item s e = record { number = e .number; bytes = part s (e .bytes) }
 -- count entries from an offset on, by content; none from where one is missing on
 unfoldable pub itemsOf : Kind → ℕ → List ℕ → ℕ → List Item
 itemsOf kind zero s at = []
-itemsOf kind (suc count) s at = onFound (entryAt kind greatest s at) (λ e end. item s e ∷ itemsOf kind count s end) []
+itemsOf kind (suc count) s at = onFound (entryAt kind greatest s at) [] (λ e end. item s e ∷ itemsOf kind count s end)
 
 -- the bytes that items hold
 unfoldable pub total : List Item → ℕ

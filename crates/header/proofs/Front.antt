@@ -33,11 +33,11 @@ pub data Judged (cut : ℕ) (types : ℕ → InTable) (s : List ℕ) : Answer Ty
 
 module _ (cut : ℕ) (types : ℕ → InTable) (s : List ℕ) where
   -- every answer comes from one of these,
-  by-type : (type at : ℕ) (n : InTable) → numberAt s 0 ≡ whole type at → types type ≡ n → Judged cut types s (onListed n (λ l. answer cut (typed type (scan l s at))) (refused 2))
+  by-type : (type at : ℕ) (n : InTable) → numberAt s 0 ≡ whole type at → types type ≡ n → Judged cut types s (onListed n (refused 2) (λ l. answer cut (typed type (scan l s at))))
   by-type type at (listed l) e f = by-fields e f refl
   by-type type at unlisted e f = not-listed e f
 
-  by-number : (o : Outcome ℕ) → numberAt s 0 ≡ o → Judged cut types s (onFound o (λ type at. onListed (types type) (λ l. answer cut (typed type (scan l s at))) (refused 2)) (refused cut))
+  by-number : (o : Outcome ℕ) → numberAt s 0 ≡ o → Judged cut types s (onFound o (refused cut) (λ type at. onListed (types type) (refused 2) (λ l. answer cut (typed type (scan l s at)))))
   by-number (whole type at) e = by-type type at (types type) e refl
   by-number (no fault) e = no-type e
 

@@ -39,7 +39,7 @@ typed-cut type (no fault) h = ap no (only-cut fault (cc))
 
 -- the layout that begins with it; what follows an unknown one is not read
 abbrev headed : (ℕ → InTable) → Layout
-headed types = field integer λ type. onListed (types type) (λ l. l) forbidden
+headed types = field integer λ type. onListed (types type) forbidden (λ l. l)
 
 -- where there is no type, or its fields are cut, this layout is cut
 no-number : (types : ℕ → InTable) (s : List ℕ) {fault : Fault} → numberAt s 0 ≡ no fault → scan (headed types) s 0 ≡ no Cut

@@ -91,9 +91,9 @@ abbrev pub layoutOf : InTable → Layout
 layoutOf (listed l) = l
 layoutOf unlisted = forbidden
 
-abbrev pub onListed : {A : Type 0} → InTable → (Layout → A) → A → A
-onListed (listed l) f none = f l
-onListed unlisted f none = none
+abbrev pub onListed : {A : Type 0} → InTable → A → (Layout → A) → A
+onListed (listed l) none f = f l
+onListed unlisted none f = none
 
 abbrev pub layoutIn : List HeaderRow → ℕ → InTable
 layoutIn [] type = unlisted

@@ -13,14 +13,14 @@ use Rattle.layout.specs.Layout.{scan}
 use Rattle.layout.specs.Typed.{Typed, typed}
 use Rattle.header.specs.Layouts.{«OBJECT_DATAGRAM_STATUS», InTable, onListed, datagrams, streams, subgroupObject, fetchObject}
 
--- a header at the front of s, behind its type: by the answer for a cut one, and the layout of each type
+-- a header at the front of s, its type first: by the answer for a cut one, and the layout of each type
 unfoldable pub headedOf : ℕ → (ℕ → InTable) → List ℕ → Answer Typed
 headedOf cut types s =
-    onFound (numberAt s 0)
-    (λ type at. onListed (types type) (λ l. answer cut (typed type (scan l s at))) (refused 2))
-    (refused cut)
+    onFound (numberAt s 0) (refused cut) (λ type at.
+    onListed (types type) (refused 2) (λ l.
+    answer cut (typed type (scan l s at))))
 
--- a datagram of so many bytes: none follows a status, and what follows else is the payload
+-- a datagram of a size: no byte follows a status, and what follows else is the payload
 abbrev pub endedDatagram : ℕ → Answer Typed → Answer Typed
 endedDatagram size (answered t used) =
     pick (both (eqb (t .type) («OBJECT_DATAGRAM_STATUS» .number)) (ltb used size)) (refused 4) (answered t used)

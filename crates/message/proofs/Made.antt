@@ -16,7 +16,7 @@ use Rattle.message.specs.declared.Reading.the-variants.{Whole, More, Unk
 
 -- the family whose a type is; of a number that is no type, any
 unfoldable pub familyOf : ℕ → Family
-familyOf type = onListed (typeRowOf type) (λ r. r .family) sessions
+familyOf type = onListed (typeRowOf type) sessions (λ r. r .family)
 
 -- the message of a type, made by its family
 abbrev pub messageBy : Family → Typed → Message

@@ -45,10 +45,10 @@ bodyUpTo limit s type size at =
 -- and the message, at the front of bytes
 unfoldable pub readUpTo : ℕ → List ℕ → Answer Typed
 readUpTo limit s =
-    onFound (numberAt s 0)
-    (λ type next. guard (known type) (refused 2)
-    (onFound (numberAt s next) (λ size at. bodyUpTo limit s type size at) (refused 1)))
-    (refused 1)
+    onFound (numberAt s 0) (refused 1) (λ type next.
+    guard (known type) (refused 2)
+    (onFound (numberAt s next) (refused 1) (λ size at.
+    bodyUpTo limit s type size at)))
 
 -- READING, with 01's limit
 abbrev pub readOf : List ℕ → Answer Typed
@@ -66,14 +66,14 @@ told Forbidden = refused 5
 told Oversize = refused 6
 
 -- "Only a whole message reaches the ledger; every other reading ends there": what is done with it, and what else
-abbrev pub onWhole : {A : Type 0} → Reading → (Message → ℕ → A) → A → A
-onWhole (Whole m used) taken rest = taken m used
-onWhole More taken rest = rest
-onWhole Unknown taken rest = rest
-onWhole TooLong taken rest = rest
-onWhole Unfilled taken rest = rest
-onWhole Forbidden taken rest = rest
-onWhole Oversize taken rest = rest
+abbrev pub onWhole : {A : Type 0} → Reading → A → (Message → ℕ → A) → A
+onWhole (Whole m used) rest taken = taken m used
+onWhole More rest taken = rest
+onWhole Unknown rest taken = rest
+onWhole TooLong rest taken = rest
+onWhole Unfilled rest taken = rest
+onWhole Forbidden rest taken = rest
+onWhole Oversize rest taken = rest
 
 abbrev pub toldBody : BodyRead → Outcome Typed
 toldBody (WholeBody m end) = whole (typedOf m) end

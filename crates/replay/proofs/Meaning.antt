@@ -57,7 +57,7 @@ unfolding controlBy
 control-by value {r} said h is = is ∙ ap (readingBy value) (sym h ∙ reading-only value r said)
 
 -- "every other reading ends there", by the place of its variant
-pub not-whole : {A : Type 0} (r : Reading) (taken : Message → ℕ → A) (rest : A) → OneOf (1 ∷ 2 ∷ 3 ∷ 4 ∷ 5 ∷ 6 ∷ []) (tagOf the-type r) → rest ≡ onWhole r taken rest
+pub not-whole : {A : Type 0} (r : Reading) (taken : Message → ℕ → A) (rest : A) → OneOf (1 ∷ 2 ∷ 3 ∷ 4 ∷ 5 ∷ 6 ∷ []) (tagOf the-type r) → rest ≡ onWhole r rest taken
 not-whole (Whole m used) taken rest h = absurd (miss (1 ∷ 2 ∷ 3 ∷ 4 ∷ 5 ∷ 6 ∷ []) 0 tt h)
 not-whole More taken rest h = refl
 not-whole Unknown taken rest h = refl

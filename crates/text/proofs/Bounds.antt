@@ -51,7 +51,7 @@ areWithin n [] = true
 areWithin n (row ∷ rows) = pick (leb (length (letters (row .name))) n) (areWithin n rows) false
 
 nameIn : InTable → List ℕ
-nameIn l = onListed l (λ r. letters (r .name)) []
+nameIn l = onListed l [] (λ r. letters (r .name))
 
 within : (n : ℕ) (rows : List TypeRow) (type : ℕ) → areWithin n rows ≡ true → length (nameIn (typeRowIn rows type)) ≤ n
 unfolding areWithin nameIn typeRowIn

@@ -132,9 +132,9 @@ pub data InTable : Type 0 where
   listed : TypeRow → InTable
   unlisted : InTable
 
-abbrev pub onListed : {A : Type 0} → InTable → (TypeRow → A) → A → A
-onListed (listed r) f none = f r
-onListed unlisted f none = none
+abbrev pub onListed : {A : Type 0} → InTable → A → (TypeRow → A) → A
+onListed (listed r) none f = f r
+onListed unlisted none f = none
 
 unfoldable pub typeRowIn : List TypeRow → ℕ → InTable
 typeRowIn [] type = unlisted
@@ -145,15 +145,15 @@ typeRowOf type = typeRowIn messages type
 
 -- "Types fall into known numbers, gaps between them and numbers beyond the last"
 unfoldable pub known : ℕ → Bool
-known type = onListed (typeRowOf type) (λ r. true) false
+known type = onListed (typeRowOf type) false (λ r. true)
 
 -- the body of a message of a type
 unfoldable pub layoutOf : ℕ → Layout
-layoutOf type = onListed (typeRowOf type) (λ r. r .layout) forbidden
+layoutOf type = onListed (typeRowOf type) forbidden (λ r. r .layout)
 
 -- and its name, as 004 spells it
 unfoldable pub nameOf : ℕ → List ℕ
-nameOf type = onListed (typeRowOf type) (λ r. letters (r .name)) []
+nameOf type = onListed (typeRowOf type) [] (λ r. letters (r .name))
 
 -- "Forbidden field values (5)": whether a message holds none that the layout of its type forbids
 abbrev pub allowedTyped : Typed → Bool
