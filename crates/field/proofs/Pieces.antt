@@ -12,7 +12,7 @@ use Rattle.integer.specs.Integer.{greatest}
 use Rattle.field.specs.Outcome.{whole}
 use Rattle.field.specs.Entries.{numberAt, textAt, entryAt, mostOf, entriesAt, few, Listed, listAt}
 use Rattle.field.specs.Fields.{FieldForm, integer, byte, bytes, list, track, fieldAt}
-use Rattle.field.specs.Value.{item, itemsOf}
+use Rattle.field.specs.Value.{entryValue, entryValues}
 use Rattle.field.specs.declared.Span.{Span}
 use Rattle.field.specs.declared.Entry.{Entry}
 use Rattle.field.specs.declared.Kind.{Kind}
@@ -79,6 +79,6 @@ field-at track s at h =
 -- ---- entries by content
 
 -- entries that were found one after the other are the items
-pub items-suc : (kind : Kind) (most count : ℕ) (s : List ℕ) (at : ℕ) {e : Entry} {end : ℕ} → entryAt kind most s at ≡ whole e end → itemsOf kind (suc count) s at ≡ item s e ∷ itemsOf kind count s end
-unfolding itemsOf
+pub items-suc : (kind : Kind) (most count : ℕ) (s : List ℕ) (at : ℕ) {e : Entry} {end : ℕ} → entryAt kind most s at ≡ whole e end → entryValues kind (suc count) s at ≡ entryValue s e ∷ entryValues kind count s end
+unfolding entryValues
 items-suc kind most count s at h = rw (entry-any kind most s at h)

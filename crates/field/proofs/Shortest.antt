@@ -11,7 +11,7 @@ use Rattle.integer.specs.Integer.{greatest}
 use Rattle.field.specs.Outcome.{whole}
 use Rattle.field.specs.Entries.{longestTrack, size, entryAt, mostOf, entriesAt, Listed, listAt}
 use Rattle.field.specs.Fields.{FieldForm}
-use Rattle.field.specs.Value.{Item, itemsOf, total, contents, mean, encItems, encList, encField}
+use Rattle.field.specs.Value.{EntryValue, entryValues, total, contents, mean, encItems, encList, encField}
 use Rattle.field.specs.declared.Kind.{Kind}
 use Rattle.field.specs.declared.Kind.the-variants.{Namespace}
 use Rattle.field.specs.declared.Piece.{Piece}
@@ -23,15 +23,15 @@ use Rattle.field.proofs.Pieces.{list-at, FieldAt, a-number, a-byte, som
 -- ---- a run of entries
 
 -- the items of a run: as many as were asked for, holding what was told, in no fewer bytes than their shortest form
-pub record RunAt (kind : Kind) (count held : ℕ) (s : List ℕ) (at : ℕ) (is : List Item) (holds end : ℕ) : Type 0 where
+pub record RunAt (kind : Kind) (count held : ℕ) (s : List ℕ) (at : ℕ) (is : List EntryValue) (holds end : ℕ) : Type 0 where
   pub counted : length is ≡ count
   pub sum : holds ≡ held + total is
   pub least : Least s at (encItems kind is) end
   pub within : at ≤ length s → end ≤ length s
 
 -- every run that was found is one
-pub run-at : (sized : Bool) (kind : Kind) (count held : ℕ) (s : List ℕ) (at : ℕ) {holds end : ℕ} → entriesAt sized kind count held s at ≡ whole holds end → RunAt kind count held s at (itemsOf kind count s at) holds end
-unfolding entriesAt itemsOf total encItems
+pub run-at : (sized : Bool) (kind : Kind) (count held : ℕ) (s : List ℕ) (at : ℕ) {holds end : ℕ} → entriesAt sized kind count held s at ≡ whole holds end → RunAt kind count held s at (entryValues kind count s at) holds end
+unfolding entriesAt entryValues total encItems
 run-at sized kind zero held s at {holds} {end} h =
     let same : held ≡ holds = cc in
     let stop : end ≡ at = cc in

@@ -24,8 +24,8 @@ use Rattle.measure.specs.Measuring.{rightAll, sizedAll, encodeAll}
 use Rattle.encode.proofs.Good.{all-good}
 use Rattle.encode.proofs.Again.{scanned-right}
 use Rattle.encode.proofs.Fitting.{fitting-permitted}
-use Rattle.encode.proofs.Passed.{Wrote, was-written, Passes}
-use Rattle.encode.proofs.Passed as passed
+use Rattle.encode.proofs.ChecksPassed.{Wrote, was-written, Passes}
+use Rattle.encode.proofs.ChecksPassed as passed
 use Rattle.header_writer.specs.Writing.{headerWritten}
 use Rattle.header_writer.proofs.Shape.{Fits}
 

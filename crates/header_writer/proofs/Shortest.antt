@@ -17,7 +17,7 @@ use Rattle.layout.specs.Same.{Same}
 use Rattle.layout.proofs.Scanned.{scanned}
 use Rattle.layout.proofs.Shortest.{scanned-shortest}
 use Rattle.measure.specs.Measuring.{encodeAll}
-use Rattle.encode.proofs.Passed.{was-written}
+use Rattle.encode.proofs.ChecksPassed.{was-written}
 use Rattle.encode.proofs.Alike.{wrote-bytes, encoded-alike}
 use Rattle.header.specs.Layouts.{InTable, layoutOf}
 use Rattle.header.specs.Reading.{headedOf}

@@ -15,7 +15,7 @@ use Rattle.integer.specs.Integer.{greatest}
 use Rattle.field.specs.Outcome.{whole}
 use Rattle.field.specs.Entries.{longestTrack, few}
 use Rattle.field.specs.Fields.{FieldForm, integer, byte, bytes, list, track}
-use Rattle.field.specs.Value.{Value, number, octet, text, items, fullName, Item, total, mean, encField, encode}
+use Rattle.field.specs.Value.{Value, number, octet, text, items, fullName, EntryValue, total, mean, encField, encode}
 use Rattle.field.specs.declared.Kind.{Kind}
 use Rattle.field.specs.declared.Kind.the-variants.{Namespace, Parameters, Versions}
 use Rattle.field.specs.declared.Piece.{Piece}
@@ -31,7 +31,7 @@ never : {A : Type 0} → false ≡ true → A
 never h = absurd (let z : _≡_ {A = ℕ} 0 1 = cc in omega arith)
 
 -- a good entry can be written,
-pub item-fit : (kind : Kind) (i : Item) → goodItem kind i ≡ true → Fit kind i
+pub item-fit : (kind : Kind) (i : EntryValue) → goodItem kind i ≡ true → Fit kind i
 unfolding goodItem
 item-fit Namespace i h =
     let p = both-each (eqb (i .number) 0) (leb (length (i .bytes)) greatest) h in
@@ -44,7 +44,7 @@ item-fit Versions i h =
     aVersion (leb-true (i .number) greatest (p .0)) (eqb-true (length (i .bytes)) 0 (p .1))
 
 -- each of good entries can,
-pub items-fit : (kind : Kind) (is : List Item) → goodItems kind is ≡ true → AllFit kind is
+pub items-fit : (kind : Kind) (is : List EntryValue) → goodItems kind is ≡ true → AllFit kind is
 unfolding goodItems
 items-fit kind [] h = none
 items-fit kind (i ∷ is) h =
@@ -57,7 +57,7 @@ unfolding within
 within-room kind held h e = leb-true held longestTrack (rw e at h)
 
 -- and a good list can be written and is not over a size
-pub list-fit : (kind : Kind) (is : List Item) (also : ℕ) → goodList kind is also ≡ true → ListFit kind is also
+pub list-fit : (kind : Kind) (is : List EntryValue) (also : ℕ) → goodList kind is also ≡ true → ListFit kind is also
 unfolding goodList
 list-fit kind is also h =
     let p = both-each (leb (length is) greatest) _ h in

@@ -9,7 +9,7 @@ use Rattle.integer.specs.Integer.{greatest}
 use Rattle.field.specs.Outcome.{whole}
 use Rattle.field.specs.Entries.{longestTrack, size, numberAt, entryAt, mostOf, entriesAt, Listed, listAt}
 use Rattle.field.specs.Fields.{FieldForm}
-use Rattle.field.specs.Value.{item, itemsOf, contents, mean}
+use Rattle.field.specs.Value.{entryValue, entryValues, contents, mean}
 use Rattle.field.specs.declared.Entry.{Entry}
 use Rattle.field.specs.declared.Kind.{Kind}
 use Rattle.field.specs.declared.Kind.the-variants.{Namespace, Parameters, Versions}
@@ -32,7 +32,7 @@ version-plain most s at {e} h =
     rw p (omega arith)
 
 -- an entry that was found can be written, and holds nothing that its kind has no place for,
-good-item : (kind : Kind) (most : ℕ) (s : List ℕ) (at : ℕ) {e : Entry} {end : ℕ} → entryAt kind most s at ≡ whole e end → goodItem kind (item s e) ≡ true
+good-item : (kind : Kind) (most : ℕ) (s : List ℕ) (at : ℕ) {e : Entry} {end : ℕ} → entryAt kind most s at ≡ whole e end → goodItem kind (entryValue s e) ≡ true
 unfolding entryAt goodItem
 good-item Namespace most s at {e} h =
     let f = entry-at Namespace most s at h in
@@ -46,8 +46,8 @@ good-item Versions most s at {e} h =
     rw (le-leb (e .number) greatest (f .small), length-part s (e .bytes) (omega arith)) (eq-eqb (size (e .bytes)) 0 (version-plain most s at h))
 
 -- and so do all entries of a run
-pub good-items : (sized : Bool) (kind : Kind) (count held : ℕ) (s : List ℕ) (at : ℕ) {holds end : ℕ} → entriesAt sized kind count held s at ≡ whole holds end → goodItems kind (itemsOf kind count s at) ≡ true
-unfolding entriesAt itemsOf goodItems
+pub good-items : (sized : Bool) (kind : Kind) (count held : ℕ) (s : List ℕ) (at : ℕ) {holds end : ℕ} → entriesAt sized kind count held s at ≡ whole holds end → goodItems kind (entryValues kind count s at) ≡ true
+unfolding entriesAt entryValues goodItems
 good-items sized kind zero held s at h = refl
 good-items sized kind (suc count) held s at h =
     let most = mostOf sized kind held in

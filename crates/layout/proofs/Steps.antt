@@ -36,7 +36,7 @@ use Rattle.field.specs.declared.Failure.{Failure}
 use Rattle.field.specs.declared.FailureRead.{FailureRead}
 use Rattle.field.specs.declared.FailureRead.the-variants.{Whole as WholeFailure, Cut as CutFailure}
 use Rattle.field.proofs.Unjudged.{as-number, as-text, as-no-number, as-no-text}
-use Rattle.field.proofs.Together.{place-parts, failure-parts, CutIn, first-cut, second-cut, place-stops, failure-stops}
+use Rattle.field.proofs.TwoReads.{place-parts, failure-parts, CutIn, first-cut, second-cut, place-stops, failure-stops}
 use Rattle.layout.specs.Typed.{led}
 use Rattle.layout.specs.Layout.{Layout, done, forbidden, field, when, place, failure, control, scan}
 

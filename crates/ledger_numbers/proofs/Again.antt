@@ -19,6 +19,7 @@ use Rattle.row.specs.declared.Range.the-variants.{Unknown, Open, Closed}
 use Rattle.row.specs.declared.Greatest.{Greatest}
 use Rattle.row.specs.declared.Greatest.the-variants.{Nowhere, At}
 use Rattle.row.specs.declared.Row.{Row}
+use Rattle.ledger.specs.Answers.{closingRule}
 use Rattle.ledger.specs.Ledgers.{mostRows, isLedger, bounded}
 use Rattle.ledger.specs.declared.Part.{Part}
 use Rattle.ledger.specs.declared.Part.the-variants.{Subscriber, Publisher}
@@ -26,7 +27,7 @@ use Rattle.ledger.specs.declared.Rule.the-variants.{R1, R2, R3, R4, R5, R6, R7}
 use Rattle.ledger.specs.declared.Session.{Session}
 use Rattle.ledger.specs.declared.Session.the-variants.{Open as IsOpen, Closed as IsClosed}
 use Rattle.ledger.specs.declared.Ledger.{Ledger}
-use Rattle.ledger_numbers.specs.Numbers.{ownNumbers, rowNumbers, ledgerNumbers, stateNumber, rangeNumbers, greatestNumbers, numbersOfRow, numbersOfRows, partNumber, sessionNumber, numbersOf}
+use Rattle.ledger_numbers.specs.Numbers.{ownNumbers, rowNumbers, ledgerNumbers, stateNumber, rangeNumbers, greatestNumbers, numbersOfRow, numbersOfRows, partNumber, numbersOf}
 use Rattle.ledger_numbers.specs.Naming.{stateNamed, rangeNamed, greatestNamed, rowNamed, rowsNamed, partNamed, ruleNamed, sessionNamed, ledgerNamed, areSame, noLedger, unpackOf, keptIn}
 use Rattle.ledger_numbers.proofs.Storing.{row-numbers, row-length, numbers-length}
 
@@ -78,7 +79,7 @@ unfolding partNamed
 part-again Subscriber = refl
 part-again Publisher = refl
 
-session-again : (s : Session) → sessionNamed (sessionNumber s) ≡ s
+session-again : (s : Session) → sessionNamed (closingRule s) ≡ s
 unfolding sessionNamed ruleNamed
 session-again IsOpen = refl
 session-again (IsClosed R1) = refl

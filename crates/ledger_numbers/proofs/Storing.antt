@@ -15,9 +15,10 @@ use Rattle.row.specs.declared.Range.the-variants.{Unknown, Open, Closed}
 use Rattle.row.specs.declared.Greatest.{Greatest}
 use Rattle.row.specs.declared.Greatest.the-variants.{Nowhere, At}
 use Rattle.row.specs.declared.Row.{Row}
+use Rattle.ledger.specs.Answers.{closingRule}
 use Rattle.ledger.specs.Ledgers.{mostRows}
 use Rattle.ledger.specs.declared.Ledger.{Ledger}
-use Rattle.ledger_numbers.specs.Numbers.{ownNumbers, rowNumbers, ledgerNumbers, stateNumber, rangeNumbers, greatestNumbers, numbersOfRow, numbersOfRows, partNumber, sessionNumber, numbersOf}
+use Rattle.ledger_numbers.specs.Numbers.{ownNumbers, rowNumbers, ledgerNumbers, stateNumber, rangeNumbers, greatestNumbers, numbersOfRow, numbersOfRows, partNumber, numbersOf}
 
 -- numbers stored one by one from the front on
 pub stored : (vs before : List ℕ) → length vs ≤ length before → Put vs before (length vs) (sets before 0 vs)
@@ -80,7 +81,7 @@ pub numbers-length : (l : Ledger) → length (l .rows) ≡ mostRows → length (
 unfolding numbersOf
 numbers-length l h = omega (arith, rows-length (l .rows))
 
-module _ (l : Ledger) {p s : ℕ} (e : p ≡ partNumber (l .part)) (f : s ≡ sessionNumber (l .session)) (before : List ℕ) (fits : length (numbersOf l) ≤ length before) where
+module _ (l : Ledger) {p s : ℕ} (e : p ≡ partNumber (l .part)) (f : s ≡ closingRule (l .session)) (before : List ℕ) (fits : length (numbersOf l) ≤ length before) where
   -- its own numbers, as they are stored
   abbrev front : List ℕ
   front = p ∷ s ∷ l .capacity ∷ l .maximum ∷ l .next ∷ l .used ∷ []

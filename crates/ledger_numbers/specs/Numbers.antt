@@ -11,11 +11,9 @@ use Rattle.row.specs.declared.Greatest.{Greatest}
 use Rattle.row.specs.declared.Greatest.the-variants.{Nowhere, At}
 use Rattle.row.specs.declared.Row.{Row}
 use Rattle.ledger.specs.Ledgers.{mostRows}
-use Rattle.ledger.specs.Answers.{ruleNumber}
+use Rattle.ledger.specs.Answers.{closingRule}
 use Rattle.ledger.specs.declared.Part.{Part}
 use Rattle.ledger.specs.declared.Part.the-variants.{Subscriber, Publisher}
-use Rattle.ledger.specs.declared.Session.{Session}
-use Rattle.ledger.specs.declared.Session.the-variants.{Open as IsOpen, Closed as IsClosed}
 use Rattle.ledger.specs.declared.Ledger.{Ledger}
 
 -- how many numbers a ledger has of its own, how many a row has, and how many both
@@ -60,12 +58,7 @@ abbrev pub partNumber : Part → ℕ
 partNumber Subscriber = 0
 partNumber Publisher = 1
 
--- the rule that closed it, 0 while it is open
-abbrev pub sessionNumber : Session → ℕ
-sessionNumber IsOpen = 0
-sessionNumber (IsClosed rule) = ruleNumber rule
-
 unfoldable pub numbersOf : Ledger → List ℕ
 numbersOf l =
-    partNumber (l .part) ∷ sessionNumber (l .session) ∷ l .capacity ∷ l .maximum ∷ l .next ∷ l .used
+    partNumber (l .part) ∷ closingRule (l .session) ∷ l .capacity ∷ l .maximum ∷ l .next ∷ l .used
     ∷ numbersOfRows (l .rows)

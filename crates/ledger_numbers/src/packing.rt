@@ -3,7 +3,8 @@ ghost use mathlib.Core.Path.{_≡_};
 ghost use Prim.Native.Nat.{_≤_};
 ghost use lib.ListN.{length};
 ghost use Rattle.common.specs.Buffer.{over, Put};
-ghost use Rattle.ledger_numbers.specs.Numbers.{partNumber, sessionNumber, numbersOfRows, numbersOf};
+ghost use Rattle.ledger_numbers.specs.Numbers.{partNumber, numbersOfRows, numbersOf};
+ghost use Rattle.ledger.specs.Answers.{closingRule};
 ghost use Rattle.ledger_numbers.specs.Naming.{keptIn};
 use crate::LEDGER_NUMBERS;
 use crate::OWN_NUMBERS;
@@ -23,7 +24,7 @@ fn part_number(part: Part) -> u64
 }
 
 fn session_number(session: Session) -> u64
-    ensures { λ r. ⌜ r ≡ sessionNumber session ⌝ }
+    ensures { λ r. ⌜ r ≡ closingRule session ⌝ }
 {
     match session {
         Session::Open => 0,

@@ -16,7 +16,7 @@ use Rattle.measure.specs.Small.{smallSpan, smallPiece, smallAll}
 use Rattle.measure.specs.Fields.{mostPieces, slot, fieldsOf, pieceCount}
 use Rattle.measure.specs.declared.Slot.{Slot}
 use Rattle.measure.specs.declared.Fields.{Fields}
-use Rattle.measure.proofs.Rows.{fieldsFrom, from-first, from-next, from-last}
+use Rattle.measure.proofs.FieldsFrom.{fieldsFrom, from-first, from-next, from-last}
 
 -- ---- a field
 

@@ -12,7 +12,7 @@ use Rattle.layout.specs.Typed.{Typed}
 use Rattle.layout.specs.Same.{Same}
 use Rattle.measure.specs.Measuring.{rightAll, encodeAll}
 use Rattle.encode.specs.Writing.{frame}
-use Rattle.encode.proofs.Passed.{was-written}
+use Rattle.encode.proofs.ChecksPassed.{was-written}
 use Rattle.encode.proofs.Alike as shortest
 use Rattle.message.specs.Types.{typedOf}
 use Rattle.message_writer.specs.Writing.{allowedOf, writeUpTo, writeOf}

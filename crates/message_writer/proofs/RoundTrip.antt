@@ -25,7 +25,7 @@ use Rattle.layout.proofs.Stable.{values-stay}
 use Rattle.measure.specs.Measuring.{rightAll, encodeAll}
 use Rattle.encode.specs.Writing.{frame}
 use Rattle.encode.proofs.Good.{all-good}
-use Rattle.encode.proofs.Passed.{was-written}
+use Rattle.encode.proofs.ChecksPassed.{was-written}
 use Rattle.types.specs.Table.{known, layoutOf}
 use Rattle.message.specs.Types.{typedOf}
 use Rattle.message.specs.Reading.{longestBody, readOf}

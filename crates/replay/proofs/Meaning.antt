@@ -16,7 +16,7 @@ use Rattle.field.specs.declared.NumberRead.the-variants.{Whole as WholeNumber, 
 use Rattle.field.specs.declared.PlaceRead.{PlaceRead}
 use Rattle.field.specs.declared.PlaceRead.the-variants.{Whole as WholePlace, Cut as CutPlace}
 use Rattle.field.proofs.Found.{number-at}
-use Rattle.field.proofs.Together.{number-missing, number-there}
+use Rattle.field.proofs.TwoReads.{number-missing, number-there}
 use Rattle.message.specs.Reading.{readOf, told, onWhole}
 use Rattle.message.specs.declared.Message.{Message}
 use Rattle.message.specs.declared.Reading.{Reading}

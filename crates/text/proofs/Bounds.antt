@@ -21,7 +21,7 @@ use Rattle.text.specs.declared.Item.{Item}
 use Rattle.text.specs.declared.Item.the-variants.{Number, Word, Rule, Name}
 use Rattle.text.specs.declared.Line.{Line}
 use Rattle.text.proofs.Decimals.{decimal-few}
-use Rattle.text.proofs.Following.{items-count}
+use Rattle.text.proofs.ItemsInLine.{items-count}
 
 -- twenty digits
 pub number-bound : (n : ℕ) → length (decimalOf n) ≤ 20

@@ -7,7 +7,7 @@ use lib.ListN.{length, length-map}
 use Rattle.ledger.specs.Ledgers.{mostRows}
 use Rattle.replay.specs.Progressing.{finishOf}
 use Rattle.report.specs.Report.{textOf}
-use Rattle.report.proofs.Putting.{was-put, no-refusal}
+use Rattle.report.proofs.LinePut.{was-put, no-refusal}
 use Rattle.report.proofs.Longest.{ended-bound}
 use Rattle.moqreport.proofs.put.Statement.{statement}
 use Rattle.moqreport.proofs.put.Tie as tie

@@ -8,8 +8,8 @@ use Rattle.common.proofs.PutLoop.{going-length, going-within}
 use Rattle.field.specs.declared.Piece.the-variants.{Byte}
 use Rattle.measure.specs.Fields.{mostPieces, fieldsOf}
 use Rattle.measure.specs.Measuring.{encodeAll}
-use Rattle.measure.proofs.Rows.{count-most, fieldsFrom, from-first, fields-row}
-use Rattle.encode.proofs.Filling.{Filling, filling-start, filling-end, field-asks, field-sum, field-next}
+use Rattle.measure.proofs.FieldsFrom.{count-most, fieldsFrom, from-first, fields-row}
+use Rattle.encode.proofs.FieldsPut.{Filling, filling-start, filling-end, field-asks, field-sum, field-next}
 use Rattle.encode.proofs.writer.put_all.Statement.{statement}
 use Rattle.encode.proofs.writer.put_all.Tie as tie
 

@@ -12,9 +12,9 @@ use Rattle.field.specs.declared.Piece.the-variants.{Byte}
 use Rattle.measure.specs.Fields.{mostPieces, slot, fieldsOf, pieceCount}
 use Rattle.measure.specs.Measuring.{measureAll}
 use Rattle.measure.specs.declared.Slot.{Slot}
-use Rattle.measure.proofs.Rows.{Row, count-most, fieldsFrom, from-first, fields-row}
+use Rattle.measure.proofs.FieldsFrom.{Row, count-most, fieldsFrom, from-first, fields-row}
 use Rattle.measure.proofs.Numbers.{judgement, judgement-joined}
-use Rattle.measure.proofs.SoFar.{SoFar, none-judged, judged-next, judged-all}
+use Rattle.measure.proofs.JudgedSoFar.{SoFar, none-judged, judged-next, judged-all}
 use Rattle.encode.specs.Writing.{framedOf}
 use Rattle.encode.proofs.Written.{taken, kind-great, fields-forbidden, fields-oversize, done, Message, message-room, message-long, message-short, message}
 use Rattle.encode.proofs.writer.write_framed.Statement.{statement}

@@ -5,7 +5,7 @@ use native.Mathlib.Omega.{arith}
 use borrow.Author.Needs.{needs}
 use Rattle.ledger.specs.Ledgers.{mostRows}
 use Rattle.ledger_numbers.specs.Naming.{rowsNamed}
-use Rattle.ledger_numbers.proofs.Filling.{Filled, filled-next, all-filled}
+use Rattle.ledger_numbers.proofs.RowsNamed.{Filled, filled-next, all-filled}
 use Rattle.ledger_numbers.proofs.unpacking.rows_in.Statement.{statement}
 use Rattle.ledger_numbers.proofs.unpacking.rows_in.Tie as tie
 

@@ -5,7 +5,7 @@ use native.Mathlib.Omega.{arith}
 use borrow.Author.Needs.{needs}
 use lib.ListN.{length, length-map}
 use Rattle.measure.specs.Fields.{mostPieces}
-use Rattle.measure.proofs.Rows.{count-most}
+use Rattle.measure.proofs.FieldsFrom.{count-most}
 use Rattle.measure.proofs.AllSmall.{Left, all-left, one-great, one-small, none-great}
 use Rattle.measure.proofs.small.are_small.Statement.{statement}
 use Rattle.measure.proofs.small.are_small.Tie as tie

@@ -4,7 +4,7 @@ use native.Mathlib.Omega.{arith}
 use borrow.Author.Needs.{needs}
 use lib.ListN.{length, length-map}
 use Rattle.ledger.specs.Ledgers.{mostRows}
-use Rattle.report.proofs.Showing.{ledger-counted, ledger-bound}
+use Rattle.report.proofs.RowLines.{ledger-counted, ledger-bound}
 use Rattle.report.proofs.writing.measure_ledger.Statement.{statement}
 use Rattle.report.proofs.writing.measure_ledger.Tie as tie
 

@@ -7,7 +7,7 @@ use lib.ListN.{length, drop, length-map}
 use Rattle.ledger.specs.Ledgers.{mostRows, held}
 use Rattle.text.proofs.Counted.{Counted, counted-start, counted-sum, counted-next, counted-end}
 use Rattle.report.specs.Report.{rowsText}
-use Rattle.report.proofs.Showing.{row-next, rows-end, held-bound}
+use Rattle.report.proofs.RowLines.{row-next, rows-end, held-bound}
 use Rattle.report.proofs.writing.measure_rows.Statement.{statement}
 use Rattle.report.proofs.writing.measure_rows.Tie as tie
 

@@ -7,7 +7,7 @@ use lib.ListN.{length, drop, length-map}
 use Rattle.common.proofs.PutLoop.{Going, going-start, going-length, going-within, going-end, next-fits, going-sum, going-next}
 use Rattle.ledger.specs.Ledgers.{mostRows, held}
 use Rattle.report.specs.Report.{rowsText}
-use Rattle.report.proofs.Showing.{row-next, rows-end}
+use Rattle.report.proofs.RowLines.{row-next, rows-end}
 use Rattle.report.proofs.writing.put_rows.Statement.{statement}
 use Rattle.report.proofs.writing.put_rows.Tie as tie
 

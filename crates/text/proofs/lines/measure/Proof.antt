@@ -7,7 +7,7 @@ use lib.ListN.{length, drop, length-map}
 use Rattle.text.specs.Lines.{mostItems, lineOf, itemsOf}
 use Rattle.text.proofs.Bounds.{item-few, longest-bound}
 use Rattle.text.proofs.Counted.{Counted, counted-start, counted-sum, counted-next, counted-end}
-use Rattle.text.proofs.Following.{line-next, line-end, ended-size}
+use Rattle.text.proofs.ItemsInLine.{line-next, line-end, ended-size}
 use Rattle.text.proofs.lines.measure.Statement.{statement}
 use Rattle.text.proofs.lines.measure.Tie as tie
 

@@ -6,7 +6,7 @@ use borrow.Author.Needs.{needs}
 use lib.ListN.{length, drop, length-map}
 use Rattle.common.proofs.PutLoop.{Going, going-start, going-length, going-within, going-end, next-fits, going-sum, going-next}
 use Rattle.text.specs.Lines.{mostItems, lineOf, itemsOf}
-use Rattle.text.proofs.Following.{line-next, line-end}
+use Rattle.text.proofs.ItemsInLine.{line-next, line-end}
 use Rattle.text.proofs.lines.put_items.Statement.{statement}
 use Rattle.text.proofs.lines.put_items.Tie as tie
 

@@ -17,15 +17,15 @@ use Rattle.ledger.specs.Steps.{idOf, aliasOf, newRow, broken, replied}
 use Rattle.ledger.specs.declared.Ledger.{Ledger}
 use Rattle.ledger.specs.declared.Rule.{Rule}
 use Rattle.ledger.proofs.Facts.{parts}
-use Rattle.ledger.specs.Keys.{Change, now, put, turn}
+use Rattle.ledger.specs.Keys.{Change, now, instead, turn}
 use Rattle.ledger.specs.Views.{View, Seen, viewOf}
 use Rattle.view.specs.Events.{Event, message, malformed, arrival, comes}
 use Rattle.view.proofs.LedgersFollow.{seen-by}
 use Rattle.history.specs.Deeds.{Deed, nothing, deedIn}
 use Rattle.history.specs.Ledgers.{nextBy, maximumBy}
 use Rattle.ledger.proofs.Rises.{has-not}
-use Rattle.history.proofs.Moves.{Quiet, not-a-ledger, quiet, withRows, counting, Turns, opens, frees, Moves, stayed, broke, turned, taken, raised, moves}
-use Rattle.history.proofs.Telling.{made, every, new}
+use Rattle.history.proofs.EventCases.{Quiet, not-a-ledger, quiet, withRows, counting, Turns, opens, frees, Moves, stayed, broke, turned, taken, raised, moves}
+use Rattle.history.proofs.RowsByDeeds.{made, every, new}
 
 -- ---- no two rows have one number
 
@@ -83,9 +83,9 @@ module _ (key : Row → ℕ) (n : ℕ) (f : Row → Change Row) where
   turn-every [] h = refl
   turn-every (r ∷ rs) h = go (eqb (key r) n) refl (turn-every rs (h .1))
     where
-      go : (b : Bool) → eqb (key r) n ≡ b → turn key n f rs ≡ every at rs → pick b (put (f r) rs) (r ∷ turn key n f rs) ≡ put (pick b (f r) (now r)) (every at rs)
+      go : (b : Bool) → eqb (key r) n ≡ b → turn key n f rs ≡ every at rs → pick b (instead (f r) rs) (r ∷ turn key n f rs) ≡ instead (pick b (f r) (now r)) (every at rs)
       go true e ih =
-          ap (put (f r)) (sym (every-other rs (subst (λ (k : ℕ). Others key k rs) (eqb-true (key r) n e) (h .0))))
+          ap (instead (f r)) (sym (every-other rs (subst (λ (k : ℕ). Others key k rs) (eqb-true (key r) n e) (h .0))))
       go false e ih = ap (λ (xs : List Row). r ∷ xs) ih
 
 every-now : (rs : List Row) → every now rs ≡ rs
