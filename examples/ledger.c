@@ -34,7 +34,7 @@ int main(void) {
         printf("ID %llu: group %llu, object %llu, %llu counted\n", (unsigned long long)row[0], (unsigned long long)row[8],
                (unsigned long long)row[9], (unsigned long long)row[10]);
     }
-    numbers[5] = 65; /* more rows than there can be: no ledger any more */
+    numbers[5] = MOQ_ROWS + 1; /* more rows than there can be: no ledger any more */
     printf("another arrival: %llu\n", (unsigned long long)moq_ledger_arrival(7, 70000, 0, numbers, MOQ_LEDGER_NUMBERS));
     return 0;
 }

@@ -8,11 +8,18 @@ use std::io::Write;
 
 use crate::answer::{DONE, MORE};
 use crate::fields::Fields;
-use crate::ledger::{Answer, Ledger, Part, Row};
+use crate::ledger::{Answer, Ledger, Part, Row, ROWS};
 use crate::message;
 
 /// 01: "`moqreport` [...] has 64 rows."
 const CAPACITY: u64 = 64;
+/// The names of the columns, which stand above the rows.
+const COLUMNS: &str = "ID ALIAS STATE GROUP OBJECT COUNT";
+/// No line is longer: six items, none longer than the columns, and a byte after
+/// each.
+pub const LONGEST_LINE: usize = 6 * (COLUMNS.len() + 1);
+/// No report is longer: a line for the session, the columns, and each row.
+pub const LONGEST_REPORT: usize = LONGEST_LINE * (2 + ROWS);
 
 /// What a field of a trace was.
 #[derive(Debug, Clone, Copy, PartialEq, Eq)]
@@ -167,7 +174,7 @@ fn ledger_text(ledger: &Ledger, text: &mut Vec<u8>) {
         None => line(text, format_args!("open {}", ledger.used)),
         Some(rule) => line(text, format_args!("closed R{rule} {}", ledger.used)),
     }
-    line(text, format_args!("ID ALIAS STATE GROUP OBJECT COUNT"));
+    line(text, format_args!("{COLUMNS}"));
     for row in ledger.rows_in_use() {
         row_text(row, text);
     }

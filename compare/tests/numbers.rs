@@ -7,6 +7,7 @@ use second::generate::{Call, LedgerCase, Ledgers, Random};
 use second::integer::GREATEST;
 use second::ledger::{Ledger, Part, Place, Range, Row, ROWS};
 use second::numbers::{self, COUNT, EACH, FIRST};
+use second::report::{LONGEST_LINE, LONGEST_REPORT};
 use second::{calls, hex};
 
 /// How many calls each test makes.
@@ -34,7 +35,8 @@ fn defined(header: &str, name: &str) -> usize {
     line.and_then(|value| value.parse().ok()).expect("a number")
 }
 
-/// C's names for the parts of a ledger are the numbers that this side has.
+/// C's names, for the parts of a ledger and for the longest text of a report,
+/// are the numbers that this side has.
 #[test]
 fn names_in_c() {
     let header = include_str!("../../include/moq.h");
@@ -43,6 +45,10 @@ fn names_in_c() {
     assert_eq!(defined(header, "MOQ_ROW_NUMBERS"), EACH);
     let whole = "(MOQ_OWN_NUMBERS + MOQ_ROW_NUMBERS * MOQ_ROWS)";
     assert!(header.contains(&format!("#define MOQ_LEDGER_NUMBERS {whole}")));
+    let line = defined(header, "MOQ_LONGEST_LINE");
+    assert_eq!((line, line * (2 + ROWS)), (LONGEST_LINE, LONGEST_REPORT));
+    let whole = "(MOQ_LONGEST_LINE * (2 + MOQ_ROWS))";
+    assert!(header.contains(&format!("#define MOQ_LONGEST_REPORT {whole}")));
 }
 
 /// The calls of 01's report, one by one, with the numbers behind each.

@@ -26,7 +26,8 @@ numberOf kind = typeRow kind .number
 abbrev pub layoutOf : AnnounceKind → Layout
 layoutOf kind = typeRow kind .layout
 
--- what follows the namespace: nothing; Parameters; or Error Code, Reason Phrase
+-- what follows the namespace: nothing; Parameters; or Error Code, Reason Phrase. This is the last column of the table
+-- of types, by the shape of the message (proofs/ByKind.antt: `layout-is`).
 unfoldable pub rest : AnnounceKind → Layout
 rest (Named k) = done
 rest (Asked k) = parameters

@@ -18,9 +18,9 @@ pub of-trace-once : (s before : List ℕ) {a b : Putting} {x y : List ℕ} → L
 of-trace-once s before l m = leaves-once l m
 
 -- The progress behind the whole fields of a trace, and what is left, are those of its run.
-pub answers-run : (s : List ℕ) → _≡_ {A = Held Progress} (let h = feed addLine (record { soFar = withText begun []; rest = [] }) s in record { soFar = h .soFar .progress; rest = h .rest }) (fed begun s)
+pub answers-replay : (s : List ℕ) → _≡_ {A = Held Progress} (let h = feed addLine (record { soFar = withText begun []; rest = [] }) s in record { soFar = h .soFar .progress; rest = h .rest }) (fed begun s)
 unfolding fed step addLine
-answers-run s = feed-alike addLine step (λ (t : SoFar). t .progress) told-step (record { soFar = withText begun []; rest = [] }) s
+answers-replay s = feed-alike addLine step (λ (t : SoFar). t .progress) told-step (record { soFar = withText begun []; rest = [] }) s
   where
     told-step : (t : SoFar) (field : List ℕ) → addLine t field .progress ≡ step (t .progress) field
     told-step t field = refl

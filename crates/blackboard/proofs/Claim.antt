@@ -15,7 +15,7 @@ use Rattle.measure.specs.Judging.{right, sized}
 use Rattle.measure.specs.Measuring.{rightAll, sizedAll, encodeAll}
 use Rattle.encode.specs.Writing.{writtenOf, frame}
 use Rattle.field.specs.Value.{mean, encField, encode}
-use Rattle.measure.specs.Small.{smallSpan, smallList, smallPiece, smallAll}
+use Rattle.measure.specs.Small.{smallPiece, smallAll}
 use Rattle.field.specs.Rules.{askable, givable}
 use Rattle.types.specs.Subscriptions.{filter, delivery, subscribe, content, subscribeOk}
 use Rattle.subscription.proofs.Made.{messageOf as subscriptionOf}
@@ -42,7 +42,7 @@ use Rattle.integer.specs.Integer.{wide, room, tag, sizeOf, spell, bytesOf, encO
 use Rattle.blackboard.specs.Table.{Line, answersTo, found, stated, lines}
 
 computed : map found lines ≡ map stated lines
-unfolding found stated lines wide room tag sizeOf spell bytesOf readOf putForm writeOf numberAt fieldAt scan fetchCancel messages typeRowIn typeRowOf known layoutOf bodyUpTo readUpTo writeUpTo allowed allowedOf right sized rightAll sizedAll encodeAll encode encField mean writtenOf frame encOf answersTo smallSpan smallList smallPiece smallAll askable soundOf small smallPlace isKnown smallRange countAgrees suits isRow isPending isNowhere isUnused held rising hasAlias distinct allUnused bounded isLedger stops gateOf gated upTo look turn startOf subscribeStep takeOf textAt numberedAt entryAt mostOf entriesAt few listAt placeAt place parameters givable filter delivery subscribe content subscribeOk subscriptionOf familyOf madeOf answerOf readingOf before inRange settledOf greater risen countedRow arriveOf openOf byKey noRow okAt arriveAt smallArrival arrivalOf tagOf valueOf fieldSize isWhole feedByte feed letters decimalIn decimalOf wordOf itemOf endedOf isNone lineOf startedBy controlBy arrivedBy eventOf offsetOf stepOf step fed finishOf replayOf rowsText ledgerText textOf reportOf
+unfolding found stated lines wide room tag sizeOf spell bytesOf readOf putForm writeOf numberAt fieldAt scan fetchCancel messages typeRowIn typeRowOf known layoutOf bodyUpTo readUpTo writeUpTo allowed allowedOf right sized rightAll sizedAll encodeAll encode encField mean writtenOf frame encOf answersTo smallPiece smallAll askable soundOf small smallPlace isKnown smallRange countAgrees suits isRow isPending isNowhere isUnused held rising hasAlias distinct allUnused bounded isLedger stops gateOf gated upTo look turn startOf subscribeStep takeOf textAt numberedAt entryAt mostOf entriesAt few listAt placeAt place parameters givable filter delivery subscribe content subscribeOk subscriptionOf familyOf madeOf answerOf readingOf before inRange settledOf greater risen countedRow arriveOf openOf byKey noRow okAt arriveAt smallArrival arrivalOf tagOf valueOf fieldSize isWhole feedByte feed letters decimalIn decimalOf wordOf itemOf endedOf isNone lineOf startedBy controlBy arrivedBy eventOf offsetOf stepOf step fed finishOf replayOf rowsText ledgerText textOf reportOf
 computed = refl
 
 -- two functions that map a list alike agree at each of its members

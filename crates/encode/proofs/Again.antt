@@ -67,7 +67,7 @@ field-right {s} {at} (a-track {l = l} {next = next} e f) =
 
 -- since it is right, and good by value
 field-judged : {s : List ℕ} {at : ℕ} {form : FieldForm} {p : Piece} {end : ℕ} → FieldAt s at form p end → (right s p ≡ true) × (sized s p ≡ true)
-field-judged {s} {p = p} f = let r = field-right f in (r, sym (sized-good s p r) ∙ field-good f .allowed)
+field-judged {s} {p = p} f = let r = field-right f in (r, sym (sized-good s p r) ∙ field-good f .is-good)
 
 -- A field that was found is right and sized.
 pub found-right : (form : FieldForm) (s : List ℕ) (at : ℕ) {p : Piece} {end : ℕ} → fieldAt form s at ≡ whole p end → (right s p ≡ true) × (sized s p ≡ true)

@@ -20,7 +20,7 @@ use Rattle.measure.specs.Judging.{right}
 use Rattle.measure.specs.Measuring.{rightAll, sizedAll, encodeAll}
 use Rattle.encode.specs.Writing.{writtenOf}
 use Rattle.encode.proofs.Good.{sized-good}
-use Rattle.encode.proofs.Passed.{Wrote}
+use Rattle.encode.proofs.ChecksPassed.{Wrote}
 
 -- ---- what was written
 

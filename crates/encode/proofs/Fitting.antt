@@ -5,10 +5,10 @@ use mathlib.Core.Bool.{Bool, true, false}
 use mathlib.Core.List.{List, [], _∷_}
 use lib.Dec.{eqb}
 use Rattle.common.specs.Choice.{pick, both}
+use Rattle.common.proofs.Tests.{both-each}
 use Rattle.field.specs.Value.{Value}
 use Rattle.layout.specs.Layout.{Layout, done, forbidden, field, when}
 use Rattle.layout.specs.Permitted.{formOf, handed, code, permitted}
-use Rattle.layout.proofs.Back.{both-true as both-parts}
 use Rattle.encode.proofs.Good.{AllGood, more}
 
 -- values are of the forms that a layout asks for, and pass its tests
@@ -28,7 +28,7 @@ fitting-permitted done (v ∷ vs) h g = h
 fitting-permitted forbidden vs h g = h
 fitting-permitted (field form next) [] h g = h
 fitting-permitted (field form next) (v ∷ vs) h (more g gs) =
-    let p = both-parts (eqb (code form) (code (formOf v))) (fitting (next (handed v)) vs) h in
+    let p = both-each (eqb (code form) (code (formOf v))) (fitting (next (handed v)) vs) h in
     rw (p .0, g) (fitting-permitted (next (handed v)) vs (p .1) gs)
 fitting-permitted (when true l m) vs h g = fitting-permitted l vs h g
 fitting-permitted (when false l m) vs h g = fitting-permitted m vs h g

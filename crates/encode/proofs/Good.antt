@@ -20,7 +20,7 @@ use Rattle.layout.proofs.Good.{good-items}
 use Rattle.measure.specs.Judging.{rightSpan, rightList, right, sizedList, sized}
 use Rattle.measure.specs.Measuring.{rightAll, sizedAll}
 use Rattle.measure.proofs.Spans.{lies}
-use Rattle.measure.proofs.Runs.{items-length}
+use Rattle.measure.proofs.EntriesFrom.{items-length}
 use Rattle.measure.proofs.Lists.{holds}
 
 -- ---- one field

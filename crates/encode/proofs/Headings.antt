@@ -13,7 +13,7 @@ use Rattle.measure.specs.Measuring.{encodeAll, measureAll}
 use Rattle.measure.specs.declared.Measured.{Measured}
 use Rattle.measure.specs.declared.Middle.{Middle}
 use Rattle.measure.proofs.Joins.{measure-joined, numbers-right, numbers-encode, numbers-judged}
-use Rattle.encode.proofs.Filling.{Filling, AllAsk, first-asks, first-filled, several-ask, several-sum, several-filled}
+use Rattle.encode.proofs.FieldsPut.{Filling, AllAsk, first-asks, first-filled, several-ask, several-sum, several-filled}
 
 -- numbers ask the same over any bytes
 numbers-ask : (s t ns : List ℕ) {room : ℕ} → AllAsk s (map Number ns) room → AllAsk t (map Number ns) room

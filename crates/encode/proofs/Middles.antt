@@ -19,7 +19,7 @@ use Rattle.measure.specs.declared.Middle.{Middle}
 use Rattle.measure.specs.declared.Middle.the-variants.{Nothing, Byte as OneByte, Bytes as SomeBytes, Both}
 use Rattle.measure.proofs.Joins.{alone-right, alone-is}
 use Rattle.encode.proofs.Pieces.{Asks, byte-is, bytes-is, byte-asks, bytes-asks}
-use Rattle.encode.proofs.Filling.{AllAsk}
+use Rattle.encode.proofs.FieldsPut.{AllAsk}
 
 -- a field alone asks what it does
 alone-asks : (s : List ℕ) (p : Piece) {room : ℕ} → AllAsk s (p ∷ []) room → Asks s p room

@@ -8,7 +8,7 @@ ghost use lib.ListN.{length};
 ghost use Rattle.common.specs.Answer.{Leaves};
 ghost use Rattle.common.specs.Buffer.{Put};
 ghost use Rattle.integer.specs.Integer.{encOf, greatest};
-ghost use Rattle.measure.specs.Fields.{tenOf, fieldsOf};
+ghost use Rattle.measure.specs.Fields.{pieceCount, fieldsOf};
 ghost use Rattle.measure.specs.Measuring.{rightAll, encodeAll};
 ghost use Rattle.encode.specs.Writing.{framedOf, toldWriting};
 use crate::Writing;
@@ -16,7 +16,7 @@ use crate::putting::put_number;
 use crate::putting::put_piece;
 use measure::Fields;
 use measure::Measured;
-use measure::places::ten;
+use measure::places::piece_count;
 
 // Type and Length; behind them the body begins.
 fn put_front(out: &mut [u8], kind: u64, n: u64) -> usize
@@ -35,7 +35,7 @@ fn put_all(out: &mut [u8], bytes: &[u8], f: Fields) -> usize
     requires { ⌜ length (encodeAll (now bytes) (fieldsOf f)) ≤ length (now out) ⌝ }
     ensures { λ r. ⌜ Put (encodeAll (now (bytes .entry)) (fieldsOf f)) (now (out .entry)) r (now (out .exit)) ⌝ }
 {
-    let n = ten(f.used);
+    let n = piece_count(f.used);
     let mut at: usize = 0;
     let mut i: usize = 0;
     while i < n {
@@ -59,7 +59,7 @@ pub fn write_framed(out: &mut [u8], bytes: &[u8], f: Fields, longest: u32) -> Wr
         return Writing::Forbidden;
     }
     let room = longest as usize;
-    let count = ten(f.used);
+    let count = piece_count(f.used);
     let mut found = Measured::Takes(0);
     let mut i: usize = 0;
     while i < count {

@@ -18,7 +18,7 @@ use Rattle.message.specs.declared.Message.{Message}
 use Rattle.message.specs.declared.Reading.{Reading}
 use Rattle.message.proofs.Reading.{the-type}
 use Rattle.message.proofs.OneReading.{readingOf, reading-only}
-use Rattle.ledger.specs.Ledgers.{emptyLedger}
+use Rattle.ledger.specs.Ledgers.{mostRows, emptyLedger}
 use Rattle.ledger.specs.Answers.{Came, toldAnswer, told, done}
 use Rattle.ledger.specs.Steps.{startOf, refusedStart, takeOf}
 use Rattle.ledger.specs.Runs.{runOf, toldFilled, Runs}
@@ -28,7 +28,7 @@ use Rattle.ledger.specs.declared.Ledger.{Ledger}
 use Rattle.ledger.specs.declared.Taken.{Taken}
 use Rattle.ledger.specs.declared.Filled.{Filled}
 use Rattle.ledger.specs.declared.Ran.{Ran}
-use Rattle.ledger_numbers.specs.Numbers.{numbersOf}
+use Rattle.ledger_numbers.specs.Numbers.{ledgerNumbers, numbersOf}
 use Rattle.ledger_numbers.specs.Naming.{partNamed, unpackOf, keptIn}
 use Rattle.ledger_numbers.proofs.Storing.{numbers-length}
 use Rattle.replay.proofs.Meaning.{not-whole}
@@ -46,12 +46,12 @@ pub part-second : (part : ℕ) {own : Part} → (part ≡ 0 → ⊥) → own ≡
 unfolding partNamed
 part-second part h is = is ∙ rw (ne-eqb part 0 h)
 
--- the capacity of one that was started is not 0, and there are 64 places in any
+-- the capacity of one that was started is not 0, and there are places for all rows in any
 by-test : (b : Bool) (part : Part) (rows maximum : ℕ) → pick b (done (emptyLedger part rows maximum)) (refusedStart part) .says .number ≡ 8 → b ≡ true
 by-test true part rows maximum h = refl
 by-test false part rows maximum h = absurd (omega arith)
 
-by-places : (b : Bool) (part : Part) (rows maximum : ℕ) → length (pick b (done (emptyLedger part rows maximum)) (refusedStart part) .next .rows) ≡ 64
+by-places : (b : Bool) (part : Part) (rows maximum : ℕ) → length (pick b (done (emptyLedger part rows maximum)) (refusedStart part) .next .rows) ≡ mostRows
 by-places true part rows maximum = refl
 by-places false part rows maximum = refl
 
@@ -60,22 +60,22 @@ first true b h = refl
 first false b h = h
 
 module _ (part : Part) (rows maximum : ℕ) where
-  start-places : length (startOf part rows maximum .next .rows) ≡ 64
+  start-places : length (startOf part rows maximum .next .rows) ≡ mostRows
   unfolding startOf
-  start-places = by-places (both (leb 1 rows) (both (leb rows 64) (small maximum))) part rows maximum
+  start-places = by-places (both (leb 1 rows) (both (leb rows mostRows) (small maximum))) part rows maximum
 
   start-room : startOf part rows maximum .says .number ≡ 8 → startOf part rows maximum .next .capacity ≡ 0 → ⊥
   unfolding startOf
   start-room h k =
-      let b = by-test (both (leb 1 rows) (both (leb rows 64) (small maximum))) part rows maximum h in
+      let b = by-test (both (leb 1 rows) (both (leb rows mostRows) (small maximum))) part rows maximum h in
       let zero : rows ≡ 0 = rw b at k in
-      omega (arith, leb-true 1 rows (first (leb 1 rows) (both (leb rows 64) (small maximum)) b))
+      omega (arith, leb-true 1 rows (first (leb 1 rows) (both (leb rows mostRows) (small maximum)) b))
 
 module _ (part rows maximum : ℕ) (before : List ℕ) {own : Part} (t : Taken) {n : ℕ} (kind : part ≤ 1) (which : own ≡ partNamed part) (s : told t ≡ startOf own rows maximum) (says : n ≡ toldAnswer (t .answer) .number) where
   came : told t ≡ startOf (partNamed part) rows maximum
   came = rw (← which) s
 
-  places : length (t .ledger .rows) ≡ 64
+  places : length (t .ledger .rows) ≡ mostRows
   places = ap (λ (c : Came). length (c .next .rows)) s ∙ start-places own rows maximum
 
   pub started-else : (n ≡ 8 → ⊥) → Does (startCall part rows maximum before) n before []
@@ -87,12 +87,12 @@ module _ (part rows maximum : ℕ) (before : List ℕ) {own : Part} (t : Taken) 
     has-room z =
         start-room own rows maximum (sym (ap (λ (c : Came). c .says .number) s) ∙ sym says ∙ h) (sym (ap (λ (c : Came). c .next .capacity) s) ∙ z)
 
-    pub started-short : length before < 710 → Does (startCall part rows maximum before) 7 before []
+    pub started-short : length before < ledgerNumbers → Does (startCall part rows maximum before) 7 before []
     unfolding startCall
     started-short k =
-        rw (le-leb part 1 kind, ← came, ← says, eq-eqb n 8 h, numbers-length (t .ledger) places, lt-leb 710 (length before) k) (record { says = refl; leaves = refl; tells = refl })
+        rw (le-leb part 1 kind, ← came, ← says, eq-eqb n 8 h, numbers-length (t .ledger) places, lt-leb ledgerNumbers (length before) k) (record { says = refl; leaves = refl; tells = refl })
 
-    module _ (k : 710 ≤ length before) where
+    module _ (k : ledgerNumbers ≤ length before) where
       fits : leb (length (numbersOf (t .ledger))) (length before) ≡ true
       fits = le-leb (length (numbersOf (t .ledger))) (length before) (omega (arith, numbers-length (t .ledger) places))
 

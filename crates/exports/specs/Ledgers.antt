@@ -51,8 +51,8 @@ takenCall c used before info =
 -- "Only a whole message reaches the ledger; every other reading ends there"
 abbrev pub takenBy : Reading → List ℕ → List ℕ → Doing
 takenBy r before info =
-    onWhole r (λ m used. takenCall (takeOf (unpackOf before) m) used before info)
-    (refusing (number (told r)) before info)
+    onWhole r (refusing (number (told r)) before info)
+    (λ m used. takenCall (takeOf (unpackOf before) m) used before info)
 
 -- the one reading that `told r ≡ readOf s` names
 unfoldable pub messageCall : List ℕ → List ℕ → List ℕ → Doing

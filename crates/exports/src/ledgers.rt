@@ -1,5 +1,5 @@
-// A ledger, which the caller holds as numbers (the crate packed says which). What is no ledger answers 14, and stays as
-// it is.
+// A ledger, which the caller holds as numbers (the crate ledger_numbers says which). What is no ledger answers 14, and
+// stays as it is.
 ghost use mathlib.Core.Path.{_≡_};
 ghost use mathlib.Core.List.{[]};
 ghost use Rattle.common.specs.Answer.{number};
@@ -31,7 +31,7 @@ pub extern "C" fn moq_ledger_start(part: u64, rows: u64, maximum: u64, numbers: 
     if said != 8 {
         return said;
     }
-    if numbers.len() < ledger_numbers::SIZE {
+    if numbers.len() < ledger_numbers::LEDGER_NUMBERS {
         return 7;
     }
     ledger_numbers::keep(numbers, t.ledger);

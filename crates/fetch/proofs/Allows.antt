@@ -9,7 +9,7 @@ use Rattle.field.specs.declared.Entries.{Entries}
 use Rattle.field.specs.declared.Piece.the-variants.{Number, List as Listing}
 use Rattle.layout.specs.Layout.{place, parameters}
 use Rattle.layout.specs.Allowed.{allowed}
-use Rattle.layout.proofs.Allowed.{test-alone}
+use Rattle.common.proofs.Tests.{test-alone}
 use Rattle.types.specs.Rules.{isTrackStatus, mayHold}
 use Rattle.types.specs.Fetches.{standalone, joining, range, fetch, fetchOk, largest, trackStatus}
 use Rattle.types.specs.Table.{messages, typeRowIn, typeRowOf, layoutOf, allowedTyped}

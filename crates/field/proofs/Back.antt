@@ -12,9 +12,9 @@ use borrow.Author.Tests.{lt-ltb}
 use Rattle.integer.specs.Integer.{encOf, greatest}
 use Rattle.integer.proofs.Laws.{round-trip}
 use Rattle.field.specs.Outcome.{whole}
-use Rattle.field.specs.Entries.{size, numberAt, textAt, numberedAt, entryAt, mostOf, entriesAt, few, Listed, listAt}
+use Rattle.field.specs.Entries.{longestTrack, size, numberAt, textAt, numberedAt, entryAt, mostOf, entriesAt, few, Listed, listAt}
 use Rattle.field.specs.Fields.{FieldForm, integer, byte, bytes, list, track, fieldAt}
-use Rattle.field.specs.Value.{part, Item, item, itemsOf, total, Value, number, octet, text, items, fullName, contents, mean, encText, encItem, encItems, encList, encField}
+use Rattle.field.specs.Value.{part, EntryValue, entryValue, entryValues, total, Value, number, octet, text, items, fullName, contents, mean, encText, encItem, encItems, encList, encField}
 use Rattle.field.specs.declared.Span.{Span}
 use Rattle.field.specs.declared.Entry.{Entry}
 use Rattle.field.specs.declared.Kind.{Kind}
@@ -87,16 +87,16 @@ text-part s b f = part-back b (behind (encOf (length b)) b f)
 -- ---- an entry
 
 -- an entry that can be written, and has nothing that its kind has no place for
-pub data Fit : Kind → Item → Type 0 where
-  aField : {i : Item} → i .number ≡ 0 → length (i .bytes) ≤ greatest → Fit Namespace i
-  aParameter : {i : Item} → i .number ≤ greatest → length (i .bytes) ≤ greatest → Fit Parameters i
-  aVersion : {i : Item} → i .number ≤ greatest → length (i .bytes) ≡ 0 → Fit Versions i
+pub data Fit : Kind → EntryValue → Type 0 where
+  aField : {i : EntryValue} → i .number ≡ 0 → length (i .bytes) ≤ greatest → Fit Namespace i
+  aParameter : {i : EntryValue} → i .number ≤ greatest → length (i .bytes) ≤ greatest → Fit Parameters i
+  aVersion : {i : EntryValue} → i .number ≤ greatest → length (i .bytes) ≡ 0 → Fit Versions i
 
 -- an entry stands at an offset: it is read there up to its end, and is the item
-pub record EntryBack (kind : Kind) (most : ℕ) (s : List ℕ) (at : ℕ) (i : Item) : Type 0 where
+pub record EntryBack (kind : Kind) (most : ℕ) (s : List ℕ) (at : ℕ) (i : EntryValue) : Type 0 where
   pub found : Entry
   pub reads : entryAt kind most s at ≡ whole found (at + length (encItem kind i))
-  pub means : item s found ≡ i
+  pub means : entryValue s found ≡ i
   pub holds : size (found .bytes) ≡ length (i .bytes)
 
 -- a number that was found before it, and a length and bytes
@@ -106,7 +106,7 @@ unfolding numberedAt
 numbered-back n most s b h k f = rw (text-back most s b h k f)
 
 -- an item is its number and its bytes
-item-is : (i : Item) {n : ℕ} {b : List ℕ} → n ≡ i .number → b ≡ i .bytes → record { number = n; bytes = b } ≡ i
+item-is : (i : EntryValue) {n : ℕ} {b : List ℕ} → n ≡ i .number → b ≡ i .bytes → record { number = n; bytes = b } ≡ i
 item-is i e f = ap₂ (λ (n : ℕ) (b : List ℕ). record { number = n; bytes = b }) e f
 
 -- of no length are only no bytes
@@ -115,7 +115,7 @@ no-bytes [] h = refl
 no-bytes (x ∷ b) h = absurd (omega arith)
 
 -- an entry of each kind is read back, where it may hold as many bytes
-pub entry-back : {kind : Kind} {i : Item} (most : ℕ) (s : List ℕ) {at : ℕ} {rest : List ℕ} → Fit kind i → length (i .bytes) ≤ most → From s at (encItem kind i) rest → EntryBack kind most s at i
+pub entry-back : {kind : Kind} {i : EntryValue} (most : ℕ) (s : List ℕ) {at : ℕ} {rest : List ℕ} → Fit kind i → length (i .bytes) ≤ most → From s at (encItem kind i) rest → EntryBack kind most s at i
 unfolding entryAt encItem
 entry-back {i = i} most s {at} (aField z h) k f =
     let b = i .bytes in
@@ -148,25 +148,25 @@ entry-back {i = i} most s {at} (aVersion n h) k f =
 -- ---- entries, one after the other
 
 -- each of them can be written
-pub data AllFit (kind : Kind) : List Item → Type 0 where
+pub data AllFit (kind : Kind) : List EntryValue → Type 0 where
   none : AllFit kind []
-  more : {i : Item} {is : List Item} → Fit kind i → AllFit kind is → AllFit kind (i ∷ is)
+  more : {i : EntryValue} {is : List EntryValue} → Fit kind i → AllFit kind is → AllFit kind (i ∷ is)
 
 -- no length is too great to be written
-fit-little : {kind : Kind} {i : Item} → Fit kind i → length (i .bytes) ≤ greatest
+fit-little : {kind : Kind} {i : EntryValue} → Fit kind i → length (i .bytes) ≤ greatest
 fit-little (aField z h) = h
 fit-little (aParameter n h) = h
 fit-little (aVersion n h) = omega arith
 
--- so many bytes more are not too many: in a namespace there are at most 4,096
-fit-most : (kind : Kind) (held : ℕ) {n : ℕ} → n ≤ greatest → (kind ≡ Namespace → held + n ≤ 4_096) → n ≤ mostOf true kind held
+-- as many bytes more are not too many: in a namespace there are at most `longestTrack`
+fit-most : (kind : Kind) (held : ℕ) {n : ℕ} → n ≤ greatest → (kind ≡ Namespace → held + n ≤ longestTrack) → n ≤ mostOf true kind held
 unfolding mostOf
 fit-most Namespace held h room = omega (arith, room refl)
 fit-most Parameters held h room = h
 fit-most Versions held h room = h
 
 -- as many as there are items are read, up to their end, and hold the bytes that the items hold
-pub entries-back : (kind : Kind) {is : List Item} (s : List ℕ) (held : ℕ) {at : ℕ} {rest : List ℕ} → AllFit kind is → (kind ≡ Namespace → held + total is ≤ 4_096)
+pub entries-back : (kind : Kind) {is : List EntryValue} (s : List ℕ) (held : ℕ) {at : ℕ} {rest : List ℕ} → AllFit kind is → (kind ≡ Namespace → held + total is ≤ longestTrack)
     → From s at (encItems kind is) rest → entriesAt true kind (length is) held s at ≡ whole (held + total is) (at + length (encItems kind is))
 unfolding entriesAt encItems total
 entries-back kind s held {at} none room f = rw (add-zero held, add-zero at)
@@ -178,8 +178,8 @@ entries-back kind s held {at} (more {i = i} {is = is} h hs) room f =
     (entries-back kind s (held + length (i .bytes)) hs (λ n. omega (arith, room n)) (behind xs ys f))
 
 -- and they are the items
-pub items-back : (kind : Kind) {is : List Item} (s : List ℕ) {at : ℕ} {rest : List ℕ} → AllFit kind is → From s at (encItems kind is) rest → itemsOf kind (length is) s at ≡ is
-unfolding itemsOf encItems
+pub items-back : (kind : Kind) {is : List EntryValue} (s : List ℕ) {at : ℕ} {rest : List ℕ} → AllFit kind is → From s at (encItems kind is) rest → entryValues kind (length is) s at ≡ is
+unfolding entryValues encItems
 items-back kind s none f = refl
 items-back kind s (more {i = i} {is = is} h hs) f =
     let xs = encItem kind i in
@@ -190,19 +190,19 @@ items-back kind s (more {i = i} {is = is} h hs) f =
 -- ---- a count and as many entries
 
 -- a list that can be written and is not over a size, with so many bytes of a name
-pub record ListFit (kind : Kind) (is : List Item) (also : ℕ) : Type 0 where
+pub record ListFit (kind : Kind) (is : List EntryValue) (also : ℕ) : Type 0 where
   pub countable : length is ≤ greatest
   pub few-enough : few kind (length is) ≡ true
   pub all-fit : AllFit kind is
-  pub room : kind ≡ Namespace → total is + also ≤ 4_096
+  pub room : kind ≡ Namespace → total is + also ≤ longestTrack
 
 -- what is found where it stands
-abbrev pub listed : Kind → ℕ → List Item → Listed
+abbrev pub listed : Kind → ℕ → List EntryValue → Listed
 listed kind at is =
     record { entries = record { start = at + length (encOf (length is)); end = at + length (encList kind is); count = length is }; held = total is }
 
 -- it is read, up to its end,
-pub list-back : (kind : Kind) (s : List ℕ) {is : List Item} {also at : ℕ} {rest : List ℕ} → ListFit kind is also → From s at (encList kind is) rest
+pub list-back : (kind : Kind) (s : List ℕ) {is : List EntryValue} {also at : ℕ} {rest : List ℕ} → ListFit kind is also → From s at (encList kind is) rest
     → listAt kind s at ≡ whole (listed kind at is) (at + length (encList kind is))
 unfolding listAt encList
 list-back kind s {is} {at = at} h f =
@@ -213,7 +213,7 @@ list-back kind s {is} {at = at} h f =
     rw (number-back s (length is) (h .countable) (front count ys f), h .few-enough, e, z, further at count ys)
 
 -- and holds the items
-pub list-items : (kind : Kind) (s : List ℕ) {is : List Item} {also at : ℕ} {rest : List ℕ} → ListFit kind is also → From s at (encList kind is) rest
+pub list-items : (kind : Kind) (s : List ℕ) {is : List EntryValue} {also at : ℕ} {rest : List ℕ} → ListFit kind is also → From s at (encList kind is) rest
     → contents s kind (listed kind at is .entries) ≡ is
 unfolding encList
 list-items kind s {is} h f = items-back kind s (h .all-fit) (behind (encOf (length is)) (encItems kind is) f)
@@ -246,13 +246,13 @@ unfolding fieldAt encField mean
 bytes-field s b {at} h f = record { found = Bytes (textSpan at b); reads = rw (text-back greatest s b h h f); means = ap text (text-part s b f) }
 
 -- a list of each kind
-pub list-field : (kind : Kind) (s : List ℕ) {is : List Item} {also at : ℕ} {rest : List ℕ} → ListFit kind is also → From s at (encList kind is) rest → FieldBack (list kind) s at (items kind is)
+pub list-field : (kind : Kind) (s : List ℕ) {is : List EntryValue} {also at : ℕ} {rest : List ℕ} → ListFit kind is also → From s at (encList kind is) rest → FieldBack (list kind) s at (items kind is)
 unfolding fieldAt encField mean
 list-field kind s {is} {at = at} h f =
     record { found = Listing kind (listed kind at is .entries); reads = rw (list-back kind s h f); means = ap (items kind) (list-items kind s h f) }
 
 -- a full track name: the namespace leaves its name room
-pub track-field : (s : List ℕ) {is : List Item} (name : List ℕ) {at : ℕ} {rest : List ℕ} → ListFit Namespace is (length name) → From s at (encList Namespace is ++ encText name) rest
+pub track-field : (s : List ℕ) {is : List EntryValue} (name : List ℕ) {at : ℕ} {rest : List ℕ} → ListFit Namespace is (length name) → From s at (encList Namespace is ++ encText name) rest
     → FieldBack track s at (fullName is name)
 unfolding fieldAt encField mean mostOf
 track-field s {is} name {at} h f =
@@ -263,6 +263,6 @@ track-field s {is} name {at} h f =
     let g = behind xs ys f in
     record {
       found = Tracked (record { namespace = listed Namespace at is .entries; name = textSpan next name });
-      reads = rw (list-back Namespace s h (front xs ys f), text-back (4_096 - total is) s name (omega arith) (omega arith) g, further at xs ys);
+      reads = rw (list-back Namespace s h (front xs ys f), text-back (longestTrack - total is) s name (omega arith) (omega arith) g, further at xs ys);
       means = ap₂ fullName (list-items Namespace s h (front xs ys f)) (text-part s name g);
     }

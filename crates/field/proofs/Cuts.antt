@@ -67,7 +67,7 @@ number-decided : (at : ℕ) (s : List ℕ) → Decided (λ u. numberAt u at) s
 unfolding numberAt
 number-decided at = enough-decided (at + 8) λ u room. go u room (readOf (drop at u)) refl
   where
-    go : (u : List ℕ) → at + 8 ≤ length u → (r : Answer ℕ) → readOf (drop at u) ≡ r → onRead r (λ n used. whole n (at + used)) (no Cut) ≡ no Cut → ⊥
+    go : (u : List ℕ) → at + 8 ≤ length u → (r : Answer ℕ) → readOf (drop at u) ≡ r → onRead r (no Cut) (λ n used. whole n (at + used)) ≡ no Cut → ⊥
     go u room (answered n used) e h = apart h
     go u room (refused k) e h =
         omega (arith, rw length-drop at (cut-is (drop at u) e .1), wide-form (getD (drop at u) 0 0) .few)

@@ -57,7 +57,7 @@ pub number-at : (s : List ℕ) (at : ℕ) {n end : ℕ} → numberAt s at ≡ wh
 unfolding numberAt
 number-at s at {n} {end} = go (readOf (drop at s)) refl
   where
-    go : (r : Answer ℕ) → readOf (drop at s) ≡ r → onRead r (λ n used. whole n (at + used)) (no Cut) ≡ whole n end → NumberAt s at n end
+    go : (r : Answer ℕ) → readOf (drop at s) ≡ r → onRead r (no Cut) (λ n used. whole n (at + used)) ≡ whole n end → NumberAt s at n end
     go (answered m used) e h =
         let p : m ≡ n = cc in
         let q : at + used ≡ end = cc in

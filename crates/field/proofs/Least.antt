@@ -12,7 +12,7 @@ use Rattle.integer.specs.Integer.{encOf}
 use Rattle.integer.proofs.Only.{only}
 use Rattle.field.specs.Outcome.{whole}
 use Rattle.field.specs.Entries.{size, numberAt, textAt, entryAt}
-use Rattle.field.specs.Value.{part, item, encText, encItem}
+use Rattle.field.specs.Value.{part, entryValue, encText, encItem}
 use Rattle.field.specs.declared.Span.{Span}
 use Rattle.field.specs.declared.Entry.{Entry}
 use Rattle.field.specs.declared.Kind.{Kind}
@@ -74,7 +74,7 @@ pub least-text : (most : ℕ) (s : List ℕ) (at : ℕ) {p : Span} {end : ℕ} �
 least-text most s at h = text-least (text-at most s at h)
 
 -- an entry of each kind
-pub least-entry : (kind : Kind) (most : ℕ) (s : List ℕ) (at : ℕ) {e : Entry} {end : ℕ} → entryAt kind most s at ≡ whole e end → Least s at (encItem kind (item s e)) end
+pub least-entry : (kind : Kind) (most : ℕ) (s : List ℕ) (at : ℕ) {e : Entry} {end : ℕ} → entryAt kind most s at ≡ whole e end → Least s at (encItem kind (entryValue s e)) end
 unfolding entryAt encItem
 least-entry Namespace most s at h = text-least (numbered-at 0 most s at h .is-text)
 least-entry Parameters most s at h =

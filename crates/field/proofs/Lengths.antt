@@ -7,7 +7,7 @@ use lib.ListN.{length, drop, length-append, length-drop}
 use lib.Seq.{length-take-le}
 use Rattle.integer.specs.Integer.{encOf}
 use Rattle.field.specs.Entries.{size}
-use Rattle.field.specs.Value.{part, Item, item, encText, encItem, itemSize}
+use Rattle.field.specs.Value.{part, EntryValue, entryValue, encText, encItem, itemSize}
 use Rattle.field.specs.declared.Span.{Span}
 use Rattle.field.specs.declared.Entry.{Entry}
 use Rattle.field.specs.declared.Kind.{Kind}
@@ -23,12 +23,12 @@ unfolding encText
 length-text b = length-append (encOf (length b)) b
 
 -- and that of an entry
-pub length-item : (kind : Kind) (i : Item) → length (encItem kind i) ≡ itemSize kind (i .number) (length (i .bytes))
+pub length-item : (kind : Kind) (i : EntryValue) → length (encItem kind i) ≡ itemSize kind (i .number) (length (i .bytes))
 unfolding encItem itemSize
 length-item Namespace i = length-text (i .bytes)
 length-item Parameters i = rw (length-append, length-text)
 length-item Versions i = refl
 
 -- which for an entry of the bytes is its size
-pub length-entry : (kind : Kind) (s : List ℕ) (e : Entry) → e .bytes .end ≤ length s → length (encItem kind (item s e)) ≡ itemSize kind (e .number) (size (e .bytes))
-length-entry kind s e h = length-item kind (item s e) ∙ ap (itemSize kind (e .number)) (length-part s (e .bytes) h)
+pub length-entry : (kind : Kind) (s : List ℕ) (e : Entry) → e .bytes .end ≤ length s → length (encItem kind (entryValue s e)) ≡ itemSize kind (e .number) (size (e .bytes))
+length-entry kind s e h = length-item kind (entryValue s e) ∙ ap (itemSize kind (e .number)) (length-part s (e .bytes) h)

@@ -2,7 +2,7 @@ pub mod Found
 pub mod Unjudged
 pub mod Lengths
 pub mod Answers
-pub mod Together
+pub mod TwoReads
 pub mod Walks
 pub mod Lists
 pub mod OneAnswer

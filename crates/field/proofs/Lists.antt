@@ -11,7 +11,7 @@ use Rattle.integer.specs.declared.Reading.the-variants.{Whole, More}
 use Rattle.field.specs.Outcome.{Outcome, whole, no, andThen}
 use Rattle.field.specs.Entries.{Listed, numberAt, entryAt, entriesAt, few, mostOf, listAt}
 use Rattle.field.specs.Fields.{fieldAt, list, track}
-use Rattle.field.specs.Value.{encItems, itemsOf, walkOf}
+use Rattle.field.specs.Value.{encItems, entryValues, walkOf}
 use Rattle.field.specs.Told.{toldEntry, toldWalk, toldCounted}
 use Rattle.field.specs.declared.Fault.{Fault}
 use Rattle.field.specs.declared.Fault.the-variants.{Cut, Oversize}
@@ -40,7 +40,7 @@ list-walk : (kind : Kind) (s : List ℕ) (at : ℕ) {count first : ℕ} → numb
 unfolding listAt walkOf
 list-walk kind s at {count} {first} e f = rw (e, f) (go (entriesAt true kind count 0 s first))
   where
-    go : (o : Outcome ℕ) → (andThen {B = Listed} o λ held end. whole (record { entries = record { start = first; end = end; count = count }; held = held }) end) ≡ andThen (andThen {B = Sums} o λ held end. whole (record { end = end; held = held; size = length (encItems kind (itemsOf kind count s first)) }) end) (listed first count)
+    go : (o : Outcome ℕ) → (andThen {B = Listed} o λ held end. whole (record { entries = record { start = first; end = end; count = count }; held = held }) end) ≡ andThen (andThen {B = Sums} o λ held end. whole (record { end = end; held = held; size = length (encItems kind (entryValues kind count s first)) }) end) (listed first count)
     go (whole held end) = refl
     go (no fault) = refl
 

@@ -12,7 +12,7 @@ use Rattle.integer.specs.Integer.{greatest}
 use Rattle.field.specs.Outcome.{whole}
 use Rattle.field.specs.Entries.{numberAt, textAt, entryAt, mostOf, entriesAt, few, Listed, listAt}
 use Rattle.field.specs.Fields.{FieldForm, integer, byte, bytes, list, track, fieldAt}
-use Rattle.field.specs.Value.{item, itemsOf}
+use Rattle.field.specs.Value.{entryValue, entryValues}
 use Rattle.field.specs.declared.Span.{Span}
 use Rattle.field.specs.declared.Entry.{Entry}
 use Rattle.field.specs.declared.Kind.{Kind}
@@ -31,10 +31,10 @@ as-told P {a} {b} {last} {end} p h =
 
 -- ---- a list
 
--- a count that is allowed, and as many entries
+-- a count that is few enough, and as many entries
 pub record ListAt (kind : Kind) (s : List ℕ) (at : ℕ) (l : Listed) (end : ℕ) : Type 0 where
   pub count-at : numberAt s at ≡ whole (l .entries .count) (l .entries .start)
-  pub allowed : few kind (l .entries .count) ≡ true
+  pub is-few : few kind (l .entries .count) ≡ true
   pub run : entriesAt true kind (l .entries .count) 0 s (l .entries .start) ≡ whole (l .held) (l .entries .end)
   pub ends : end ≡ l .entries .end
 
@@ -46,7 +46,7 @@ list-at kind s at {l} {end} h =
     pick-by (λ r. r ≡ whole l end → ListAt kind s at l end) (few kind (t .found))
     (λ f e.
     let u = steps (entriesAt true kind (t .found) 0 s (t .end)) _ e in
-    as-told (ListAt kind s at) (record { count-at = t .first; allowed = f; run = u .first; ends = refl }) (u .then))
+    as-told (ListAt kind s at) (record { count-at = t .first; is-few = f; run = u .first; ends = refl }) (u .then))
     (λ f e. absurd (let z : _≡_ {A = ℕ} 0 1 = cc in omega arith))
     (t .then)
 
@@ -79,6 +79,6 @@ field-at track s at h =
 -- ---- entries by content
 
 -- entries that were found one after the other are the items
-pub items-suc : (kind : Kind) (most count : ℕ) (s : List ℕ) (at : ℕ) {e : Entry} {end : ℕ} → entryAt kind most s at ≡ whole e end → itemsOf kind (suc count) s at ≡ item s e ∷ itemsOf kind count s end
-unfolding itemsOf
+pub items-suc : (kind : Kind) (most count : ℕ) (s : List ℕ) (at : ℕ) {e : Entry} {end : ℕ} → entryAt kind most s at ≡ whole e end → entryValues kind (suc count) s at ≡ entryValue s e ∷ entryValues kind count s end
+unfolding entryValues
 items-suc kind most count s at h = rw (entry-any kind most s at h)

@@ -9,9 +9,9 @@ use native.Mathlib.Omega.{arith}
 use lib.ListN.{length}
 use Rattle.integer.specs.Integer.{greatest}
 use Rattle.field.specs.Outcome.{whole}
-use Rattle.field.specs.Entries.{size, entryAt, mostOf, entriesAt, Listed, listAt}
+use Rattle.field.specs.Entries.{longestTrack, size, entryAt, mostOf, entriesAt, Listed, listAt}
 use Rattle.field.specs.Fields.{FieldForm}
-use Rattle.field.specs.Value.{Item, itemsOf, total, contents, mean, encItems, encList, encField}
+use Rattle.field.specs.Value.{EntryValue, entryValues, total, contents, mean, encItems, encList, encField}
 use Rattle.field.specs.declared.Kind.{Kind}
 use Rattle.field.specs.declared.Kind.the-variants.{Namespace}
 use Rattle.field.specs.declared.Piece.{Piece}
@@ -23,15 +23,15 @@ use Rattle.field.proofs.Pieces.{list-at, FieldAt, a-number, a-byte, som
 -- ---- a run of entries
 
 -- the items of a run: as many as were asked for, holding what was told, in no fewer bytes than their shortest form
-pub record RunAt (kind : Kind) (count held : ℕ) (s : List ℕ) (at : ℕ) (is : List Item) (holds end : ℕ) : Type 0 where
+pub record RunAt (kind : Kind) (count held : ℕ) (s : List ℕ) (at : ℕ) (is : List EntryValue) (holds end : ℕ) : Type 0 where
   pub counted : length is ≡ count
   pub sum : holds ≡ held + total is
   pub least : Least s at (encItems kind is) end
   pub within : at ≤ length s → end ≤ length s
 
 -- every run that was found is one
-pub run-at : (sized : Bool) (kind : Kind) (count held : ℕ) (s : List ℕ) (at : ℕ) {holds end : ℕ} → entriesAt sized kind count held s at ≡ whole holds end → RunAt kind count held s at (itemsOf kind count s at) holds end
-unfolding entriesAt itemsOf total encItems
+pub run-at : (sized : Bool) (kind : Kind) (count held : ℕ) (s : List ℕ) (at : ℕ) {holds end : ℕ} → entriesAt sized kind count held s at ≡ whole holds end → RunAt kind count held s at (entryValues kind count s at) holds end
+unfolding entriesAt entryValues total encItems
 run-at sized kind zero held s at {holds} {end} h =
     let same : held ≡ holds = cc in
     let stop : end ≡ at = cc in
@@ -51,12 +51,12 @@ run-at sized kind (suc count) held s at h =
     })
 
 -- "namespace field bytes plus name bytes at most 4,096": each length was judged against what was left
-namespace-small : (count held : ℕ) (s : List ℕ) (at : ℕ) {holds end : ℕ} → held ≤ 4_096 → entriesAt true Namespace count held s at ≡ whole holds end → holds ≤ 4_096
+namespace-small : (count held : ℕ) (s : List ℕ) (at : ℕ) {holds end : ℕ} → held ≤ longestTrack → entriesAt true Namespace count held s at ≡ whole holds end → holds ≤ longestTrack
 unfolding entriesAt entryAt mostOf
 namespace-small zero held s at {holds} k h = let same : held ≡ holds = cc in omega arith
 namespace-small (suc count) held s at k h =
-    let t = steps (entryAt Namespace (4_096 - held) s at) _ h in
-    let e = numbered-at 0 (4_096 - held) s at (t .first) in
+    let t = steps (entryAt Namespace (longestTrack - held) s at) _ h in
+    let e = numbered-at 0 (longestTrack - held) s at (t .first) in
     namespace-small count (held + size (t .found .bytes)) s (t .end) (omega (arith, e .is-text .short)) (t .then)
 
 -- ---- a list
@@ -83,7 +83,7 @@ list-fits kind s at {l} {end} h =
     }
 
 -- and a namespace is within its size
-pub held-small : (s : List ℕ) (at : ℕ) {l : Listed} {end : ℕ} → listAt Namespace s at ≡ whole l end → l .held ≤ 4_096
+pub held-small : (s : List ℕ) (at : ℕ) {l : Listed} {end : ℕ} → listAt Namespace s at ≡ whole l end → l .held ≤ longestTrack
 held-small s at {l} h = namespace-small (l .entries .count) 0 s (l .entries .start) (omega arith) (list-at Namespace s at h .run)
 
 -- ---- a field

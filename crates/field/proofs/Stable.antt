@@ -17,7 +17,7 @@ use Rattle.integer.proofs.Offsets.{reach}
 use Rattle.field.specs.Outcome.{Outcome, whole, no, andThen}
 use Rattle.field.specs.Entries.{size, numberAt, textAt, numberedAt, entryAt, mostOf, entriesAt, few, Listed, listAt}
 use Rattle.field.specs.Fields.{FieldForm, integer, byte, bytes, list, track, fieldAt}
-use Rattle.field.specs.Value.{part, itemsOf, contents, mean}
+use Rattle.field.specs.Value.{part, entryValues, contents, mean}
 use Rattle.field.specs.declared.Fault.{Fault}
 use Rattle.field.specs.declared.Fault.the-variants.{Cut}
 use Rattle.field.specs.declared.Span.{Span}
@@ -144,8 +144,8 @@ module _ (s t : List ℕ) where
       rw (drop-append-le (p .start) s t (omega arith), take-append-le (size p) (drop (p .start) s) t (rw length-drop (omega arith)))
 
   -- the items of a run
-  items-stay : (sized : Bool) (kind : Kind) (count held at : ℕ) {holds end : ℕ} → entriesAt sized kind count held s at ≡ whole holds end → itemsOf kind count (s ++ t) at ≡ itemsOf kind count s at
-  unfolding entriesAt itemsOf
+  items-stay : (sized : Bool) (kind : Kind) (count held at : ℕ) {holds end : ℕ} → entriesAt sized kind count held s at ≡ whole holds end → entryValues kind count (s ++ t) at ≡ entryValues kind count s at
+  unfolding entriesAt entryValues
   items-stay sized kind zero held at h = refl
   items-stay sized kind (suc count) held at h =
       let most = mostOf sized kind held in

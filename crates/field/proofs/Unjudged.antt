@@ -33,7 +33,7 @@ pub number-refused : (s : List ℕ) (at : ℕ) {fault : Fault} → numberAt s at
 unfolding numberAt
 number-refused s at {fault} = go (readOf (drop at s))
   where
-    go : (r : Answer ℕ) → onRead r (λ n used. whole n (at + used)) (no Cut) ≡ no fault → fault ≡ Cut
+    go : (r : Answer ℕ) → onRead r (no Cut) (λ n used. whole n (at + used)) ≡ no fault → fault ≡ Cut
     go (answered m used) h = absurd (apart h)
     go (refused k) h = cc
 

@@ -12,7 +12,7 @@ use mir.Syntax.{w64}
 use mir.Val.{Fits}
 use Rattle.field.specs.Outcome.{Outcome, whole, no, andThen}
 use Rattle.field.specs.Entries.{size, entryAt, entriesAt, mostOf}
-use Rattle.field.specs.Value.{itemsOf, encItems, itemSize, walkOf}
+use Rattle.field.specs.Value.{entryValues, encItems, itemSize, walkOf}
 use Rattle.field.specs.Told.{toldEntry}
 use Rattle.field.specs.declared.Fault.{Fault}
 use Rattle.field.specs.declared.Entry.{Entry}
@@ -31,7 +31,7 @@ use Rattle.field.proofs.Answers.{Lent, entry-whole}
 unfoldable pub walkFrom : Bool → Kind → ℕ → ℕ → ℕ → List ℕ → ℕ → Outcome Sums
 walkFrom sized kind count held taken s at =
     andThen (entriesAt sized kind count held s at) λ h end.
-    whole (record { end = end; held = h; size = taken + length (encItems kind (itemsOf kind count s at)) }) end
+    whole (record { end = end; held = h; size = taken + length (encItems kind (entryValues kind count s at)) }) end
 
 -- at the start nothing is held or taken
 walk-start : (sized : Bool) (kind : Kind) (count : ℕ) (s : List ℕ) (at : ℕ) → walkFrom sized kind count 0 0 s at ≡ walkOf sized kind count s at
@@ -40,7 +40,7 @@ walk-start sized kind count s at = rw zero-add
 
 -- no entry more
 walk-none : (sized : Bool) (kind : Kind) (held taken : ℕ) (s : List ℕ) (at : ℕ) → whole (record { end = at; held = held; size = taken }) at ≡ walkFrom sized kind 0 held taken s at
-unfolding walkFrom entriesAt itemsOf encItems
+unfolding walkFrom entriesAt entryValues encItems
 walk-none sized kind held taken s at = rw add-zero
 
 -- a fault at the next entry is the run's
@@ -51,7 +51,7 @@ walk-stop sized kind (suc n) held taken s at h e = rw e
 
 -- an entry is counted
 walk-step : (sized : Bool) (kind : Kind) (left held taken : ℕ) (s : List ℕ) (at : ℕ) {e : Entry} {end : ℕ} → 0 < left → entryAt kind (mostOf sized kind held) s at ≡ whole e end → walkFrom sized kind (left - 1) (held + size (e .bytes)) (taken + itemSize kind (e .number) (size (e .bytes))) s end ≡ walkFrom sized kind left held taken s at
-unfolding walkFrom entriesAt itemsOf encItems
+unfolding walkFrom entriesAt entryValues encItems
 walk-step sized kind zero held taken s at h e = absurd (not-suc-le-zero h)
 walk-step sized kind (suc n) held taken s at {e} h f =
     let i = entry-at kind (mostOf sized kind held) s at f in

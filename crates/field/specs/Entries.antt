@@ -31,7 +31,7 @@ size p = p .end - p .start
 
 -- an integer
 unfoldable pub numberAt : List ℕ → ℕ → Outcome ℕ
-numberAt s at = onRead (readOf (drop at s)) (λ n used. whole n (at + used)) (no Cut)
+numberAt s at = onRead (readOf (drop at s)) (no Cut) (λ n used. whole n (at + used))
 
 -- "A name or reason is a length and bytes." The length is judged as soon as it is read: over `most` it is a size, even
 -- where the bytes it names are missing

@@ -13,6 +13,11 @@ abbrev pub andThen : {A B : Type 0} → Outcome A → (A → ℕ → Outcome B) 
 andThen (whole a end) next = next a end
 andThen (no fault) next = no fault
 
+-- what is said where nothing was found, and what comes of a finding and its end: so a refusal stands beside its test
+abbrev pub onFound : {A B : Type 0} → Outcome A → B → (A → ℕ → B) → B
+onFound (whole a end) none f = f a end
+onFound (no fault) none f = none
+
 -- document 01's number of a fault: a cut field is 4 in a body or a datagram, and 1 on a stream
 abbrev pub faultNumber : ℕ → Fault → ℕ
 faultNumber cut Cut = cut

@@ -5,7 +5,7 @@ use mathlib.Core.List.{List, [], _∷_, _++_}
 use mathlib.Core.Bool.{Bool}
 use lib.ListN.{length, take, drop}
 use Rattle.integer.specs.Integer.{encOf, greatest}
-use Rattle.field.specs.Outcome.{Outcome, whole, no, andThen}
+use Rattle.field.specs.Outcome.{Outcome, whole, andThen, onFound}
 use Rattle.field.specs.Entries.{size, entryAt, entriesAt}
 use Rattle.field.specs.declared.Span.{Span}
 use Rattle.field.specs.declared.Entry.{Entry}
@@ -24,24 +24,20 @@ part s p = take (size p) (drop (p .start) s)
 abbrev pub nowhere : Span
 nowhere = record { start = 0; end = 0 }
 
-pub record Item : Type 0 where
+pub record EntryValue : Type 0 where
   pub number : ℕ
   pub bytes : List ℕ
 
-abbrev pub item : List ℕ → Entry → Item
-item s e = record { number = e .number; bytes = part s (e .bytes) }
+abbrev pub entryValue : List ℕ → Entry → EntryValue
+entryValue s e = record { number = e .number; bytes = part s (e .bytes) }
 
 -- count entries from an offset on, by content; none from where one is missing on
-abbrev pub onFound : {A B : Type 0} → Outcome A → (A → ℕ → B) → B → B
-onFound (whole a end) f none = f a end
-onFound (no fault) f none = none
-
-unfoldable pub itemsOf : Kind → ℕ → List ℕ → ℕ → List Item
-itemsOf kind zero s at = []
-itemsOf kind (suc count) s at = onFound (entryAt kind greatest s at) (λ e end. item s e ∷ itemsOf kind count s end) []
+unfoldable pub entryValues : Kind → ℕ → List ℕ → ℕ → List EntryValue
+entryValues kind zero s at = []
+entryValues kind (suc count) s at = onFound (entryAt kind greatest s at) [] (λ e end. entryValue s e ∷ entryValues kind count s end)
 
 -- the bytes that items hold
-unfoldable pub total : List Item → ℕ
+unfoldable pub total : List EntryValue → ℕ
 total [] = 0
 total (i ∷ is) = length (i .bytes) + total is
 
@@ -49,11 +45,11 @@ pub data Value : Type 0 where
   number : ℕ → Value
   octet : ℕ → Value
   text : List ℕ → Value
-  items : Kind → List Item → Value
-  fullName : List Item → List ℕ → Value
+  items : Kind → List EntryValue → Value
+  fullName : List EntryValue → List ℕ → Value
 
-abbrev pub contents : List ℕ → Kind → Entries → List Item
-contents s kind l = itemsOf kind (l .count) s (l .start)
+abbrev pub contents : List ℕ → Kind → Entries → List EntryValue
+contents s kind l = entryValues kind (l .count) s (l .start)
 
 -- the value of a piece of s
 unfoldable pub mean : List ℕ → Piece → Value
@@ -68,16 +64,16 @@ mean s (Tracked t) = fullName (contents s Namespace (t .namespace)) (part s (t .
 unfoldable pub encText : List ℕ → List ℕ
 encText b = encOf (length b) ++ b
 
-unfoldable pub encItem : Kind → Item → List ℕ
+unfoldable pub encItem : Kind → EntryValue → List ℕ
 encItem Namespace i = encText (i .bytes)
 encItem Parameters i = encOf (i .number) ++ encText (i .bytes)
 encItem Versions i = encOf (i .number)
 
-unfoldable pub encItems : Kind → List Item → List ℕ
+unfoldable pub encItems : Kind → List EntryValue → List ℕ
 encItems kind [] = []
 encItems kind (i ∷ is) = encItem kind i ++ encItems kind is
 
-unfoldable pub encList : Kind → List Item → List ℕ
+unfoldable pub encList : Kind → List EntryValue → List ℕ
 encList kind is = encOf (length is) ++ encItems kind is
 
 unfoldable pub encField : Value → List ℕ
@@ -102,4 +98,4 @@ itemSize Versions n held = length (encOf n)
 unfoldable pub walkOf : Bool → Kind → ℕ → List ℕ → ℕ → Outcome Sums
 walkOf sized kind count s at =
     andThen (entriesAt sized kind count 0 s at) λ held end.
-    whole (record { end = end; held = held; size = length (encItems kind (itemsOf kind count s at)) }) end
+    whole (record { end = end; held = held; size = length (encItems kind (entryValues kind count s at)) }) end

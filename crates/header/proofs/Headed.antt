@@ -16,14 +16,14 @@ use Rattle.field.proofs.Unjudged.{found-number, cut-number}
 use Rattle.layout.specs.Layout.{Layout, done, scan}
 use Rattle.layout.specs.Typed.{Typed, typed}
 use Rattle.layout.proofs.Steps.{To, Stops, is-whole, is-no}
-use Rattle.header.specs.Layouts.{Named, known, unknown, datagrams, streams}
+use Rattle.header.specs.Layouts.{«OBJECT_DATAGRAM», «OBJECT_DATAGRAM_STATUS», «SUBGROUP_HEADER», «FETCH_HEADER», InTable, listed, unlisted, datagrams, streams}
 use Rattle.header.specs.Reading.{headedOf}
 
 -- fields that are cut, by the answer for them
 pub cut-short : (cut : ℕ) (l : Layout) {s : List ℕ} {at : ℕ} → Stops s l at Cut → refused cut ≡ answer cut (scan l s at)
 cut-short cut l w = ap (answer cut) (is-no w)
 
-module _ (cut : ℕ) (types : ℕ → Named) (s : List ℕ) {r : NumberRead} (said : toldNumber r ≡ fieldAt integer s 0) where
+module _ (cut : ℕ) (types : ℕ → InTable) (s : List ℕ) {r : NumberRead} (said : toldNumber r ≡ fieldAt integer s 0) where
   -- there is no type,
   pub headed-cut : r ≡ CutNumber → refused cut ≡ headedOf cut types s
   unfolding headedOf
@@ -35,11 +35,11 @@ module _ (cut : ℕ) (types : ℕ → Named) (s : List ℕ) {r : NumberRead} (sa
     type-is = found-number s 0 (sym said ∙ ap toldNumber read)
 
     -- and it is unknown,
-    pub headed-unknown : types n ≡ unknown → refused 2 ≡ headedOf cut types s
+    pub headed-unknown : types n ≡ unlisted → refused 2 ≡ headedOf cut types s
     unfolding headedOf
     headed-unknown h = rw (type-is, h)
 
-    module _ {k : ℕ} {l : Layout} (is : n ≡ k) (names : types k ≡ known l) where
+    module _ {k : ℕ} {l : Layout} (is : n ≡ k) (names : types k ≡ listed l) where
       -- or it names a layout, which decides
       pub headed-is : {o : Outcome (List Piece)} → o ≡ scan l s at → answer cut (typed k o) ≡ headedOf cut types s
       unfolding headedOf
@@ -53,17 +53,17 @@ module _ (cut : ℕ) (types : ℕ → Named) (s : List ℕ) {r : NumberRead} (sa
       headed-short w = headed-is (is-no w)
 
 -- or by a reader of its own
-pub headed-by : (cut : ℕ) (types : ℕ → Named) {R : Type 0} (told : R → Outcome (List Piece)) (s : List ℕ) {r : NumberRead} {n at k : ℕ} {l : Layout} {q v : R} {a : Answer Typed}
-    → r ≡ WholeNumber n at → toldNumber r ≡ fieldAt integer s 0 → n ≡ k → types k ≡ known l → q ≡ v → told q ≡ scan l s at
+pub headed-by : (cut : ℕ) (types : ℕ → InTable) {R : Type 0} (told : R → Outcome (List Piece)) (s : List ℕ) {r : NumberRead} {n at k : ℕ} {l : Layout} {q v : R} {a : Answer Typed}
+    → r ≡ WholeNumber n at → toldNumber r ≡ fieldAt integer s 0 → n ≡ k → types k ≡ listed l → q ≡ v → told q ≡ scan l s at
     → a ≡ answer cut (typed k (told v)) → a ≡ headedOf cut types s
 headed-by cut types told s read said is names e h f = f ∙ headed-is cut types s said read is names (ap told (sym e) ∙ h)
 
 -- ---- the types that are unknown
 
-pub no-datagram : {n : ℕ} → (n ≡ 0x1 → ⊥) → (n ≡ 0x2 → ⊥) → datagrams n ≡ unknown
+pub no-datagram : {n : ℕ} → (n ≡ «OBJECT_DATAGRAM» .number → ⊥) → (n ≡ «OBJECT_DATAGRAM_STATUS» .number → ⊥) → datagrams n ≡ unlisted
 unfolding datagrams
-no-datagram {n} h k = rw (ne-eqb n 0x1 h, ne-eqb n 0x2 k)
+no-datagram {n} h k = rw (ne-eqb n («OBJECT_DATAGRAM» .number) h, ne-eqb n («OBJECT_DATAGRAM_STATUS» .number) k)
 
-pub no-stream : {n : ℕ} → (n ≡ 0x4 → ⊥) → (n ≡ 0x5 → ⊥) → streams n ≡ unknown
+pub no-stream : {n : ℕ} → (n ≡ «SUBGROUP_HEADER» .number → ⊥) → (n ≡ «FETCH_HEADER» .number → ⊥) → streams n ≡ unlisted
 unfolding streams
-no-stream {n} h k = rw (ne-eqb n 0x4 h, ne-eqb n 0x5 k)
+no-stream {n} h k = rw (ne-eqb n («SUBGROUP_HEADER» .number) h, ne-eqb n («FETCH_HEADER» .number) k)

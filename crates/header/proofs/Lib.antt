@@ -1,7 +1,7 @@
 pub mod LayoutsJoined
 pub mod Headed
-pub mod Closing
-pub mod Ending
+pub mod StatusDatagrams
+pub mod ObjectHeaders
 pub mod OneAnswer
 pub mod Front
 pub mod More

@@ -11,6 +11,7 @@ use Rattle.field.specs.declared.Piece.{Piece}
 use Rattle.layout.specs.Layout.{control}
 use Rattle.layout.specs.Typed.{Typed}
 use Rattle.layout.proofs.Parts.{numberIn, bytesIn, placeIn}
+use Rattle.header.specs.Layouts.{«OBJECT_DATAGRAM», «SUBGROUP_HEADER»}
 use Rattle.header.specs.Told.{datagramTyped, streamTyped, payloadPieces, subgroupObjectPieces, fetchObjectPieces, toldDatagram, toldStream, toldSubgroupObject, toldFetchObject}
 use Rattle.header.specs.declared.ObjectDatagram.{ObjectDatagram}
 use Rattle.header.specs.declared.Datagram.{Datagram}
@@ -37,7 +38,7 @@ objectIn ps = record { alias = numberIn ps 0; place = placeIn ps 1; priority = n
 
 datagramIn : Typed → Datagram
 datagramIn t =
-    pick (eqb (t .type) 0x1) (Object (objectIn (t .pieces))) (WithStatus (objectIn (t .pieces)) (numberIn (t .pieces) 5))
+    pick (eqb (t .type) («OBJECT_DATAGRAM» .number)) (Object (objectIn (t .pieces))) (WithStatus (objectIn (t .pieces)) (numberIn (t .pieces) 5))
 
 datagram-back : (d : Datagram) → datagramIn (datagramTyped d) ≡ d
 unfolding datagramIn objectIn
@@ -60,7 +61,7 @@ datagram-heard datagram.Forbidden = refl
 streamIn : Typed → StreamHeader
 streamIn t =
     let ps = t .pieces in
-    pick (eqb (t .type) 0x4)
+    pick (eqb (t .type) («SUBGROUP_HEADER» .number))
     (Subgroup (record { alias = numberIn ps 0; group = numberIn ps 1; subgroup = numberIn ps 2; priority = numberIn ps 3 }))
     (Fetch (numberIn ps 0))
 

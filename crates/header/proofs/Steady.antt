@@ -3,12 +3,13 @@ use Prim.Native.Nat.{ℕ}
 use mathlib.Core.Path.{_≡_, sym, ap, _∙_}
 use mathlib.Core.List.{List, _++_}
 use Rattle.common.specs.Answer.{Answer, whole as answered, refused}
+use Rattle.common.proofs.Cases.{apart}
 use Rattle.field.specs.Outcome.{answer}
 use Rattle.layout.specs.Layout.{Layout, scan}
 use Rattle.header.specs.Layouts.{streams, subgroupObject, fetchObject}
 use Rattle.header.specs.Reading.{streamOf, subgroupObjectOf, fetchObjectOf}
 use Rattle.header.specs.Steady.{Steady}
-use Rattle.header.proofs.Front.{apart, scan-steady, headed-steady}
+use Rattle.header.proofs.Front.{scan-steady, headed-steady}
 use Rattle.header.proofs.More.{bare-more, headed-more}
 
 -- what is answered the same when bytes follow, unless it is 1, and can then be answered otherwise, is steady

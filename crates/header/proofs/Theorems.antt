@@ -1,4 +1,5 @@
--- What holds of reading data headers. The sentences of `Steady` stand in specs/Steady.antt; here is what they hold of. Assumes nothing.
+-- What holds of reading data headers. The sentences of `Steady` stand in specs/Steady.antt; here is what they hold of.
+-- Assumes nothing.
 use mathlib.Core.Path.{_≡_}
 use Rattle.header.specs.Told.{toldDatagram, toldStream, toldSubgroupObject, toldFetchObject}
 use Rattle.header.specs.Reading.{streamOf, subgroupObjectOf, fetchObjectOf}

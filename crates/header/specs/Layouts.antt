@@ -1,9 +1,12 @@
 -- The layouts of data headers: section 9 of source document 004, figures 29 to 34. Payloads are not read.
 use Prim.Native.Nat.{ℕ}
+use mathlib.Core.List.{List, [], _∷_}
 use lib.Dec.{eqb}
 use Rattle.common.specs.Choice.{pick}
 use Rattle.field.specs.Fields.{integer, byte, bytes}
+use Rattle.field.specs.declared.Piece.{Piece}
 use Rattle.layout.specs.Layout.{Layout, done, forbidden, field, when, place}
+use Rattle.layout.specs.Typed.{Typed}
 use Rattle.header.specs.Rules.{isObjectStatus}
 
 -- a layout, and behind it another
@@ -53,26 +56,53 @@ fetchObject =
     field integer λ group. field integer λ subgroup. field integer λ object. field byte λ priority. field bytes λ _.
     payload
 
--- ---- by type
+-- ---- the types: tables 8 and 9 of source document 004
 
--- the layout that a type names, or that the type is unknown
-pub data Named : Type 0 where
-  known : Layout → Named
-  unknown : Named
+-- Each header that has a type stands in one row: the number of its type, and its layout.
+pub record HeaderRow : Type 0 where
+  pub number : ℕ
+  pub layout : Layout
+
+abbrev pub «OBJECT_DATAGRAM» : HeaderRow
+«OBJECT_DATAGRAM» = record { number = 0x1; layout = objectDatagram }
+
+abbrev pub «OBJECT_DATAGRAM_STATUS» : HeaderRow
+«OBJECT_DATAGRAM_STATUS» = record { number = 0x2; layout = datagramStatus }
+
+abbrev pub «SUBGROUP_HEADER» : HeaderRow
+«SUBGROUP_HEADER» = record { number = 0x4; layout = subgroupHeader }
+
+abbrev pub «FETCH_HEADER» : HeaderRow
+«FETCH_HEADER» = record { number = 0x5; layout = fetchHeader }
+
+-- a header of a row: the number of its type, and its fields
+abbrev pub typedAs : HeaderRow → List Piece → Typed
+typedAs r ps = record { type = r .number; pieces = ps }
+
+-- ---- a type, looked up
+
+-- the layout that stands beside a number, or that the number stands in no row
+pub data InTable : Type 0 where
+  listed : Layout → InTable
+  unlisted : InTable
 
 -- it, and where there is none, that everything is forbidden
-abbrev pub layoutOf : Named → Layout
-layoutOf (known l) = l
-layoutOf unknown = forbidden
+abbrev pub layoutOf : InTable → Layout
+layoutOf (listed l) = l
+layoutOf unlisted = forbidden
 
-abbrev pub onKnown : {A : Type 0} → Named → (Layout → A) → A → A
-onKnown (known l) f none = f l
-onKnown unknown f none = none
+abbrev pub onListed : {A : Type 0} → InTable → A → (Layout → A) → A
+onListed (listed l) none f = f l
+onListed unlisted none f = none
 
--- OBJECT_DATAGRAM, OBJECT_DATAGRAM_STATUS
-unfoldable pub datagrams : ℕ → Named
-datagrams type = pick (eqb type 0x1) (known objectDatagram) (pick (eqb type 0x2) (known datagramStatus) unknown)
+abbrev pub layoutIn : List HeaderRow → ℕ → InTable
+layoutIn [] type = unlisted
+layoutIn (r ∷ rs) type = pick (eqb type (r .number)) (listed (r .layout)) (layoutIn rs type)
 
--- SUBGROUP_HEADER, FETCH_HEADER
-unfoldable pub streams : ℕ → Named
-streams type = pick (eqb type 0x4) (known subgroupHeader) (pick (eqb type 0x5) (known fetchHeader) unknown)
+-- what a datagram begins with
+unfoldable pub datagrams : ℕ → InTable
+datagrams type = layoutIn («OBJECT_DATAGRAM» ∷ «OBJECT_DATAGRAM_STATUS» ∷ []) type
+
+-- what a unidirectional stream begins with
+unfoldable pub streams : ℕ → InTable
+streams type = layoutIn («SUBGROUP_HEADER» ∷ «FETCH_HEADER» ∷ []) type

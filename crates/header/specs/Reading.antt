@@ -6,24 +6,24 @@ use lib.ListN.{length}
 use lib.Dec.{eqb, ltb}
 use Rattle.common.specs.Choice.{pick, both}
 use Rattle.common.specs.Answer.{Answer, whole as answered, refused}
-use Rattle.field.specs.Outcome.{answer}
+use Rattle.field.specs.Outcome.{onFound, answer}
 use Rattle.field.specs.Entries.{numberAt}
-use Rattle.field.specs.Value.{onFound}
 use Rattle.field.specs.declared.Piece.{Piece}
 use Rattle.layout.specs.Layout.{scan}
 use Rattle.layout.specs.Typed.{Typed, typed}
-use Rattle.header.specs.Layouts.{Named, onKnown, datagrams, streams, subgroupObject, fetchObject}
+use Rattle.header.specs.Layouts.{«OBJECT_DATAGRAM_STATUS», InTable, onListed, datagrams, streams, subgroupObject, fetchObject}
 
--- a header at the front of s, behind its type: by the answer for a cut one, and what each type names
-unfoldable pub headedOf : ℕ → (ℕ → Named) → List ℕ → Answer Typed
+-- a header at the front of s, its type first: by the answer for a cut one, and the layout of each type
+unfoldable pub headedOf : ℕ → (ℕ → InTable) → List ℕ → Answer Typed
 headedOf cut types s =
-    onFound (numberAt s 0)
-    (λ type at. onKnown (types type) (λ l. answer cut (typed type (scan l s at))) (refused 2))
-    (refused cut)
+    onFound (numberAt s 0) (refused cut) (λ type at.
+    onListed (types type) (refused 2) (λ l.
+    answer cut (typed type (scan l s at))))
 
--- a datagram of so many bytes: none follows a status, and what follows else is the payload
+-- a datagram of a size: no byte follows a status, and what follows else is the payload
 abbrev pub endedDatagram : ℕ → Answer Typed → Answer Typed
-endedDatagram size (answered t used) = pick (both (eqb (t .type) 0x2) (ltb used size)) (refused 4) (answered t used)
+endedDatagram size (answered t used) =
+    pick (both (eqb (t .type) («OBJECT_DATAGRAM_STATUS» .number)) (ltb used size)) (refused 4) (answered t used)
 endedDatagram size (refused n) = refused n
 
 unfoldable pub datagramOf : List ℕ → Answer Typed

@@ -7,6 +7,7 @@ use Rattle.field.specs.declared.Fault.the-variants.{Cut, Forbidden}
 use Rattle.field.specs.declared.Piece.{Piece}
 use Rattle.field.specs.declared.Piece.the-variants.{Number, Byte, Bytes}
 use Rattle.layout.specs.Typed.{Typed}
+use Rattle.header.specs.Layouts.{«OBJECT_DATAGRAM», «OBJECT_DATAGRAM_STATUS», «SUBGROUP_HEADER», «FETCH_HEADER», typedAs}
 use Rattle.header.specs.declared.ObjectDatagram.{ObjectDatagram}
 use Rattle.header.specs.declared.Datagram.{Datagram}
 use Rattle.header.specs.declared.Datagram.the-variants.{Object, Status as WithStatus}
@@ -39,15 +40,15 @@ objectPieces d =
     ∷ Bytes (d .extensions) ∷ []
 
 abbrev pub datagramTyped : Datagram → Typed
-datagramTyped (Object d) = record { type = 0x1; pieces = objectPieces d }
-datagramTyped (WithStatus d n) = record { type = 0x2; pieces = objectPieces d ++ Number n ∷ [] }
+datagramTyped (Object d) = typedAs «OBJECT_DATAGRAM» (objectPieces d)
+datagramTyped (WithStatus d n) = typedAs «OBJECT_DATAGRAM_STATUS» (objectPieces d ++ Number n ∷ [])
 
 abbrev pub subgroupPieces : SubgroupHeader → List Piece
 subgroupPieces h = Number (h .alias) ∷ Number (h .group) ∷ Number (h .subgroup) ∷ Byte (h .priority) ∷ []
 
 abbrev pub streamTyped : StreamHeader → Typed
-streamTyped (Subgroup h) = record { type = 0x4; pieces = subgroupPieces h }
-streamTyped (Fetch id) = record { type = 0x5; pieces = Number id ∷ [] }
+streamTyped (Subgroup h) = typedAs «SUBGROUP_HEADER» (subgroupPieces h)
+streamTyped (Fetch id) = typedAs «FETCH_HEADER» (Number id ∷ [])
 
 -- the length of the payload; or a length of 0, and the status
 abbrev pub payloadPieces : Payload → List Piece

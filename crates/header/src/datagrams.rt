@@ -5,11 +5,13 @@ ghost use lib.ListN.{length};
 ghost use Rattle.layout.specs.Layout.{scan};
 ghost use Rattle.layout.specs.Typed.{typed};
 ghost use Rattle.field.specs.Outcome.{answer};
-ghost use Rattle.header.specs.Layouts.{objectDatagram, datagramStatus};
+ghost use Rattle.header.specs.Layouts.{objectDatagram, datagramStatus, «OBJECT_DATAGRAM_STATUS»};
 ghost use Rattle.header.specs.Told.{toldObject, toldDatagram};
 ghost use Rattle.header.specs.Reading.{endedDatagram, datagramOf};
 use crate::Datagram;
 use crate::DatagramRead;
+use crate::OBJECT_DATAGRAM;
+use crate::OBJECT_DATAGRAM_STATUS;
 use crate::ObjectDatagram;
 use crate::ObjectRead;
 use crate::rules::is_status;
@@ -25,7 +27,7 @@ pub fn read_datagram(s: &[u8]) -> DatagramRead
         return DatagramRead::Cut;
     };
     match number {
-        0x1 => match read_object(s, at) {
+        OBJECT_DATAGRAM => match read_object(s, at) {
             ObjectRead::Whole(d) => {
                 let extensions = d.extensions;
                 let end = extensions.end;
@@ -33,7 +35,7 @@ pub fn read_datagram(s: &[u8]) -> DatagramRead
             }
             ObjectRead::Cut => DatagramRead::Cut,
         },
-        0x2 => read_status(s, at),
+        OBJECT_DATAGRAM_STATUS => read_status(s, at),
         _ => DatagramRead::Unknown,
     }
 }
@@ -65,7 +67,7 @@ fn read_object(s: &[u8], at: usize) -> ObjectRead
 // A datagram that has a status, and nothing behind it.
 fn read_status(s: &[u8], at: usize) -> DatagramRead
     ensures { λ r. ⌜ toldDatagram r ≡ endedDatagram (length (now (s .entry)))
-        (answer 4 (typed 0x2 (scan datagramStatus (now (s .entry)) at))) ⌝ }
+        (answer 4 (typed («OBJECT_DATAGRAM_STATUS» .number) (scan datagramStatus (now (s .entry)) at))) ⌝ }
 {
     let ObjectRead::Whole(d) = read_object(s, at) else {
         return DatagramRead::Cut;

@@ -15,6 +15,15 @@ pub use objects::read_subgroup_object;
 pub use rules::is_status;
 pub use streams::read_stream;
 
+// The types of headers, by number: those of a datagram, and those that a stream begins with.
+pub const OBJECT_DATAGRAM: u64 = 0x1;
+
+pub const OBJECT_DATAGRAM_STATUS: u64 = 0x2;
+
+pub const SUBGROUP_HEADER: u64 = 0x4;
+
+pub const FETCH_HEADER: u64 = 0x5;
+
 // What stands before the payload of an object datagram, or before its status.
 pub struct ObjectDatagram {
     pub alias: u64,

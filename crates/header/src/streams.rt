@@ -2,7 +2,9 @@
 ghost use mathlib.Core.Path.{_≡_};
 ghost use Rattle.header.specs.Told.{toldStream};
 ghost use Rattle.header.specs.Reading.{streamOf};
+use crate::FETCH_HEADER;
 use crate::LeadRead;
+use crate::SUBGROUP_HEADER;
 use crate::StreamHeader;
 use crate::StreamRead;
 use crate::SubgroupHeader;
@@ -16,7 +18,7 @@ pub fn read_stream(s: &[u8]) -> StreamRead
         return StreamRead::More;
     };
     match number {
-        0x4 => match read_lead(s, at) {
+        SUBGROUP_HEADER => match read_lead(s, at) {
             LeadRead::Whole(l, end) => StreamRead::Whole(
                 StreamHeader::Subgroup(SubgroupHeader {
                     alias: l.first,
@@ -28,7 +30,7 @@ pub fn read_stream(s: &[u8]) -> StreamRead
             ),
             LeadRead::Cut => StreamRead::More,
         },
-        0x5 => match field::read_number(s, at) {
+        FETCH_HEADER => match field::read_number(s, at) {
             NumberRead::Whole(id, end) => StreamRead::Whole(StreamHeader::Fetch(id), end),
             NumberRead::Cut => StreamRead::More,
         },

@@ -8,7 +8,7 @@ use lib.Dec.{eqb, ltb}
 use Rattle.common.specs.Choice.{pick}
 use Rattle.layout.specs.Layout.{place}
 use Rattle.layout.specs.Allowed.{allowed}
-use Rattle.layout.proofs.Allowed.{test-alone}
+use Rattle.common.proofs.Tests.{test-alone}
 use Rattle.header.specs.Rules.{isObjectStatus}
 use Rattle.header.specs.Layouts.{behind, status, objectDatagram, datagramStatus, subgroupHeader, fetchHeader, payload, layoutOf, datagrams, streams}
 use Rattle.header.specs.Told.{datagramTyped, streamTyped, payloadPieces}

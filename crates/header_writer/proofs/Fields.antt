@@ -9,13 +9,14 @@ use lib.ListN.{length, take, drop, length-append}
 use lib.Seq.{take-append-seam}
 use Rattle.common.specs.Answer.{wrote, refused}
 use Rattle.common.specs.Choice.{both}
+use Rattle.common.proofs.Tests.{both-each}
 use Rattle.field.specs.Outcome.{whole}
 use Rattle.field.specs.Value.{mean}
 use Rattle.field.specs.declared.Piece.{Piece}
 use Rattle.field.proofs.Back.{from-start}
 use Rattle.layout.specs.Layout.{Layout, scan}
 use Rattle.layout.specs.Allowed.{allowed}
-use Rattle.layout.proofs.Back.{both-true, ScanBack, scan-back}
+use Rattle.layout.proofs.Back.{ScanBack, scan-back}
 use Rattle.layout.proofs.Allowed.{read-allowed}
 use Rattle.layout.proofs.Scanned.{scanned}
 use Rattle.layout.proofs.Shortest.{scanned-shortest}
@@ -23,8 +24,8 @@ use Rattle.measure.specs.Measuring.{rightAll, sizedAll, encodeAll}
 use Rattle.encode.proofs.Good.{all-good}
 use Rattle.encode.proofs.Again.{scanned-right}
 use Rattle.encode.proofs.Fitting.{fitting-permitted}
-use Rattle.encode.proofs.Passed.{Wrote, was-written, Passes}
-use Rattle.encode.proofs.Passed as passed
+use Rattle.encode.proofs.ChecksPassed.{Wrote, was-written, Passes}
+use Rattle.encode.proofs.ChecksPassed as passed
 use Rattle.header_writer.specs.Writing.{headerWritten}
 use Rattle.header_writer.proofs.Shape.{Fits}
 
@@ -52,7 +53,7 @@ module _ (l : Layout) (front s : List ℕ) (ps : List Piece) (shape : Fits l s p
     unfolding encodeAll
     back rest =
         let vs = map (mean s) ps in
-        let p = both-true (allowed l ps) (rightAll s ps) (was .is-right) in
+        let p = both-each (allowed l ps) (rightAll s ps) (was .is-right) in
         let ok = fitting-permitted l vs (shape ∙ p .0) (all-good s ps (p .1) sizes) in
         rw (append-assoc front (encodeAll s ps) rest) (scan-back l vs (front ++ (encodeAll s ps ++ rest)) ok (from-start front (encodeAll s ps) rest))
 

@@ -14,7 +14,7 @@ use Rattle.layout.specs.Layout.{Layout, scan}
 use Rattle.layout.specs.Typed.{Typed}
 use Rattle.measure.specs.Measuring.{sizedAll}
 use Rattle.header.specs.Layouts as layouts
-use Rattle.header.specs.Layouts.{Named, layoutOf, datagrams, streams}
+use Rattle.header.specs.Layouts.{InTable, layoutOf, datagrams, streams}
 use Rattle.header.specs.Told.{datagramTyped, streamTyped, subgroupObjectPieces, fetchObjectPieces}
 use Rattle.header.specs.Reading.{headedOf, datagramOf, streamOf, subgroupObjectOf, fetchObjectOf}
 use Rattle.header_writer.specs.Writing.{headerWritten, datagramWritten, subgroupObjectWritten, fetchObjectWritten}
@@ -52,7 +52,7 @@ fetch-object-kept = bare-kept layouts.fetchObject fetchObjectPieces fetch-object
 
 -- ---- headers behind a type
 
-module _ {A : Type 0} (cut : ℕ) (types : ℕ → Named) (said : A → Typed) (shape : (s : List ℕ) (a : A) → Shaped types s (said a)) (writable : (s : List ℕ) (a : A) → Writable s (said a)) where
+module _ {A : Type 0} (cut : ℕ) (types : ℕ → InTable) (said : A → Typed) (shape : (s : List ℕ) (a : A) → Shaped types s (said a)) (writable : (s : List ℕ) (a : A) → Writable s (said a)) where
   -- a reader that says whole where a header is read whole, and only bytes follow that may
   record Reader (takesMore : A → Bool) (readOf : List ℕ → Answer Typed) : Type 0 where
     heads : (s : List ℕ) {t : Typed} {used : ℕ} → readOf s ≡ answered t used → headedOf cut types s ≡ answered t used

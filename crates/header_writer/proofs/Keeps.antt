@@ -18,7 +18,7 @@ use Rattle.layout.specs.Layout.{Layout, scan}
 use Rattle.layout.specs.Typed.{Typed}
 use Rattle.layout.specs.Same.{Same}
 use Rattle.measure.specs.Measuring.{sizedAll, encodeAll}
-use Rattle.header.specs.Layouts.{Named, known, layoutOf}
+use Rattle.header.specs.Layouts.{InTable, listed, layoutOf}
 use Rattle.header.specs.Reading.{headedOf}
 use Rattle.header_writer.specs.Writing.{headerWritten}
 use Rattle.header_writer.proofs.Shape.{Fits, Shaped}
@@ -45,10 +45,10 @@ bare-back l s ps shape sizes before rest says =
 -- ---- behind a type
 
 -- a type names one layout
-same-layout : {l m : Layout} {n : Named} → n ≡ known l → n ≡ known m → l ≡ m
+same-layout : {l m : Layout} {n : InTable} → n ≡ listed l → n ≡ listed m → l ≡ m
 same-layout e f = cc
 
-module _ (cut : ℕ) (types : ℕ → Named) (s : List ℕ) {t : Typed} (shape : Shaped types s t) (before : List ℕ) where
+module _ (cut : ℕ) (types : ℕ → InTable) (s : List ℕ) {t : Typed} (shape : Shaped types s t) (before : List ℕ) where
   -- its layout, and what is written of it
   abbrev layout : Layout
   layout = layoutOf (types (t .type))

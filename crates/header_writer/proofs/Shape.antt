@@ -9,7 +9,7 @@ use Rattle.layout.specs.Allowed.{allowed}
 use Rattle.layout.specs.Permitted.{code}
 use Rattle.layout.specs.Typed.{Typed}
 use Rattle.encode.proofs.Fitting.{fitting}
-use Rattle.header.specs.Layouts.{behind, status, objectDatagram, datagramStatus, subgroupHeader, fetchHeader, payload, subgroupObject, fetchObject, Named, known, layoutOf, datagrams, streams}
+use Rattle.header.specs.Layouts.{behind, status, objectDatagram, datagramStatus, subgroupHeader, fetchHeader, payload, subgroupObject, fetchObject, InTable, listed, layoutOf, datagrams, streams}
 use Rattle.header.specs.Told.{datagramTyped, streamTyped, payloadPieces, subgroupObjectPieces, fetchObjectPieces}
 use Rattle.header.specs.declared.Datagram.{Datagram}
 use Rattle.header.specs.declared.Datagram.the-variants.{Object, Status as WithStatus}
@@ -26,8 +26,8 @@ Fits l s ps = fitting l (map (mean s) ps) ≡ allowed l ps
 
 -- ---- headers with a type: it names a layout, whose shape they have
 
-pub record Shaped (types : ℕ → Named) (s : List ℕ) (t : Typed) : Type 0 where
-  pub named : types (t .type) ≡ known (layoutOf (types (t .type)))
+pub record Shaped (types : ℕ → InTable) (s : List ℕ) (t : Typed) : Type 0 where
+  pub named : types (t .type) ≡ listed (layoutOf (types (t .type)))
   pub fits : Fits (layoutOf (types (t .type))) s (t .pieces)
 
 module _ (s : List ℕ) where

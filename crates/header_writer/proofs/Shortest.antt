@@ -17,9 +17,9 @@ use Rattle.layout.specs.Same.{Same}
 use Rattle.layout.proofs.Scanned.{scanned}
 use Rattle.layout.proofs.Shortest.{scanned-shortest}
 use Rattle.measure.specs.Measuring.{encodeAll}
-use Rattle.encode.proofs.Passed.{was-written}
+use Rattle.encode.proofs.ChecksPassed.{was-written}
 use Rattle.encode.proofs.Alike.{wrote-bytes, encoded-alike}
-use Rattle.header.specs.Layouts.{Named, layoutOf}
+use Rattle.header.specs.Layouts.{InTable, layoutOf}
 use Rattle.header.specs.Reading.{headedOf}
 use Rattle.header_writer.specs.Writing.{headerWritten}
 use Rattle.header_writer.specs.Laws.{Codec, Shortest}
@@ -81,7 +81,7 @@ bare-form l said =
 
 -- ---- a header behind its type
 
-pub typed-form : {A : Type 0} (cut : ℕ) (types : ℕ → Named) (said : A → Typed) (takesMore : A → Bool) (readOf : List ℕ → Answer Typed) → ((s : List ℕ) (t : Typed) (used : ℕ) → readOf s ≡ answered t used → headedOf cut types s ≡ answered t used)
+pub typed-form : {A : Type 0} (cut : ℕ) (types : ℕ → InTable) (said : A → Typed) (takesMore : A → Bool) (readOf : List ℕ → Answer Typed) → ((s : List ℕ) (t : Typed) (used : ℕ) → readOf s ≡ answered t used → headedOf cut types s ≡ answered t used)
     → Form (record { told = said; typed = λ t. t; readOf = readOf; writeOf = λ s a before. headerWritten (layoutOf (types (said a .type))) (encOf (said a .type)) s (said a .pieces) before; takesMore = takesMore })
 typed-form cut types said takesMore readOf heads =
     record {

@@ -1,5 +1,5 @@
--- What holds of writing data headers. The sentences of `Kept` and `Shortest` stand in specs/Laws.antt; here is what they hold of.
--- Assumes nothing.
+-- What holds of writing data headers. The sentences of `Kept` and `Shortest` stand in specs/Laws.antt; here is what
+-- they hold of. Assumes nothing.
 use Prim.Native.Nat.{ℕ}
 use mathlib.Core.Path.{_≡_}
 use mathlib.Core.List.{List}
@@ -26,7 +26,8 @@ subgroup-object-kept = headers.subgroup-object-kept
 pub fetch-object-kept : Kept fetchObjectCodec
 fetch-object-kept = headers.fetch-object-kept
 
--- 2. What is written is the only shortest form: no bytes that read as the same header are fewer, and none that are as many are others.
+-- 2. What is written is the only shortest form: no bytes that read as the same header are fewer, and none that are as
+-- many are others.
 pub datagram-shortest : Shortest datagramCodec
 datagram-shortest = headers.datagram-shortest
 
@@ -40,5 +41,6 @@ pub fetch-object-shortest : Shortest fetchObjectCodec
 fetch-object-shortest = headers.fetch-object-shortest
 
 -- 3. Each writer has one possible answer, and leaves one content of its buffer.
-pub written-once : {w : Written} {a b : Writing} {x y : List ℕ} → Leaves w (toldWriting a) x → Leaves w (toldWriting b) y → (a ≡ b) × (x ≡ y)
+pub written-once : {w : Written} {a b : Writing} {x y : List ℕ} → Leaves w (toldWriting a) x
+    → Leaves w (toldWriting b) y → (a ≡ b) × (x ≡ y)
 written-once = leaves-once

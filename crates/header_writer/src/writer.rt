@@ -8,8 +8,12 @@ ghost use Rattle.header.specs.Told.{datagramTyped, payloadPieces};
 ghost use Rattle.header_writer.specs.Writing.{datagramWritten, streamWritten, subgroupObjectWritten, fetchObjectWritten};
 use encode::Writing;
 use header::Datagram;
+use header::FETCH_HEADER;
 use header::FetchObject;
+use header::OBJECT_DATAGRAM;
+use header::OBJECT_DATAGRAM_STATUS;
 use header::Payload;
+use header::SUBGROUP_HEADER;
 use header::StreamHeader;
 use header::SubgroupObject;
 use header::is_status;
@@ -28,14 +32,14 @@ pub fn write_datagram(out: &mut [u8], bytes: &[u8], d: Datagram) -> Writing
         Datagram::Object(x) => {
             let place = x.place;
             let extensions = x.extensions;
-            let front = [0x1, x.alias, place.group, place.object];
+            let front = [OBJECT_DATAGRAM, x.alias, place.group, place.object];
             let middle = Middle::Both(x.priority, extensions);
             encode::write_header(out, bytes, &front, middle, &none)
         }
         Datagram::Status(x, status) => {
             let place = x.place;
             let extensions = x.extensions;
-            let front = [0x2, x.alias, place.group, place.object];
+            let front = [OBJECT_DATAGRAM_STATUS, x.alias, place.group, place.object];
             let middle = Middle::Both(x.priority, extensions);
             encode::write_header(out, bytes, &front, middle, &[status])
         }
@@ -49,13 +53,13 @@ pub fn write_stream(out: &mut [u8], h: StreamHeader) -> Writing
     let none: [u64; 0] = [];
     match h {
         StreamHeader::Subgroup(x) => {
-            let front = [0x4, x.alias, x.group, x.subgroup];
+            let front = [SUBGROUP_HEADER, x.alias, x.group, x.subgroup];
             encode::write_header(out, b"", &front, Middle::Byte(x.priority), &none)
         }
         StreamHeader::Fetch(id) => encode::write_header(
             out,
             b"",
-            &[0x5, id],
+            &[FETCH_HEADER, id],
             Middle::Nothing,
             &none,
         ),

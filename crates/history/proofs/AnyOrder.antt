@@ -16,9 +16,9 @@ abbrev answered : Event → Verdict → Logged
 answered e says = record { event = e; says = says }
 
 module _ {l : Ledger} {e f : Event} (x : EitherOrder l e f) (es : List Event) where
-  run-either : ledgerAfter l (e ∷ f ∷ es) ≡ ledgerAfter l (f ∷ e ∷ es)
+  history-either : ledgerAfter l (e ∷ f ∷ es) ≡ ledgerAfter l (f ∷ e ∷ es)
   unfolding ledgerAfter
-  run-either = ap (λ (k : Ledger). ledgerAfter k es) (x .next)
+  history-either = ap (λ (k : Ledger). ledgerAfter k es) (x .next)
 
   told-either : Reordered (logOf l (e ∷ f ∷ es)) (logOf l (f ∷ e ∷ es))
   unfolding logOf
@@ -28,13 +28,13 @@ module _ {l : Ledger} {e f : Event} (x : EitherOrder l e f) (es : List Event) wh
 
 -- ---- histories
 
-pub run-exchanged : {l : Ledger} {es fs : List Event} → Exchanged l es fs → ledgerAfter l es ≡ ledgerAfter l fs
+pub history-exchanged : {l : Ledger} {es fs : List Event} → Exchanged l es fs → ledgerAfter l es ≡ ledgerAfter l fs
 unfolding ledgerAfter
-run-exchanged Exchanged.same = refl
-run-exchanged (Exchanged.arrivals {l} {a} {b} {es}) = run-either (arrivals-either l a b) es
-run-exchanged (Exchanged.messages {l} {es = es} apart opened) = run-either (messages-either l apart opened) es
-run-exchanged (Exchanged.after x) = run-exchanged x
-run-exchanged (Exchanged.then x y) = run-exchanged x ∙ run-exchanged y
+history-exchanged Exchanged.same = refl
+history-exchanged (Exchanged.arrivals {l} {a} {b} {es}) = history-either (arrivals-either l a b) es
+history-exchanged (Exchanged.messages {l} {es = es} apart opened) = history-either (messages-either l apart opened) es
+history-exchanged (Exchanged.after x) = history-exchanged x
+history-exchanged (Exchanged.then x y) = history-exchanged x ∙ history-exchanged y
 
 pub told-exchanged : {l : Ledger} {es fs : List Event} → Exchanged l es fs → Reordered (logOf l es) (logOf l fs)
 unfolding ledgerAfter logOf

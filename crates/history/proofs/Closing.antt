@@ -21,7 +21,7 @@ use Rattle.view.specs.Events.{Event, comes}
 use Rattle.history.specs.Events.{ledgerAfter, Logged, logOf}
 use Rattle.history.specs.Closings.{isPeers, anyBroken, firstBroken}
 use Rattle.history.proofs.Keeping.{comes-keeps}
-use Rattle.history.proofs.Moves.{Moves, stayed, broke, counted, turned, taken, raised, ledger-moves, quiet}
+use Rattle.history.proofs.EventCases.{Moves, stayed, broke, counted, turned, taken, raised, ledger-moves, quiet}
 
 -- ---- a closed session
 
@@ -33,14 +33,14 @@ closed-next l e shut = go (isLedger l) refl
         view-once (comes l e .next) l (comes-keeps l e w) w (ap (λ (s : Seen). s .next) (ledger-follows l e w) ∙ closed-stays (viewOf l) e shut)
     go false w = ap (λ (c : Came). c .next) (no-ledger l e w)
 
-closed-run : (l : Ledger) (es : List Event) → isOpen (l .session) ≡ false → ledgerAfter l es ≡ l
+closed-history : (l : Ledger) (es : List Event) → isOpen (l .session) ≡ false → ledgerAfter l es ≡ l
 unfolding ledgerAfter
-closed-run l [] shut = refl
-closed-run l (e ∷ es) shut = rw (closed-next l e shut) (closed-run l es shut)
+closed-history l [] shut = refl
+closed-history l (e ∷ es) shut = rw (closed-next l e shut) (closed-history l es shut)
 
 pub closed-later : (l : Ledger) (es later : List Event) → isOpen (ledgerAfter l es .session) ≡ false → ledgerAfter l (es ++ later) ≡ ledgerAfter l es
 unfolding ledgerAfter
-closed-later l [] later shut = closed-run l later shut
+closed-later l [] later shut = closed-history l later shut
 closed-later l (e ∷ es) later shut = closed-later (comes l e .next) es later shut
 
 is-open : (s : Session) → isOpen s ≡ true → s ≡ Open
@@ -91,7 +91,7 @@ stands l (e ∷ es) o = go (leaves (viewOf l) (ledger-moves l e)) (stands (comes
         let h = subst (λ (p : Part). Stands (ledgerAfter after es .session) p (logOf after es)) part (ih (session ∙ o)) in
         record { opened = rw s (h .opened); rule = rw s (h .rule) }
     go (closes s rule said session) ih =
-        let still = closed-run after es (ap isOpen session) in
+        let still = closed-history after es (ap isOpen session) in
         record { opened = rw (s, still, session); rule = rw (s, said, still, session) }
 
 module _ (l : Ledger) (es : List Event) (o : isOpen (l .session) ≡ true) where

@@ -13,7 +13,7 @@ comes-keeps l (message m) w = keeps-take l w m
 comes-keeps l malformed w = keeps-malformed l w
 comes-keeps l (arrival a) w = keeps-arrival l w a
 
-pub run-keeps : (l : Ledger) (es : List Event) → isLedger l ≡ true → isLedger (ledgerAfter l es) ≡ true
+pub history-keeps : (l : Ledger) (es : List Event) → isLedger l ≡ true → isLedger (ledgerAfter l es) ≡ true
 unfolding ledgerAfter
-run-keeps l [] w = w
-run-keeps l (e ∷ es) w = run-keeps (comes l e .next) es (comes-keeps l e w)
+history-keeps l [] w = w
+history-keeps l (e ∷ es) w = history-keeps (comes l e .next) es (comes-keeps l e w)

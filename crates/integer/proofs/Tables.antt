@@ -1,18 +1,19 @@
 -- What the test of an edition's table shows of each form in it, and of the first that some other test takes. Assumes nothing.
 use Prim.Native.Nat.{ℕ, suc, _-_, _*_, _≤_, _<_, zero-le}
 use mathlib.Core.Path.{_≡_}
-use mathlib.Core.Bool.{Bool, true, false, _&&_}
+use mathlib.Core.Bool.{Bool, true, false}
 use mathlib.Core.List.{[], _∷_}
 use native.Mathlib.Nat.{le-refl}
 use native.Mathlib.Omega.{arith}
 use lib.Dec.{T, leb, ltb, eqb, leb→le, eqb→eq}
+use Rattle.common.specs.Choice.{both}
 use Rattle.common.proofs.Cases.{pick-by}
 use Rattle.integer.specs.Edition.{Form, Edition, noForm, roomOf, leadOf, leadEnd, lastOf, longestForm, agree, follows, inOrder, firstOf}
 
 -- ---- what the test shows
 
 -- of a form that follows another, whose first bytes ended at from
-pub record Next (from : ℕ) (before form : Form) : Type 0 where
+pub record Following (from : ℕ) (before form : Form) : Type 0 where
   pub longer : before .bytes < form .bytes
   pub more : before .greatest < form .greatest
   pub lead : from ≡ leadOf form
@@ -21,23 +22,23 @@ pub record Next (from : ℕ) (before form : Form) : Type 0 where
 
 pub data Ordered : ℕ → Form → Edition → Type 0 where
   end : {before : Form} → Ordered 256 before []
-  next : {from : ℕ} {before form : Form} {forms : Edition} → Next from before form → Ordered (leadEnd form) form forms → Ordered from before (form ∷ forms)
+  next : {from : ℕ} {before form : Form} {forms : Edition} → Following from before form → Ordered (leadEnd form) form forms → Ordered from before (form ∷ forms)
 
-both-hold : (a b : Bool) → T (a && b) → T a × T b
+both-hold : (a b : Bool) → T (both a b) → T a × T b
 both-hold true b t = (tt, t)
 both-hold false b t = absurd t
 
 pub ordered : (from : ℕ) (before : Form) (edition : Edition) → T (inOrder from before edition) → Ordered from before edition
 ordered from before [] t = rw (eqb→eq from 256 t) end
 ordered from before (form ∷ forms) t =
-    let r = both-hold (follows from before form && agree form) (inOrder (leadEnd form) form forms) t in
-    let s = both-hold (follows from before form) (agree form) (r .0) in
-    let l = both-hold (ltb (before .bytes) (form .bytes) && ltb (before .greatest) (form .greatest)) (eqb from (leadOf form)) (s .0) in
-    let m = both-hold (ltb (before .bytes) (form .bytes)) (ltb (before .greatest) (form .greatest)) (l .0) in
-    let c = both-hold (eqb (suc (form .greatest)) (roomOf form)) (leb (8 * (form .bytes - 1)) (form .bits)) (s .1) in
+    let r = both-hold (follows from before form) _ t in
+    let s = both-hold (agree form) (inOrder (leadEnd form) form forms) (r .1) in
+    let l = both-hold (ltb (before .bytes) (form .bytes)) _ (r .0) in
+    let m = both-hold (ltb (before .greatest) (form .greatest)) (eqb from (leadOf form)) (l .1) in
+    let c = both-hold (eqb (suc (form .greatest)) (roomOf form)) (leb (8 * (form .bytes - 1)) (form .bits)) (s .0) in
     next
-    (record { longer = leb→le _ _ (m .0); more = leb→le _ _ (m .1); lead = eqb→eq _ _ (l .1); top = eqb→eq _ _ (c .0); full = leb→le _ _ (c .1) })
-    (ordered (leadEnd form) form forms (r .1))
+    (record { longer = leb→le _ _ (l .0); more = leb→le _ _ (m .0); lead = eqb→eq _ _ (m .1); top = eqb→eq _ _ (c .0); full = leb→le _ _ (c .1) })
+    (ordered (leadEnd form) form forms (s .1))
 
 -- first bytes end where bytes do
 reach : {from : ℕ} {before : Form} {edition : Edition} → Ordered from before edition → from ≤ 256

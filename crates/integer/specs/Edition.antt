@@ -1,11 +1,11 @@
 -- An edition of the integers: a table of forms, and what it is to read and to write a number by it. A row has the
 -- columns of RFC 9000's own table, so that the two can be read side by side.
 use Prim.Native.Nat.{ℕ, suc, _+_, _-_, _*_, _/_, _%_, _^_}
-use mathlib.Core.Bool.{Bool, _&&_}
+use mathlib.Core.Bool.{Bool}
 use mathlib.Core.List.{List, [], _∷_}
 use lib.ListN.{length, getD, take}
 use lib.Dec.{leb, ltb, eqb}
-use Rattle.common.specs.Choice.{guard, pick}
+use Rattle.common.specs.Choice.{guard, pick, both}
 use Rattle.common.specs.Answer.{unwritten, Answer, whole, refused, wrote, Written}
 use Rattle.common.specs.Buffer.{over}
 use Rattle.integer.specs.Bytes.{spell, bytesOf}
@@ -112,17 +112,19 @@ leadEnd form = leadOf form + shareOf form
 
 -- A row's columns agree: its greatest number is the last that its bits hold, and they fill the bytes behind the first.
 abbrev pub agree : Form → Bool
-agree form = eqb (suc (form .greatest)) (roomOf form) && leb (8 * (form .bytes - 1)) (form .bits)
+agree form = both (eqb (suc (form .greatest)) (roomOf form)) (leb (8 * (form .bytes - 1)) (form .bits))
 
 -- A form follows another, whose first bytes ended at from: it is longer, holds more, and its first bytes go on there.
 abbrev pub follows : ℕ → Form → Form → Bool
 follows from before form =
-    ltb (before .bytes) (form .bytes) && ltb (before .greatest) (form .greatest) && eqb from (leadOf form)
+    both (ltb (before .bytes) (form .bytes))
+    (both (ltb (before .greatest) (form .greatest)) (eqb from (leadOf form)))
 
 -- So do all, and at the end no byte is left: each begins one form, and no other.
 abbrev pub inOrder : ℕ → Form → Edition → Bool
 inOrder from before [] = eqb from 256
-inOrder from before (form ∷ forms) = follows from before form && agree form && inOrder (leadEnd form) form forms
+inOrder from before (form ∷ forms) =
+    both (follows from before form) (both (agree form) (inOrder (leadEnd form) form forms))
 
 abbrev pub isEdition : Edition → Bool
 isEdition edition = inOrder 0 noForm edition

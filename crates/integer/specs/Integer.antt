@@ -55,10 +55,10 @@ unfoldable pub readOf : List ℕ → Answer ℕ
 unfolding readBy begunBy
 readOf s = readBy rfc9000 s
 
--- what comes of an integer that was read, or of none
-abbrev pub onRead {ℓ} : {A : Type ℓ} → Answer ℕ → (ℕ → ℕ → A) → A → A
-onRead (whole n used) f none = f n used
-onRead (refused number) f none = none
+-- what is said where none was read, and what comes of an integer that was
+abbrev pub onRead {ℓ} : {A : Type ℓ} → Answer ℕ → A → (ℕ → ℕ → A) → A
+onRead (whole n used) none f = f n used
+onRead (refused number) none f = none
 
 -- 01's number and values of what `read` answers
 abbrev pub told : Reading → Answer ℕ

@@ -2,8 +2,7 @@
 use Prim.Native.Nat.{ℕ}
 use mathlib.Core.Path.{_≡_, refl}
 use mathlib.Core.List.{List}
-use mathlib.Core.Bool.{Bool, true, false}
-use Rattle.common.specs.Choice.{pick}
+use mathlib.Core.Bool.{true}
 use Rattle.field.specs.Outcome.{whole}
 use Rattle.field.specs.declared.Piece.{Piece}
 use Rattle.layout.specs.Layout.{Layout, scan}
@@ -21,8 +20,3 @@ steps-allowed (left r) = steps-allowed r
 -- and so by what was read
 pub read-allowed : (l : Layout) (s : List ℕ) (at : ℕ) {ps : List Piece} {end : ℕ} → scan l s at ≡ whole ps end → allowed l ps ≡ true
 read-allowed l s at h = steps-allowed (scanned l s at h)
-
--- A value that is tested, with nothing forbidden behind it, is allowed where it passes.
-pub test-alone : (a : Bool) → pick a true false ≡ a
-test-alone true = refl
-test-alone false = refl

@@ -10,11 +10,12 @@ use lib.Seq.{drop-at, drop-append-seam}
 use lib.Dec.{leb, eqb}
 use borrow.Author.Tests.{leb-true, eqb-true}
 use Rattle.common.specs.Choice.{pick, both}
+use Rattle.common.proofs.Tests.{both-each}
 use Rattle.integer.specs.Integer.{greatest}
 use Rattle.field.specs.Outcome.{whole}
-use Rattle.field.specs.Entries.{few}
+use Rattle.field.specs.Entries.{longestTrack, few}
 use Rattle.field.specs.Fields.{FieldForm, integer, byte, bytes, list, track}
-use Rattle.field.specs.Value.{Value, number, octet, text, items, fullName, Item, total, mean, encField, encode}
+use Rattle.field.specs.Value.{Value, number, octet, text, items, fullName, EntryValue, total, mean, encField, encode}
 use Rattle.field.specs.declared.Kind.{Kind}
 use Rattle.field.specs.declared.Kind.the-variants.{Namespace, Parameters, Versions}
 use Rattle.field.specs.declared.Piece.{Piece}
@@ -29,44 +30,39 @@ use Rattle.layout.specs.Permitted.{goodItem, goodItems, within, goodList
 never : {A : Type 0} → false ≡ true → A
 never h = absurd (let z : _≡_ {A = ℕ} 0 1 = cc in omega arith)
 
--- where both tests are passed, each is
-pub both-true : (a b : Bool) → both a b ≡ true → (a ≡ true) × (b ≡ true)
-both-true true b h = (refl, h)
-both-true false b h = never h
-
 -- a good entry can be written,
-pub item-fit : (kind : Kind) (i : Item) → goodItem kind i ≡ true → Fit kind i
+pub item-fit : (kind : Kind) (i : EntryValue) → goodItem kind i ≡ true → Fit kind i
 unfolding goodItem
 item-fit Namespace i h =
-    let p = both-true (eqb (i .number) 0) (leb (length (i .bytes)) greatest) h in
+    let p = both-each (eqb (i .number) 0) (leb (length (i .bytes)) greatest) h in
     aField (eqb-true (i .number) 0 (p .0)) (leb-true (length (i .bytes)) greatest (p .1))
 item-fit Parameters i h =
-    let p = both-true (leb (i .number) greatest) (leb (length (i .bytes)) greatest) h in
+    let p = both-each (leb (i .number) greatest) (leb (length (i .bytes)) greatest) h in
     aParameter (leb-true (i .number) greatest (p .0)) (leb-true (length (i .bytes)) greatest (p .1))
 item-fit Versions i h =
-    let p = both-true (leb (i .number) greatest) (eqb (length (i .bytes)) 0) h in
+    let p = both-each (leb (i .number) greatest) (eqb (length (i .bytes)) 0) h in
     aVersion (leb-true (i .number) greatest (p .0)) (eqb-true (length (i .bytes)) 0 (p .1))
 
 -- each of good entries can,
-pub items-fit : (kind : Kind) (is : List Item) → goodItems kind is ≡ true → AllFit kind is
+pub items-fit : (kind : Kind) (is : List EntryValue) → goodItems kind is ≡ true → AllFit kind is
 unfolding goodItems
 items-fit kind [] h = none
 items-fit kind (i ∷ is) h =
-    let p = both-true (goodItem kind i) (goodItems kind is) h in
+    let p = both-each (goodItem kind i) (goodItems kind is) h in
     more (item-fit kind i (p .0)) (items-fit kind is (p .1))
 
 -- in a namespace there are at most 4,096 bytes,
-within-room : (kind : Kind) (held : ℕ) → within kind held ≡ true → kind ≡ Namespace → held ≤ 4_096
+within-room : (kind : Kind) (held : ℕ) → within kind held ≡ true → kind ≡ Namespace → held ≤ longestTrack
 unfolding within
-within-room kind held h e = leb-true held 4_096 (rw e at h)
+within-room kind held h e = leb-true held longestTrack (rw e at h)
 
 -- and a good list can be written and is not over a size
-pub list-fit : (kind : Kind) (is : List Item) (also : ℕ) → goodList kind is also ≡ true → ListFit kind is also
+pub list-fit : (kind : Kind) (is : List EntryValue) (also : ℕ) → goodList kind is also ≡ true → ListFit kind is also
 unfolding goodList
 list-fit kind is also h =
-    let p = both-true (leb (length is) greatest) _ h in
-    let q = both-true (few kind (length is)) _ (p .1) in
-    let r = both-true (goodItems kind is) (within kind (total is + also)) (q .1) in
+    let p = both-each (leb (length is) greatest) _ h in
+    let q = both-each (few kind (length is)) _ (p .1) in
+    let r = both-each (goodItems kind is) (within kind (total is + also)) (q .1) in
     record {
       countable = leb-true (length is) greatest (p .0);
       few-enough = q .0;
@@ -126,8 +122,8 @@ pub record FieldPermitted (form : FieldForm) (next : ℕ → Layout) (v : Value)
 pub field-permitted : (form : FieldForm) (next : ℕ → Layout) (v : Value) (vs : List Value) → permitted (field form next) (v ∷ vs) ≡ true → FieldPermitted form next v vs
 unfolding permitted
 field-permitted form next v vs h =
-    let p = both-true (eqb (code form) (code (formOf v))) _ h in
-    let q = both-true (good v) (permitted (next (handed v)) vs) (p .1) in
+    let p = both-each (eqb (code form) (code (formOf v))) _ h in
+    let q = both-each (good v) (permitted (next (handed v)) vs) (p .1) in
     record { of-form = code-once form (formOf v) (eqb-true (code form) (code (formOf v)) (p .0)); is-good = q .0; others = q .1 }
 
 -- fields stand at an offset: they are read there by a layout up to their end, and mean the values

@@ -7,9 +7,9 @@ use native.Mathlib.Omega.{arith}
 use borrow.Author.Tests.{le-leb, eq-eqb}
 use Rattle.integer.specs.Integer.{greatest}
 use Rattle.field.specs.Outcome.{whole}
-use Rattle.field.specs.Entries.{size, numberAt, entryAt, mostOf, entriesAt, Listed, listAt}
+use Rattle.field.specs.Entries.{longestTrack, size, numberAt, entryAt, mostOf, entriesAt, Listed, listAt}
 use Rattle.field.specs.Fields.{FieldForm}
-use Rattle.field.specs.Value.{item, itemsOf, contents, mean}
+use Rattle.field.specs.Value.{entryValue, entryValues, contents, mean}
 use Rattle.field.specs.declared.Entry.{Entry}
 use Rattle.field.specs.declared.Kind.{Kind}
 use Rattle.field.specs.declared.Kind.the-variants.{Namespace, Parameters, Versions}
@@ -32,7 +32,7 @@ version-plain most s at {e} h =
     rw p (omega arith)
 
 -- an entry that was found can be written, and holds nothing that its kind has no place for,
-good-item : (kind : Kind) (most : ℕ) (s : List ℕ) (at : ℕ) {e : Entry} {end : ℕ} → entryAt kind most s at ≡ whole e end → goodItem kind (item s e) ≡ true
+good-item : (kind : Kind) (most : ℕ) (s : List ℕ) (at : ℕ) {e : Entry} {end : ℕ} → entryAt kind most s at ≡ whole e end → goodItem kind (entryValue s e) ≡ true
 unfolding entryAt goodItem
 good-item Namespace most s at {e} h =
     let f = entry-at Namespace most s at h in
@@ -46,8 +46,8 @@ good-item Versions most s at {e} h =
     rw (le-leb (e .number) greatest (f .small), length-part s (e .bytes) (omega arith)) (eq-eqb (size (e .bytes)) 0 (version-plain most s at h))
 
 -- and so do all entries of a run
-pub good-items : (sized : Bool) (kind : Kind) (count held : ℕ) (s : List ℕ) (at : ℕ) {holds end : ℕ} → entriesAt sized kind count held s at ≡ whole holds end → goodItems kind (itemsOf kind count s at) ≡ true
-unfolding entriesAt itemsOf goodItems
+pub good-items : (sized : Bool) (kind : Kind) (count held : ℕ) (s : List ℕ) (at : ℕ) {holds end : ℕ} → entriesAt sized kind count held s at ≡ whole holds end → goodItems kind (entryValues kind count s at) ≡ true
+unfolding entriesAt entryValues goodItems
 good-items sized kind zero held s at h = refl
 good-items sized kind (suc count) held s at h =
     let most = mostOf sized kind held in
@@ -63,12 +63,12 @@ unfolding goodList
 good-list kind s at also {l} h k =
     let t = list-at kind s at h in
     let f = list-fits kind s at h in
-    rw (f .counted, f .sum, le-leb (l .entries .count) greatest (number-at s at (t .count-at) .small), t .allowed, good-items true kind (l .entries .count) 0 s (l .entries .start) (t .run)) k
+    rw (f .counted, f .sum, le-leb (l .entries .count) greatest (number-at s at (t .count-at) .small), t .is-few, good-items true kind (l .entries .count) 0 s (l .entries .start) (t .run)) k
 
 -- where there is no name, its entries alone are within the size
 alone : (kind : Kind) (s : List ℕ) (at : ℕ) {l : Listed} {end : ℕ} → listAt kind s at ≡ whole l end → within kind (l .held + 0) ≡ true
 unfolding within
-alone Namespace s at {l} h = le-leb (l .held + 0) 4_096 (omega (arith, held-small s at h))
+alone Namespace s at {l} h = le-leb (l .held + 0) longestTrack (omega (arith, held-small s at h))
 alone Parameters s at h = refl
 alone Versions s at h = refl
 
@@ -78,20 +78,20 @@ alone Versions s at h = refl
 pub record Good (form : FieldForm) (s : List ℕ) (p : Piece) : Type 0 where
   pub as-asked : formOf (mean s p) ≡ form
   pub hands-on : handed (mean s p) ≡ control p
-  pub allowed : good (mean s p) ≡ true
+  pub is-good : good (mean s p) ≡ true
 
 -- so is every field that was found
 pub field-good : {s : List ℕ} {at : ℕ} {form : FieldForm} {p : Piece} {end : ℕ} → FieldAt s at form p end → Good form s p
 unfolding mean good within mostOf
 field-good {s} {at} (a-number {n = n} e) =
-    record { as-asked = refl; hands-on = refl; allowed = le-leb n greatest (number-at s at e .small) }
-field-good (a-byte e) = record { as-asked = refl; hands-on = refl; allowed = refl }
+    record { as-asked = refl; hands-on = refl; is-good = le-leb n greatest (number-at s at e .small) }
+field-good (a-byte e) = record { as-asked = refl; hands-on = refl; is-good = refl }
 field-good {s} {at} (some-bytes {p = p} e) =
     let t = text-at greatest s at e in
-    record { as-asked = refl; hands-on = refl; allowed = rw (length-part s p (t .within)) (le-leb (size p) greatest (t .short)) }
+    record { as-asked = refl; hands-on = refl; is-good = rw (length-part s p (t .within)) (le-leb (size p) greatest (t .short)) }
 field-good {s} {at} (a-list {kind = kind} e) =
-    record { as-asked = refl; hands-on = refl; allowed = good-list kind s at 0 e (alone kind s at e) }
+    record { as-asked = refl; hands-on = refl; is-good = good-list kind s at 0 e (alone kind s at e) }
 field-good {s} {at} (a-track {l = l} {next = next} {name = name} e f) =
-    let t = text-at (4_096 - l .held) s next f in
-    let small : l .held + size name ≤ 4_096 = omega (arith, held-small s at e, t .short) in
-    record { as-asked = refl; hands-on = refl; allowed = rw (length-part s name (t .within)) (good-list Namespace s at (size name) e (le-leb (l .held + size name) 4_096 small)) }
+    let t = text-at (longestTrack - l .held) s next f in
+    let small : l .held + size name ≤ longestTrack = omega (arith, held-small s at e, t .short) in
+    record { as-asked = refl; hands-on = refl; is-good = rw (length-part s name (t .within)) (good-list Namespace s at (size name) e (le-leb (l .held + size name) longestTrack small)) }

@@ -3,8 +3,9 @@
 use Prim.Native.Nat.{ℕ}
 use mathlib.Core.Path.{_≡_, refl, sym, ap, _∙_}
 use mathlib.Core.List.{List, [], _∷_, _++_, append-nil, append-assoc}
-use mathlib.Core.Bool.{Bool, true, false, not}
-use borrow.Author.Tests.{le-leb, lt-leb, eq-eqb, ne-eqb, not-true, not-false}
+use mathlib.Core.Bool.{Bool, true, false}
+use Rattle.common.proofs.Tests.{tests}
+pub use Rattle.common.proofs.Tests.{kept, broken}
 use Rattle.field.specs.Outcome.{Outcome, whole, no, andThen}
 use Rattle.integer.specs.Integer.{greatest}
 use Rattle.field.specs.Entries.{numberAt, textAt}
@@ -35,7 +36,7 @@ use Rattle.field.specs.declared.Failure.{Failure}
 use Rattle.field.specs.declared.FailureRead.{FailureRead}
 use Rattle.field.specs.declared.FailureRead.the-variants.{Whole as WholeFailure, Cut as CutFailure}
 use Rattle.field.proofs.Unjudged.{as-number, as-text, as-no-number, as-no-text}
-use Rattle.field.proofs.Together.{place-parts, failure-parts, CutIn, first-cut, second-cut, place-stops, failure-stops}
+use Rattle.field.proofs.TwoReads.{place-parts, failure-parts, CutIn, first-cut, second-cut, place-stops, failure-stops}
 use Rattle.layout.specs.Typed.{led}
 use Rattle.layout.specs.Layout.{Layout, done, forbidden, field, when, place, failure, control, scan}
 
@@ -226,16 +227,7 @@ module _ {s : List ℕ} {at : ℕ} (next : Layout) where
       let t = failure-parts s at (sym h ∙ ap toldFailure e) in
       then (as-number s at (t .first)) (then (as-text s (t .next) (t .second)) w)
 
--- ---- by the tests between them
-
--- a rule that is kept, and one that is not
-pub kept : {b t : Bool} → b ≡ t → not b ≡ false → t ≡ true
-kept {b} e h = sym e ∙ not-false b h
-
-pub broken : {b t : Bool} → b ≡ t → not b ≡ true → t ≡ false
-broken {b} e h = sym e ∙ not-true b h
-
-pub ruleset tests = (le-leb, lt-leb, eq-eqb, ne-eqb, kept, broken)
+-- ---- the rules to search among, and those of the tests between fields
 
 -- for a refusal
 pub ruleset stopping = (refused, number-cut, number-past, byte-cut, byte-past, bytes-cut, bytes-past, list-no, list-past, track-no, track-past, place-cut, place-past, failure-cut, failure-past, Stops.yes, Stops.else, tests)

@@ -8,18 +8,18 @@ use Rattle.common.specs.Choice.{pick, both}
 use Rattle.integer.specs.Integer.{greatest}
 use Rattle.field.specs.Entries.{longestTrack, few}
 use Rattle.field.specs.Fields.{FieldForm, integer, byte, bytes, list, track}
-use Rattle.field.specs.Value.{Value, number, octet, text, items, fullName, Item, total}
+use Rattle.field.specs.Value.{Value, number, octet, text, items, fullName, EntryValue, total}
 use Rattle.field.specs.declared.Kind.{Kind}
 use Rattle.field.specs.declared.Kind.the-variants.{Namespace, Parameters, Versions}
 use Rattle.layout.specs.Layout.{Layout, done, forbidden, field, when}
 
 -- an entry that can be written, and holds nothing that its kind has no place for
-unfoldable pub goodItem : Kind → Item → Bool
+unfoldable pub goodItem : Kind → EntryValue → Bool
 goodItem Namespace i = both (eqb (i .number) 0) (leb (length (i .bytes)) greatest)
 goodItem Parameters i = both (leb (i .number) greatest) (leb (length (i .bytes)) greatest)
 goodItem Versions i = both (leb (i .number) greatest) (eqb (length (i .bytes)) 0)
 
-unfoldable pub goodItems : Kind → List Item → Bool
+unfoldable pub goodItems : Kind → List EntryValue → Bool
 goodItems kind [] = true
 goodItems kind (i ∷ is) = both (goodItem kind i) (goodItems kind is)
 
@@ -29,7 +29,7 @@ within Namespace held = leb held longestTrack
 within Parameters held = true
 within Versions held = true
 
-unfoldable pub goodList : Kind → List Item → ℕ → Bool
+unfoldable pub goodList : Kind → List EntryValue → ℕ → Bool
 goodList kind is also =
     both (leb (length is) greatest) (both (few kind (length is))
     (both (goodItems kind is) (within kind (total is + also))))

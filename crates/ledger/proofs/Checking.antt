@@ -10,7 +10,7 @@ use Rattle.row.specs.Rows.{isRow, isUnused}
 use Rattle.row.specs.declared.Row.{Row}
 use Rattle.ledger.specs.Ledgers.{held, rising, hasAlias, distinct, allUnused}
 use Rattle.ledger.specs.declared.Ledger.{Ledger}
-use Rattle.ledger.proofs.Parts.{rest-next, rest-end, held-next, held-end}
+use Rattle.ledger.proofs.PartsOfLists.{rest-next, rest-end, held-next, held-end}
 
 -- ---- rows in use rise
 

@@ -16,7 +16,7 @@ use Rattle.ledger.specs.Steps.{Reply, answer, broken, verdictBy, standin
 use Rattle.ledger.specs.Arrays.{rowAt, withRows, changed, added, freed}
 use Rattle.ledger.specs.declared.Rule.{Rule}
 use Rattle.ledger.specs.declared.Ledger.{Ledger}
-use Rattle.ledger.proofs.Parts.{rest-next}
+use Rattle.ledger.proofs.PartsOfLists.{rest-next}
 use Rattle.ledger.proofs.Finds.{HasNone, IsFirst, first-used}
 use Rattle.ledger.proofs.Keyed.{look-none, look-at, turn-found, turn-same}
 use Rattle.ledger.proofs.Rises.{unused-last, unused-rest}

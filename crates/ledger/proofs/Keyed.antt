@@ -8,7 +8,7 @@ use native.Mathlib.Omega.{arith}
 use lib.Dec.{eqb}
 use lib.ListN.{length, take, drop, getD, set}
 use Rattle.common.specs.Choice.{pick}
-use Rattle.ledger.specs.Keys.{none, one, look, Change, gone, now, put, turn}
+use Rattle.ledger.specs.Keys.{none, one, look, Change, gone, now, instead, turn}
 use Rattle.ledger.proofs.Finds.{HasNone, end, other, IsFirst, here, later}
 
 -- a change keeps the number that elements are known by
@@ -47,8 +47,8 @@ module _ {A : Type 0} (key : A → ℕ) (n : ℕ) where
   turn-found f g [] e = refl
   turn-found f g (x ∷ xs) e = go (eqb (key x) n) refl (turn-found f g xs)
     where
-      go : (b : Bool) → eqb (key x) n ≡ b → (((y : A) → look key n xs ≡ one y → f y ≡ g y) → turn key n f xs ≡ turn key n g xs) → pick b (put (f x) xs) (x ∷ turn key n f xs) ≡ pick b (put (g x) xs) (x ∷ turn key n g xs)
-      go true p ih = ap (λ (c : Change A). put c xs) (e x (rw p))
+      go : (b : Bool) → eqb (key x) n ≡ b → (((y : A) → look key n xs ≡ one y → f y ≡ g y) → turn key n f xs ≡ turn key n g xs) → pick b (instead (f x) xs) (x ∷ turn key n f xs) ≡ pick b (instead (g x) xs) (x ∷ turn key n g xs)
+      go true p ih = ap (λ (c : Change A). instead c xs) (e x (rw p))
       go false p ih = ap (λ t. x ∷ t) (ih (λ y q. e y (rw p q)))
 
   pub turn-now : (xs : List A) → turn key n now xs ≡ xs
@@ -70,7 +70,7 @@ module _ {A : Type 0} (key : A → ℕ) (n : ℕ) where
   turn-short f [] = omega arith
   turn-short f (x ∷ xs) = go (eqb (key x) n) (f x) (turn-short f xs)
     where
-      go : (b : Bool) (c : Change A) → length (turn key n f xs) ≤ length xs → length (pick b (put c xs) (x ∷ turn key n f xs)) ≤ length (x ∷ xs)
+      go : (b : Bool) (c : Change A) → length (turn key n f xs) ≤ length xs → length (pick b (instead c xs) (x ∷ turn key n f xs)) ≤ length (x ∷ xs)
       go true gone h = omega arith
       go true (now y) h = omega arith
       go false c h = omega arith

@@ -1,11 +1,11 @@
-pub mod Parts
+pub mod PartsOfLists
 pub mod Looking
 pub mod Checking
-pub mod Moving
+pub mod RowsMovedUp
 pub mod Facts
 pub mod Gates
 pub mod Finds
-pub mod Taking
+pub mod CodePaths
 pub mod Keyed
 pub mod Rises
 pub mod Sounds
@@ -14,5 +14,5 @@ pub mod Shapes
 pub mod InPlaces
 pub mod Keeps
 pub mod OneAnswer
-pub mod Naming
-pub mod Running
+pub mod AliasesFound
+pub mod RunTurns

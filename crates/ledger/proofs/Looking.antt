@@ -6,7 +6,7 @@ use borrow.Author.Tests.{eq-eqb, ne-eqb}
 use lib.ListN.{length, take, drop, getD}
 use Rattle.ledger.specs.Arrays.{find}
 use Rattle.ledger.specs.declared.Found.the-variants.{At, Missing}
-use Rattle.ledger.proofs.Parts.{part-next, part-end}
+use Rattle.ledger.proofs.PartsOfLists.{part-next, part-end}
 
 module _ {A : Type 0} (key : A → ℕ) (n : ℕ) (xs : List A) (used : ℕ) where
   pub Looking : ℕ → Type 0

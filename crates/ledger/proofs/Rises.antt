@@ -12,7 +12,7 @@ use Rattle.common.proofs.Tests.{both-first, both-second}
 use Rattle.row.specs.Rows.{unusedRow, isRow, isUnused, isPending, isNowhere}
 use Rattle.row.specs.Ranges.{isKnown}
 use Rattle.row.specs.declared.Row.{Row}
-use Rattle.ledger.specs.Keys.{Change, gone, now, put, turn}
+use Rattle.ledger.specs.Keys.{Change, gone, now, instead, turn}
 use Rattle.ledger.specs.Steps.{aliasOf}
 use Rattle.ledger.specs.Ledgers.{rising, hasAlias, distinct, allUnused}
 use Rattle.ledger.proofs.Keyed.{Known}
@@ -85,7 +85,7 @@ module _ (key : Row → ℕ) (n : ℕ) (f : Row → Change Row) where
       w : First low next r rs
       w = first low next r rs e
 
-      there : (c : Change Row) → StillRow r c → rising low next (put c rs) ≡ true
+      there : (c : Change Row) → StillRow r c → rising low next (instead c rs) ≡ true
       there gone s = rise-lower low (r .id + 1) next rs (omega (arith, w .above)) (w .more)
       there (now x) s = rw (s .1 (w .is), s .0, le-leb low (r .id) (w .above), lt-ltb (r .id) next (w .below), w .more)
 
@@ -100,7 +100,7 @@ module _ (key : Row → ℕ) (n : ℕ) (f : Row → Change Row) where
         h : (eqb (r .alias) alias ≡ false) × (hasAlias alias rs ≡ false)
         h = has-not alias r rs e
 
-        there : (c : Change Row) → Known aliasOf r c → hasAlias alias (put c rs) ≡ false
+        there : (c : Change Row) → Known aliasOf r c → hasAlias alias (instead c rs) ≡ false
         there gone k = h .1
         there (now x) k = rw (k, h .0, h .1)
 
@@ -118,7 +118,7 @@ module _ (key : Row → ℕ) (n : ℕ) (f : Row → Change Row) where
         fresh : hasAlias (r .alias) rs ≡ false
         fresh = not-true (hasAlias (r .alias) rs) (both-first (not (hasAlias (r .alias) rs)) (distinct rs) d)
 
-        there : (c : Change Row) → Known aliasOf r c → distinct (put c rs) ≡ true
+        there : (c : Change Row) → Known aliasOf r c → distinct (instead c rs) ≡ true
         there gone k = more
         there (now x) k = rw (k, fresh, more)
 

@@ -24,7 +24,7 @@ use Rattle.ledger.specs.Views.{Seen, viewOf, ledgerOf, cameOf, seenOf}
 use Rattle.ledger.specs.Steps.{unchanged}
 use Rattle.ledger.specs.declared.Ledger.{Ledger}
 use Rattle.ledger.proofs.Facts.{IsLedger}
-use Rattle.ledger.proofs.Parts.{held-long}
+use Rattle.ledger.proofs.PartsOfLists.{held-long}
 
 -- ---- there is one unused row
 

@@ -22,10 +22,10 @@ pub data Change (A : Type 0) : Type 0 where
   gone : Change A
   now : A → Change A
 
-abbrev pub put : {A : Type 0} → Change A → List A → List A
-put gone xs = xs
-put (now x) xs = x ∷ xs
+abbrev pub instead : {A : Type 0} → Change A → List A → List A
+instead gone xs = xs
+instead (now x) xs = x ∷ xs
 
 unfoldable pub turn : {A : Type 0} → (A → ℕ) → ℕ → (A → Change A) → List A → List A
 turn key n f [] = []
-turn key n f (x ∷ xs) = pick (eqb (key x) n) (put (f x) xs) (x ∷ turn key n f xs)
+turn key n f (x ∷ xs) = pick (eqb (key x) n) (instead (f x) xs) (x ∷ turn key n f xs)

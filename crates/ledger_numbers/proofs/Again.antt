@@ -11,7 +11,7 @@ use lib.Seq.{getD-drop, drop-drop, drop-at, take-at}
 use lib.Dec.{eqb, leb}
 use Rattle.common.specs.Choice.{pick}
 use Rattle.common.specs.Buffer.{over}
-use Rattle.layout.proofs.Back.{both-true}
+use Rattle.common.proofs.Tests.{both-each}
 use Rattle.row.specs.declared.State.{State}
 use Rattle.row.specs.declared.State.the-variants.{Pending, Active}
 use Rattle.row.specs.declared.Range.{Range}
@@ -19,16 +19,17 @@ use Rattle.row.specs.declared.Range.the-variants.{Unknown, Open, Closed}
 use Rattle.row.specs.declared.Greatest.{Greatest}
 use Rattle.row.specs.declared.Greatest.the-variants.{Nowhere, At}
 use Rattle.row.specs.declared.Row.{Row}
-use Rattle.ledger.specs.Ledgers.{isLedger, bounded}
+use Rattle.ledger.specs.Answers.{closingRule}
+use Rattle.ledger.specs.Ledgers.{mostRows, isLedger, bounded}
 use Rattle.ledger.specs.declared.Part.{Part}
 use Rattle.ledger.specs.declared.Part.the-variants.{Subscriber, Publisher}
 use Rattle.ledger.specs.declared.Rule.the-variants.{R1, R2, R3, R4, R5, R6, R7}
 use Rattle.ledger.specs.declared.Session.{Session}
 use Rattle.ledger.specs.declared.Session.the-variants.{Open as IsOpen, Closed as IsClosed}
 use Rattle.ledger.specs.declared.Ledger.{Ledger}
-use Rattle.ledger_numbers.specs.Numbers.{stateNumber, rangeNumbers, greatestNumbers, rowNumbers, rowsNumbers, partNumber, sessionNumber, numbersOf}
+use Rattle.ledger_numbers.specs.Numbers.{ownNumbers, rowNumbers, ledgerNumbers, stateNumber, rangeNumbers, greatestNumbers, numbersOfRow, numbersOfRows, partNumber, numbersOf}
 use Rattle.ledger_numbers.specs.Naming.{stateNamed, rangeNamed, greatestNamed, rowNamed, rowsNamed, partNamed, ruleNamed, sessionNamed, ledgerNamed, areSame, noLedger, unpackOf, keptIn}
-use Rattle.ledger_numbers.proofs.Storing.{eleven, row-length, numbers-length}
+use Rattle.ledger_numbers.proofs.Storing.{row-numbers, row-length, numbers-length}
 
 -- ---- a row
 
@@ -48,10 +49,10 @@ unfolding greatestNamed
 greatest-again Nowhere = refl
 greatest-again (At place) = refl
 
-row-again : (r : Row) (rest : List ℕ) → rowNamed (rowNumbers r ++ rest) 0 ≡ r
+row-again : (r : Row) (rest : List ℕ) → rowNamed (numbersOfRow r ++ rest) 0 ≡ r
 unfolding rowNamed
 row-again r rest =
-    rw (eleven r refl refl refl, state-again (r .state), range-again (r .range), greatest-again (r .greatest))
+    rw (row-numbers r refl refl refl, state-again (r .state), range-again (r .range), greatest-again (r .greatest))
 
 -- what stands before an offset does not count
 row-behind : (ns : List ℕ) (at : ℕ) → rowNamed (drop at ns) 0 ≡ rowNamed ns at
@@ -62,14 +63,14 @@ row-behind ns at =
 
 -- ---- rows, and what follows them
 
-rows-again : (rs : List Row) (rest ns : List ℕ) (at : ℕ) → drop at ns ≡ rowsNumbers rs ++ rest → rowsNamed (length rs) ns at ≡ rs
-unfolding rowsNamed rowsNumbers
+rows-again : (rs : List Row) (rest ns : List ℕ) (at : ℕ) → drop at ns ≡ numbersOfRows rs ++ rest → rowsNamed (length rs) ns at ≡ rs
+unfolding rowsNamed numbersOfRows
 rows-again [] rest ns at e = refl
 rows-again (r ∷ rs) rest ns at e =
-    let f : drop at ns ≡ rowNumbers r ++ (rowsNumbers rs ++ rest) = e ∙ append-assoc (rowNumbers r) (rowsNumbers rs) rest in
-    let first : rowNamed ns at ≡ r = sym (row-behind ns at) ∙ rw f (row-again r (rowsNumbers rs ++ rest)) in
-    let others : drop (at + 11) ns ≡ rowsNumbers rs ++ rest = sym (drop-drop 11 at ns) ∙ rw f (drop-at (rowNumbers r) (rowsNumbers rs ++ rest) 11 (row-length r)) in
-    rw (first, rows-again rs rest ns (at + 11) others)
+    let f : drop at ns ≡ numbersOfRow r ++ (numbersOfRows rs ++ rest) = e ∙ append-assoc (numbersOfRow r) (numbersOfRows rs) rest in
+    let first : rowNamed ns at ≡ r = sym (row-behind ns at) ∙ rw f (row-again r (numbersOfRows rs ++ rest)) in
+    let others : drop (at + rowNumbers) ns ≡ numbersOfRows rs ++ rest = sym (drop-drop rowNumbers at ns) ∙ rw f (drop-at (numbersOfRow r) (numbersOfRows rs ++ rest) rowNumbers (row-length r)) in
+    rw (first, rows-again rs rest ns (at + rowNumbers) others)
 
 -- ---- a ledger
 
@@ -78,7 +79,7 @@ unfolding partNamed
 part-again Subscriber = refl
 part-again Publisher = refl
 
-session-again : (s : Session) → sessionNamed (sessionNumber s) ≡ s
+session-again : (s : Session) → sessionNamed (closingRule s) ≡ s
 unfolding sessionNamed ruleNamed
 session-again IsOpen = refl
 session-again (IsClosed R1) = refl
@@ -89,10 +90,10 @@ session-again (IsClosed R5) = refl
 session-again (IsClosed R6) = refl
 session-again (IsClosed R7) = refl
 
-module _ (l : Ledger) (places : length (l .rows) ≡ 64) (rest : List ℕ) where
-  rows-named : rowsNamed 64 (numbersOf l ++ rest) 6 ≡ l .rows
+module _ (l : Ledger) (places : length (l .rows) ≡ mostRows) (rest : List ℕ) where
+  rows-named : rowsNamed mostRows (numbersOf l ++ rest) ownNumbers ≡ l .rows
   unfolding numbersOf
-  rows-named = rw (← places) (rows-again (l .rows) rest (numbersOf l ++ rest) 6 refl)
+  rows-named = rw (← places) (rows-again (l .rows) rest (numbersOf l ++ rest) ownNumbers refl)
 
   pub named-before : ledgerNamed (numbersOf l ++ rest) ≡ l
   unfolding ledgerNamed numbersOf
@@ -111,29 +112,29 @@ same-is [] [] h = refl
 same-is [] (n ∷ ns) h = cc
 same-is (m ∷ ms) [] h = cc
 same-is (m ∷ ms) (n ∷ ns) h =
-    let p = both-true (eqb m n) (areSame ms ns) h in
+    let p = both-each (eqb m n) (areSame ms ns) h in
     rw (eqb-true m n (p .0), same-is ms ns (p .1))
 
 -- ---- unpacking
 
-pub unpacked : (l : Ledger) → length (l .rows) ≡ 64 → (rest : List ℕ) → unpackOf (numbersOf l ++ rest) ≡ l
+pub unpacked : (l : Ledger) → length (l .rows) ≡ mostRows → (rest : List ℕ) → unpackOf (numbersOf l ++ rest) ≡ l
 unfolding unpackOf
 unpacked l places rest =
-    rw (named-before l places rest, take-at (numbersOf l) rest 710 (numbers-length l places), same-itself (numbersOf l))
+    rw (named-before l places rest, take-at (numbersOf l) rest ledgerNumbers (numbers-length l places), same-itself (numbersOf l))
 
 either : (b : Bool) → (b ≡ true) ⊎ (b ≡ false)
 either true = inl refl
 either false = inr refl
 
-pub numbers-again : (ns : List ℕ) → (unpackOf ns .capacity ≡ 0 → ⊥) → numbersOf (unpackOf ns) ≡ take 710 ns
+pub numbers-again : (ns : List ℕ) → (unpackOf ns .capacity ≡ 0 → ⊥) → numbersOf (unpackOf ns) ≡ take ledgerNumbers ns
 unfolding unpackOf
 numbers-again ns h =
     ⊎-elim
-    (λ t. rw t (same-is (numbersOf (ledgerNamed ns)) (take 710 ns) t))
+    (λ t. rw t (same-is (numbersOf (ledgerNamed ns)) (take ledgerNumbers ns) t))
     (λ f. absurd (h (rw f)))
-    (either (areSame (numbersOf (ledgerNamed ns)) (take 710 ns)))
+    (either (areSame (numbersOf (ledgerNamed ns)) (take ledgerNumbers ns)))
 
-pub named : (l : Ledger) → length (l .rows) ≡ 64 → ledgerNamed (numbersOf l) ≡ l
+pub named : (l : Ledger) → length (l .rows) ≡ mostRows → ledgerNamed (numbersOf l) ≡ l
 named l places = rw append-nil at (named-before l places [])
 
 -- ---- what is kept behind a call that left the ledger as it was
@@ -153,7 +154,7 @@ pub kept : (ns : List ℕ) → keptIn ns (unpackOf ns) ≡ ns
 unfolding keptIn
 kept ns =
     kept-by (eqb (unpackOf ns .capacity) 0) (leb (length (numbersOf (unpackOf ns))) (length ns)) ns
-    (λ f. ap (λ (own : List ℕ). over own ns) (numbers-again ns (eqb-false _ _ f)) ∙ over-itself 710 ns)
+    (λ f. ap (λ (own : List ℕ). over own ns) (numbers-again ns (eqb-false _ _ f)) ∙ over-itself ledgerNumbers ns)
 
 pub no-ledger : isLedger noLedger ≡ false
 unfolding isLedger bounded

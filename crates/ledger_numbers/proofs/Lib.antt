@@ -1,5 +1,5 @@
 pub mod Storing
-pub mod Filling
+pub mod RowsNamed
 pub mod Comparing
 pub mod Again
 pub mod Theorems

@@ -15,8 +15,10 @@ use Rattle.row.specs.declared.Range.the-variants.{Unknown, Open, Closed}
 use Rattle.row.specs.declared.Greatest.{Greatest}
 use Rattle.row.specs.declared.Greatest.the-variants.{Nowhere, At}
 use Rattle.row.specs.declared.Row.{Row}
+use Rattle.ledger.specs.Answers.{closingRule}
+use Rattle.ledger.specs.Ledgers.{mostRows}
 use Rattle.ledger.specs.declared.Ledger.{Ledger}
-use Rattle.ledger_numbers.specs.Numbers.{stateNumber, rangeNumbers, greatestNumbers, rowNumbers, rowsNumbers, partNumber, sessionNumber, numbersOf}
+use Rattle.ledger_numbers.specs.Numbers.{ownNumbers, rowNumbers, ledgerNumbers, stateNumber, rangeNumbers, greatestNumbers, numbersOfRow, numbersOfRows, partNumber, numbersOf}
 
 -- numbers stored one by one from the front on
 pub stored : (vs before : List ℕ) → length vs ≤ length before → Put vs before (length vs) (sets before 0 vs)
@@ -37,18 +39,18 @@ three (At place) e = rw e
 
 module _ (r : Row) {asked shown : List ℕ} {s : ℕ} (f : asked ≡ rangeNumbers (r .range)) (t : shown ≡ greatestNumbers (r .greatest)) (e : s ≡ stateNumber (r .state)) where
   -- a row's numbers, one by one
-  pub eleven : rowNumbers r ≡ r .id ∷ r .alias ∷ s ∷ getD asked 0 0 ∷ getD asked 1 0 ∷ getD asked 2 0 ∷ getD asked 3 0 ∷ getD shown 0 0 ∷ getD shown 1 0 ∷ getD shown 2 0 ∷ r .count ∷ []
-  unfolding rowNumbers
-  eleven = rw (four (r .range) f, three (r .greatest) t, ← e)
+  pub row-numbers : numbersOfRow r ≡ r .id ∷ r .alias ∷ s ∷ getD asked 0 0 ∷ getD asked 1 0 ∷ getD asked 2 0 ∷ getD asked 3 0 ∷ getD shown 0 0 ∷ getD shown 1 0 ∷ getD shown 2 0 ∷ r .count ∷ []
+  unfolding numbersOfRow
+  row-numbers = rw (four (r .range) f, three (r .greatest) t, ← e)
 
-  pub row-put : (before : List ℕ) → 11 ≤ length before → Put (rowNumbers r) before 11 (sets before 0 (r .id ∷ r .alias ∷ s ∷ getD asked 0 0 ∷ getD asked 1 0 ∷ getD asked 2 0 ∷ getD asked 3 0 ∷ getD shown 0 0 ∷ getD shown 1 0 ∷ getD shown 2 0 ∷ r .count ∷ []))
-  row-put before h = rw eleven (stored _ before h)
+  pub row-put : (before : List ℕ) → rowNumbers ≤ length before → Put (numbersOfRow r) before rowNumbers (sets before 0 (r .id ∷ r .alias ∷ s ∷ getD asked 0 0 ∷ getD asked 1 0 ∷ getD asked 2 0 ∷ getD asked 3 0 ∷ getD shown 0 0 ∷ getD shown 1 0 ∷ getD shown 2 0 ∷ r .count ∷ []))
+  row-put before h = rw row-numbers (stored _ before h)
 
-pub row-length : (r : Row) → length (rowNumbers r) ≡ 11
-row-length r = ap length (eleven r refl refl refl)
+pub row-length : (r : Row) → length (numbersOfRow r) ≡ rowNumbers
+row-length r = ap length (row-numbers r refl refl refl)
 
-pub eleven-fit : (r : Row) {n : ℕ} → length (rowNumbers r) ≤ n → 11 ≤ n
-eleven-fit r h = omega (arith, row-length r)
+pub row-fits : (r : Row) {n : ℕ} → length (numbersOfRow r) ≤ n → rowNumbers ≤ n
+row-fits r h = omega (arith, row-length r)
 
 -- ---- rows
 
@@ -56,53 +58,53 @@ eleven-fit r h = omega (arith, row-length r)
 pub at-within : {all before out : List ℕ} {at : ℕ} {left : List ℕ} → Going all before out at left → at ≤ length all
 at-within {left = left} g = omega (arith, g .put .count, ap length (g .joins), length-append (g .done) left)
 
-pub rows-length : (rs : List Row) → length (rowsNumbers rs) ≡ 11 * length rs
-unfolding rowsNumbers
+pub rows-length : (rs : List Row) → length (numbersOfRows rs) ≡ rowNumbers * length rs
+unfolding numbersOfRows
 rows-length [] = refl
-rows-length (r ∷ rs) = length-append (rowNumbers r) (rowsNumbers rs) ∙ omega (arith, row-length r, rows-length rs)
+rows-length (r ∷ rs) = length-append (numbersOfRow r) (numbersOfRows rs) ∙ omega (arith, row-length r, rows-length rs)
 
 module _ (rs : List Row) (i : ℕ) where
   -- they go on with the i-th,
-  pub row-next : (d : Row) → i < length rs → Next (rowNumbers (getD rs i d)) (rowsNumbers (drop (i + 1) rs)) (rowsNumbers (drop i rs))
-  unfolding rowsNumbers
+  pub row-next : (d : Row) → i < length rs → Next (numbersOfRow (getD rs i d)) (numbersOfRows (drop (i + 1) rs)) (numbersOfRows (drop i rs))
+  unfolding numbersOfRows
   row-next d h = record { joins = rw (drop-cons rs i d h, add-one i) }
 
   -- and behind the last they end
-  pub rows-end : length rs ≤ i → rowsNumbers (drop i rs) ≡ []
-  unfolding rowsNumbers
+  pub rows-end : length rs ≤ i → numbersOfRows (drop i rs) ≡ []
+  unfolding numbersOfRows
   rows-end h = rw (drop-of-length-le rs {i = i} h)
 
 -- ---- a ledger
 
--- of which there are 710
-pub numbers-length : (l : Ledger) → length (l .rows) ≡ 64 → length (numbersOf l) ≡ 710
+-- it always has as many numbers
+pub numbers-length : (l : Ledger) → length (l .rows) ≡ mostRows → length (numbersOf l) ≡ ledgerNumbers
 unfolding numbersOf
 numbers-length l h = omega (arith, rows-length (l .rows))
 
-module _ (l : Ledger) {p s : ℕ} (e : p ≡ partNumber (l .part)) (f : s ≡ sessionNumber (l .session)) (before : List ℕ) (fits : length (numbersOf l) ≤ length before) where
-  -- its own six, as they are stored
+module _ (l : Ledger) {p s : ℕ} (e : p ≡ partNumber (l .part)) (f : s ≡ closingRule (l .session)) (before : List ℕ) (fits : length (numbersOf l) ≤ length before) where
+  -- its own numbers, as they are stored
   abbrev front : List ℕ
   front = p ∷ s ∷ l .capacity ∷ l .maximum ∷ l .next ∷ l .used ∷ []
 
-  front-room : Room front (rowsNumbers (l .rows)) (numbersOf l) before
+  front-room : Room front (numbersOfRows (l .rows)) (numbersOf l) before
   unfolding numbersOf
   front-room = record { joins = rw (e, f); fits = fits }
 
-  front-put : Put front before 6 (sets before 0 front)
-  front-put = stored front before (omega (arith, length-append front (rowsNumbers (l .rows)), ap length (front-room .joins)))
+  front-put : Put front before ownNumbers (sets before 0 front)
+  front-put = stored front before (omega (arith, length-append front (numbersOfRows (l .rows)), ap length (front-room .joins)))
 
   -- there is room for the rows behind them,
-  pub rows-fit : length (rowsNumbers (l .rows)) ≤ length (lent 6 (sets before 0 front))
+  pub rows-fit : length (numbersOfRows (l .rows)) ≤ length (lent ownNumbers (sets before 0 front))
   rows-fit = second-fits front-room front-put
 
   -- and for both,
-  pub ledger-sum : {n : ℕ} {t : List ℕ} → Put (rowsNumbers (l .rows)) (lent 6 (sets before 0 front)) n t → 6 + n ≤ length before
+  pub ledger-sum : {n : ℕ} {t : List ℕ} → Put (numbersOfRows (l .rows)) (lent ownNumbers (sets before 0 front)) n t → ownNumbers + n ≤ length before
   ledger-sum q = both-fit front-room front-put q
 
   -- and then all of them stand there,
-  pub ledger-put : {n : ℕ} {t : List ℕ} → Put (rowsNumbers (l .rows)) (lent 6 (sets before 0 front)) n t → Put (numbersOf l) before (6 + n) (given 6 (sets before 0 front) t)
+  pub ledger-put : {n : ℕ} {t : List ℕ} → Put (numbersOfRows (l .rows)) (lent ownNumbers (sets before 0 front)) n t → Put (numbersOf l) before (ownNumbers + n) (given ownNumbers (sets before 0 front) t)
   ledger-put q = put-both front-room front-put q
 
   -- in a buffer as long as it was
-  pub ledger-length : {n : ℕ} {t : List ℕ} → Put (rowsNumbers (l .rows)) (lent 6 (sets before 0 front)) n t → length (given 6 (sets before 0 front) t) ≡ length before
+  pub ledger-length : {n : ℕ} {t : List ℕ} → Put (numbersOfRows (l .rows)) (lent ownNumbers (sets before 0 front)) n t → length (given ownNumbers (sets before 0 front) t) ≡ length before
   ledger-length q = put-length (ledger-put q) fits

@@ -5,13 +5,13 @@ use mathlib.Core.Path.{_≡_}
 use mathlib.Core.Bool.{false}
 use mathlib.Core.List.{List, _++_}
 use lib.ListN.{length, take}
-use Rattle.ledger.specs.Ledgers.{isLedger}
+use Rattle.ledger.specs.Ledgers.{mostRows, isLedger}
 use Rattle.ledger.specs.declared.Ledger.{Ledger}
-use Rattle.ledger_numbers.specs.Numbers.{numbersOf}
+use Rattle.ledger_numbers.specs.Numbers.{ledgerNumbers, numbersOf}
 use Rattle.ledger_numbers.specs.Naming.{ledgerNamed, noLedger, unpackOf, keptIn}
 use Rattle.ledger_numbers.proofs.Again as again
 
-module _ (l : Ledger) (places : length (l .rows) ≡ 64) where
+module _ (l : Ledger) (places : length (l .rows) ≡ mostRows) where
   -- 1. The numbers of a ledger name it,
   pub named-again : ledgerNamed (numbersOf l) ≡ l
   named-again = again.named l places
@@ -22,7 +22,7 @@ module _ (l : Ledger) (places : length (l .rows) ≡ 64) where
 
 module _ (ns : List ℕ) where
   -- 2. Numbers that are unpacked as a ledger with room for a row are that ledger's own,
-  pub numbers-again : (unpackOf ns .capacity ≡ 0 → ⊥) → numbersOf (unpackOf ns) ≡ take 710 ns
+  pub numbers-again : (unpackOf ns .capacity ≡ 0 → ⊥) → numbersOf (unpackOf ns) ≡ take ledgerNumbers ns
   numbers-again = again.numbers-again ns
 
   -- and so a call that leaves the ledger as it is leaves the numbers as they are.

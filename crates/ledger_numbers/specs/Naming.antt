@@ -22,7 +22,7 @@ use Rattle.ledger.specs.declared.Rule.the-variants.{R1, R2, R3, R4, R5, R6, R7}
 use Rattle.ledger.specs.declared.Session.{Session}
 use Rattle.ledger.specs.declared.Session.the-variants.{Open as IsOpen, Closed as IsClosed}
 use Rattle.ledger.specs.declared.Ledger.{Ledger}
-use Rattle.ledger_numbers.specs.Numbers.{ownSize, rowSize, ledgerSize, numbersOf}
+use Rattle.ledger_numbers.specs.Numbers.{ownNumbers, rowNumbers, ledgerNumbers, numbersOf}
 
 -- ---- what numbers name. A number that names nothing is taken for the last; `unpackOf` refuses it.
 
@@ -53,7 +53,7 @@ rowNamed ns at = record {
 -- so many rows from an offset on
 unfoldable pub rowsNamed : ℕ → List ℕ → ℕ → List Row
 rowsNamed zero ns at = []
-rowsNamed (suc more) ns at = rowNamed ns at ∷ rowsNamed more ns (at + rowSize)
+rowsNamed (suc more) ns at = rowNamed ns at ∷ rowsNamed more ns (at + rowNumbers)
 
 unfoldable pub partNamed : ℕ → Part
 partNamed n = pick (eqb n 0) Subscriber Publisher
@@ -68,7 +68,7 @@ sessionNamed n = pick (eqb n 0) IsOpen (IsClosed (ruleNamed n))
 
 unfoldable pub ledgerNamed : List ℕ → Ledger
 ledgerNamed ns = record {
-  rows = rowsNamed mostRows ns ownSize;
+  rows = rowsNamed mostRows ns ownNumbers;
   part = partNamed (getD ns 0 0);
   session = sessionNamed (getD ns 1 0);
   capacity = getD ns 2 0;
@@ -90,7 +90,7 @@ abbrev pub noLedger : Ledger
 noLedger = emptyLedger Subscriber 0 0
 
 unfoldable pub unpackOf : List ℕ → Ledger
-unpackOf ns = pick (areSame (numbersOf (ledgerNamed ns)) (take ledgerSize ns)) (ledgerNamed ns) noLedger
+unpackOf ns = pick (areSame (numbersOf (ledgerNamed ns)) (take ledgerNumbers ns)) (ledgerNamed ns) noLedger
 
 -- the numbers behind a call that left this ledger: they stay where it is none, or there is no room for it
 unfoldable pub keptIn : List ℕ → Ledger → List ℕ

@@ -11,22 +11,20 @@ use Rattle.row.specs.declared.Greatest.{Greatest}
 use Rattle.row.specs.declared.Greatest.the-variants.{Nowhere, At}
 use Rattle.row.specs.declared.Row.{Row}
 use Rattle.ledger.specs.Ledgers.{mostRows}
-use Rattle.ledger.specs.Answers.{ruleNumber}
+use Rattle.ledger.specs.Answers.{closingRule}
 use Rattle.ledger.specs.declared.Part.{Part}
 use Rattle.ledger.specs.declared.Part.the-variants.{Subscriber, Publisher}
-use Rattle.ledger.specs.declared.Session.{Session}
-use Rattle.ledger.specs.declared.Session.the-variants.{Open as IsOpen, Closed as IsClosed}
 use Rattle.ledger.specs.declared.Ledger.{Ledger}
 
 -- how many numbers a ledger has of its own, how many a row has, and how many both
-abbrev pub ownSize : ℕ
-ownSize = 6
+abbrev pub ownNumbers : ℕ
+ownNumbers = 6
 
-abbrev pub rowSize : ℕ
-rowSize = 11
+abbrev pub rowNumbers : ℕ
+rowNumbers = 11
 
-abbrev pub ledgerSize : ℕ
-ledgerSize = ownSize + rowSize * mostRows
+abbrev pub ledgerNumbers : ℕ
+ledgerNumbers = ownNumbers + rowNumbers * mostRows
 
 -- ---- a row
 
@@ -45,14 +43,14 @@ abbrev pub greatestNumbers : Greatest → List ℕ
 greatestNumbers Nowhere = 0 ∷ 0 ∷ 0 ∷ []
 greatestNumbers (At place) = 1 ∷ place .group ∷ place .object ∷ []
 
-unfoldable pub rowNumbers : Row → List ℕ
-rowNumbers r =
+unfoldable pub numbersOfRow : Row → List ℕ
+numbersOfRow r =
     r .id ∷ r .alias ∷ stateNumber (r .state) ∷ rangeNumbers (r .range) ++ greatestNumbers (r .greatest)
     ++ (r .count ∷ [])
 
-unfoldable pub rowsNumbers : List Row → List ℕ
-rowsNumbers [] = []
-rowsNumbers (r ∷ rs) = rowNumbers r ++ rowsNumbers rs
+unfoldable pub numbersOfRows : List Row → List ℕ
+numbersOfRows [] = []
+numbersOfRows (r ∷ rs) = numbersOfRow r ++ numbersOfRows rs
 
 -- ---- a ledger: its own numbers, and those of its rows
 
@@ -60,12 +58,7 @@ abbrev pub partNumber : Part → ℕ
 partNumber Subscriber = 0
 partNumber Publisher = 1
 
--- the rule that closed it, 0 while it is open
-abbrev pub sessionNumber : Session → ℕ
-sessionNumber IsOpen = 0
-sessionNumber (IsClosed rule) = ruleNumber rule
-
 unfoldable pub numbersOf : Ledger → List ℕ
 numbersOf l =
-    partNumber (l .part) ∷ sessionNumber (l .session) ∷ l .capacity ∷ l .maximum ∷ l .next ∷ l .used
-    ∷ rowsNumbers (l .rows)
+    partNumber (l .part) ∷ closingRule (l .session) ∷ l .capacity ∷ l .maximum ∷ l .next ∷ l .used
+    ∷ numbersOfRows (l .rows)

@@ -7,8 +7,8 @@ pub use packing::keep;
 pub use unpacking::unpack;
 
 // How many numbers a ledger has of its own, how many a row has, and how many both.
-pub const OWN_SIZE: usize = 6;
+pub const OWN_NUMBERS: usize = 6;
 
-pub const ROW_SIZE: usize = 11;
+pub const ROW_NUMBERS: usize = 11;
 
-pub const SIZE: usize = OWN_SIZE + ROW_SIZE * ledger::MOST_ROWS;
+pub const LEDGER_NUMBERS: usize = OWN_NUMBERS + ROW_NUMBERS * ledger::MOST_ROWS;

@@ -3,10 +3,11 @@ ghost use mathlib.Core.Path.{_≡_};
 ghost use Prim.Native.Nat.{_≤_};
 ghost use lib.ListN.{length};
 ghost use Rattle.common.specs.Buffer.{over, Put};
-ghost use Rattle.ledger_numbers.specs.Numbers.{partNumber, sessionNumber, rowsNumbers, numbersOf};
+ghost use Rattle.ledger_numbers.specs.Numbers.{partNumber, numbersOfRows, numbersOf};
+ghost use Rattle.ledger.specs.Answers.{closingRule};
 ghost use Rattle.ledger_numbers.specs.Naming.{keptIn};
-use crate::OWN_SIZE;
-use crate::SIZE;
+use crate::LEDGER_NUMBERS;
+use crate::OWN_NUMBERS;
 use crate::rows::put_row;
 use ledger::Ledger;
 use ledger::MOST_ROWS;
@@ -23,7 +24,7 @@ fn part_number(part: Part) -> u64
 }
 
 fn session_number(session: Session) -> u64
-    ensures { λ r. ⌜ r ≡ sessionNumber session ⌝ }
+    ensures { λ r. ⌜ r ≡ closingRule session ⌝ }
 {
     match session {
         Session::Open => 0,
@@ -33,8 +34,8 @@ fn session_number(session: Session) -> u64
 
 // The rows, each behind the other.
 fn put_rows(out: &mut [u64], l: Ledger) -> usize
-    requires { ⌜ length (rowsNumbers (l .rows)) ≤ length (now out) ⌝ }
-    ensures { λ r. ⌜ Put (rowsNumbers (l .rows)) (now (out .entry)) r (now (out .exit)) ⌝ }
+    requires { ⌜ length (numbersOfRows (l .rows)) ≤ length (now out) ⌝ }
+    ensures { λ r. ⌜ Put (numbersOfRows (l .rows)) (now (out .entry)) r (now (out .exit)) ⌝ }
 {
     let mut at: usize = 0;
     let mut i: usize = 0;
@@ -60,8 +61,8 @@ pub fn put_ledger(out: &mut [u64], l: Ledger) -> usize
     out[3] = l.maximum;
     out[4] = l.next;
     out[5] = l.used as u64;
-    let n = put_rows(&mut out[OWN_SIZE..], l);
-    OWN_SIZE + n
+    let n = put_rows(&mut out[OWN_NUMBERS..], l);
+    OWN_NUMBERS + n
 }
 
 // The numbers of the ledger that a call left; where it is none, or there is no room for it, what was there stays.
@@ -71,7 +72,7 @@ pub fn keep(numbers: &mut [u64], next: Ledger)
     if next.capacity == 0 {
         return;
     }
-    if numbers.len() < SIZE {
+    if numbers.len() < LEDGER_NUMBERS {
         return;
     }
     put_ledger(numbers, next);

@@ -3,9 +3,9 @@ ghost use mathlib.Core.Path.{_≡_};
 ghost use Prim.Native.Nat.{_+_, _≤_};
 ghost use lib.ListN.{length};
 ghost use Rattle.common.specs.Buffer.{Put};
-ghost use Rattle.ledger_numbers.specs.Numbers.{rowSize, stateNumber, rangeNumbers, greatestNumbers, rowNumbers};
+ghost use Rattle.ledger_numbers.specs.Numbers.{rowNumbers, stateNumber, rangeNumbers, greatestNumbers, numbersOfRow};
 ghost use Rattle.ledger_numbers.specs.Naming.{stateNamed, rangeNamed, greatestNamed, rowNamed};
-use crate::ROW_SIZE;
+use crate::ROW_NUMBERS;
 use field::Place;
 use row::Greatest;
 use row::Range;
@@ -44,8 +44,8 @@ fn greatest_numbers(greatest: Greatest) -> [u64; 3]
 
 // At the front of out.
 pub fn put_row(out: &mut [u64], row: Row) -> usize
-    requires { ⌜ rowSize ≤ length (now out) ⌝ }
-    ensures { λ r. ⌜ Put (rowNumbers row) (now (out .entry)) r (now (out .exit)) ⌝ }
+    requires { ⌜ rowNumbers ≤ length (now out) ⌝ }
+    ensures { λ r. ⌜ Put (numbersOfRow row) (now (out .entry)) r (now (out .exit)) ⌝ }
 {
     let state = row.state;
     let range = row.range;
@@ -63,7 +63,7 @@ pub fn put_row(out: &mut [u64], row: Row) -> usize
     out[8] = shown[1];
     out[9] = shown[2];
     out[10] = row.count;
-    ROW_SIZE
+    ROW_NUMBERS
 }
 
 // ---- the row that numbers name
@@ -98,7 +98,7 @@ fn greatest_of(n: u64, group: u64, object: u64) -> Greatest
 }
 
 pub fn row_in(numbers: &[u64], at: usize) -> Row
-    requires { ⌜ at + rowSize ≤ length (now numbers) ⌝ }
+    requires { ⌜ at + rowNumbers ≤ length (now numbers) ⌝ }
     ensures { λ r. ⌜ r ≡ rowNamed (now (numbers .entry)) at ⌝ }
 {
     let state = state_of(numbers[at + 2]);

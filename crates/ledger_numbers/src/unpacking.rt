@@ -3,11 +3,11 @@ ghost use mathlib.Core.Path.{_≡_};
 ghost use Prim.Native.Nat.{_≤_};
 ghost use lib.ListN.{length, take};
 ghost use Rattle.ledger.specs.Ledgers.{mostRows};
-ghost use Rattle.ledger_numbers.specs.Numbers.{ownSize, ledgerSize, numbersOf};
+ghost use Rattle.ledger_numbers.specs.Numbers.{ownNumbers, ledgerNumbers, numbersOf};
 ghost use Rattle.ledger_numbers.specs.Naming.{rowsNamed, partNamed, ruleNamed, sessionNamed, ledgerNamed, areSame, noLedger, unpackOf};
-use crate::OWN_SIZE;
-use crate::ROW_SIZE;
-use crate::SIZE;
+use crate::LEDGER_NUMBERS;
+use crate::OWN_NUMBERS;
+use crate::ROW_NUMBERS;
 use crate::packing::put_ledger;
 use crate::rows::row_in;
 use ledger::Ledger;
@@ -22,7 +22,7 @@ use row::Row;
 pub fn unpack(numbers: &[u64]) -> Ledger
     ensures { λ r. ⌜ r ≡ unpackOf (now (numbers .entry)) ⌝ }
 {
-    if numbers.len() < SIZE {
+    if numbers.len() < LEDGER_NUMBERS {
         return none();
     }
     let l = ledger_in(numbers);
@@ -72,20 +72,20 @@ fn session_of(n: u64) -> Session
 }
 
 fn rows_in(numbers: &[u64]) -> [Row; MOST_ROWS]
-    requires { ⌜ ledgerSize ≤ length (now numbers) ⌝ }
-    ensures { λ r. ⌜ r ≡ rowsNamed mostRows (now (numbers .entry)) ownSize ⌝ }
+    requires { ⌜ ledgerNumbers ≤ length (now numbers) ⌝ }
+    ensures { λ r. ⌜ r ≡ rowsNamed mostRows (now (numbers .entry)) ownNumbers ⌝ }
 {
     let mut rows = [row::unused(); MOST_ROWS];
     let mut i: usize = 0;
     while i < MOST_ROWS {
-        rows[i] = row_in(numbers, OWN_SIZE + ROW_SIZE * i);
+        rows[i] = row_in(numbers, OWN_NUMBERS + ROW_NUMBERS * i);
         i += 1;
     }
     rows
 }
 
 fn ledger_in(numbers: &[u64]) -> Ledger
-    requires { ⌜ ledgerSize ≤ length (now numbers) ⌝ }
+    requires { ⌜ ledgerNumbers ≤ length (now numbers) ⌝ }
     ensures { λ r. ⌜ r ≡ ledgerNamed (now (numbers .entry)) ⌝ }
 {
     let rows = rows_in(numbers);
@@ -104,13 +104,13 @@ fn ledger_in(numbers: &[u64]) -> Ledger
 
 // Whether these are the ledger's own.
 fn has_numbers(l: Ledger, numbers: &[u64]) -> bool
-    requires { ⌜ ledgerSize ≤ length (now numbers) ⌝ }
-    ensures { λ r. ⌜ r ≡ areSame (numbersOf l) (take ledgerSize (now (numbers .entry))) ⌝ }
+    requires { ⌜ ledgerNumbers ≤ length (now numbers) ⌝ }
+    ensures { λ r. ⌜ r ≡ areSame (numbersOf l) (take ledgerNumbers (now (numbers .entry))) ⌝ }
 {
-    let mut own = [0u64; SIZE];
+    let mut own = [0u64; LEDGER_NUMBERS];
     put_ledger(&mut own, l);
     let mut i: usize = 0;
-    while i < SIZE {
+    while i < LEDGER_NUMBERS {
         if own[i] != numbers[i] {
             return false;
         }

@@ -1,14 +1,14 @@
 pub mod Sizes
 pub mod Judges
 pub mod Spans
-pub mod Runs
+pub mod EntriesFrom
 pub mod Lists
 pub mod Pieces
 pub mod OneAnswer
 pub mod Numbers
 pub mod Placed
-pub mod Rows
-pub mod SoFar
+pub mod FieldsFrom
+pub mod JudgedSoFar
 pub mod Joins
 pub mod Middles
 pub mod AllSmall

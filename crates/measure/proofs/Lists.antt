@@ -13,7 +13,7 @@ use Rattle.integer.specs.Integer.{sizeOf, greatest, encOf}
 use Rattle.integer.proofs.Laws.{length-enc}
 use Rattle.field.specs.Outcome.{Outcome, whole, no, andThen}
 use Rattle.field.specs.Entries.{entriesAt, few}
-use Rattle.field.specs.Value.{itemsOf, contents, total, encItems, encList, walkOf}
+use Rattle.field.specs.Value.{entryValues, contents, total, encItems, encList, walkOf}
 use Rattle.field.specs.Told.{toldWalk}
 use Rattle.field.specs.declared.Entries.{Entries}
 use Rattle.field.specs.declared.Fault.{Fault}
@@ -26,7 +26,7 @@ use Rattle.layout.specs.Permitted.{within}
 use Rattle.measure.specs.Judging.{endsAt, rightList, sizedList, fit, measureList}
 use Rattle.measure.specs.declared.Measured.the-variants.{Oversize, Forbidden}
 use Rattle.measure.proofs.Judges.{judged-forbidden, judged-oversize, judged-fit}
-use Rattle.measure.proofs.Runs.{Run, items-length, items-held}
+use Rattle.measure.proofs.EntriesFrom.{Run, items-length, items-held}
 
 -- ---- a right list, by its parts
 
@@ -66,7 +66,7 @@ module _ (kind : Kind) (count : ℕ) (s : List ℕ) (at : ℕ) where
   -- where the entries end, what they hold, and what their shortest form takes
   pub record Walks (w : Sums) : Type 0 where
     pub runs : entriesAt false kind count 0 s at ≡ whole (w .held) (w .end)
-    pub takes : w .size ≡ length (encItems kind (itemsOf kind count s at))
+    pub takes : w .size ≡ length (encItems kind (entryValues kind count s at))
 
   -- all were found
   walked : {w : Sums} → walkOf false kind count s at ≡ whole w (w .end) → Walks w
@@ -75,7 +75,7 @@ module _ (kind : Kind) (count : ℕ) (s : List ℕ) (at : ℕ) where
       let t = steps (entriesAt false kind count 0 s at) _ h in
       have (t .found) (t .end) (t .first) (cc)
     where
-      have : (held end : ℕ) → entriesAt false kind count 0 s at ≡ whole held end → record { end = end; held = held; size = length (encItems kind (itemsOf kind count s at)) } ≡ w → Walks w
+      have : (held end : ℕ) → entriesAt false kind count 0 s at ≡ whole held end → record { end = end; held = held; size = length (encItems kind (entryValues kind count s at)) } ≡ w → Walks w
       have held end f e = rw (← e) (record { runs = f; takes = refl })
 
   -- or one was missing
@@ -83,7 +83,7 @@ module _ (kind : Kind) (count : ℕ) (s : List ℕ) (at : ℕ) where
   unfolding walkOf
   missing {fault} = go (entriesAt false kind count 0 s at)
     where
-      go : (o : Outcome ℕ) → (andThen {B = Sums} o λ held end. whole (record { end = end; held = held; size = length (encItems kind (itemsOf kind count s at)) }) end) ≡ no fault → o ≡ no fault
+      go : (o : Outcome ℕ) → (andThen {B = Sums} o λ held end. whole (record { end = end; held = held; size = length (encItems kind (entryValues kind count s at)) }) end) ≡ no fault → o ≡ no fault
       go (whole held end) h = absurd (let z : _≡_ {A = ℕ} 0 1 = cc in omega arith)
       go (no f) h = cc
 

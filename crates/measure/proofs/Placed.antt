@@ -8,17 +8,17 @@ use Rattle.common.proofs.Places.{filled, taken-out}
 use Rattle.field.specs.declared.Piece.{Piece}
 use Rattle.field.specs.declared.Piece.the-variants.{Number}
 use Rattle.layout.specs.Typed.{Typed}
-use Rattle.measure.specs.Fields.{slot, inSlot, placed, fieldsOf}
+use Rattle.measure.specs.Fields.{mostPieces, slot, inSlot, placed, fieldsOf}
 use Rattle.measure.specs.declared.Fields.{Fields}
 
--- the first of ten are placed,
-pub fields-filled : (kind used : ℕ) (ps : List Piece) → used ≤ length ps → drop used ps ≡ replicate (10 - used) (Number 0) → _≡_ {A = Fields} (record { at = map inSlot ps; used = used; kind = kind }) (placed (record { type = kind; pieces = take used ps }))
+-- those that fill the first places are placed,
+pub fields-filled : (kind used : ℕ) (ps : List Piece) → used ≤ length ps → drop used ps ≡ replicate (mostPieces - used) (Number 0) → _≡_ {A = Fields} (record { at = map inSlot ps; used = used; kind = kind }) (placed (record { type = kind; pieces = take used ps }))
 unfolding placed
 fields-filled kind used ps h e =
     let count = sym (length-take-le used ps h) in
-    λ i. record { at = map inSlot (filled 10 (Number 0) used ps h e i); used = count i; kind = kind }
+    λ i. record { at = map inSlot (filled mostPieces (Number 0) used ps h e i); used = count i; kind = kind }
 
 -- and fields that are placed are found again
 pub fields-placed : (t : Typed) → fieldsOf (placed t) ≡ t .pieces
 unfolding fieldsOf placed
-fields-placed t = taken-out 10 (Number 0) inSlot slot (λ p. refl) (t .pieces)
+fields-placed t = taken-out mostPieces (Number 0) inSlot slot (λ p. refl) (t .pieces)

@@ -5,6 +5,7 @@ use mathlib.Core.Bool.{Bool, true, false}
 use native.Mathlib.Omega.{arith}
 use borrow.Author.Tests.{le-leb, lt-leb, leb-true, leb-false}
 use lib.Dec.{leb}
+use Rattle.field.specs.Entries.{longestTrack}
 use Rattle.field.specs.declared.Kind.{Kind}
 use Rattle.field.specs.declared.Kind.the-variants.{Namespace}
 use Rattle.layout.specs.Permitted.{within}
@@ -19,11 +20,11 @@ sum-within held also most h = go (leb also (most - held)) refl
 
 module _ {kind : Kind} (held also : ℕ) (e : kind ≡ Namespace) where
   -- the fields of a namespace hold too much by themselves
-  pub namespace-over : 4_096 < held → false ≡ within kind (held + also)
+  pub namespace-over : longestTrack < held → false ≡ within kind (held + also)
   unfolding within
-  namespace-over h = rw e (sym (lt-leb (held + also) 4_096 (omega arith)))
+  namespace-over h = rw e (sym (lt-leb (held + also) longestTrack (omega arith)))
 
   -- or the name is tested by what they leave
-  pub namespace-left : held ≤ 4_096 → leb also (4_096 - held) ≡ within kind (held + also)
+  pub namespace-left : held ≤ longestTrack → leb also (longestTrack - held) ≡ within kind (held + also)
   unfolding within
-  namespace-left h = rw e (sum-within held also 4_096 h)
+  namespace-left h = rw e (sum-within held also longestTrack h)

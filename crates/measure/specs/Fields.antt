@@ -21,16 +21,21 @@ slot s = s .piece
 abbrev pub inSlot : Piece → Slot
 inSlot p = record { piece = p }
 
+-- how many fields a message has at most: there is a place for each
+abbrev pub mostPieces : ℕ
+mostPieces = 10
+
 -- A MESSAGE'S FIELDS, each in its place; a place that is not used holds the number 0
 unfoldable pub placed : Typed → Fields
-placed t = record { at = map inSlot (upTo 10 (Number 0) (t .pieces)); used = length (t .pieces); kind = t .type }
+placed t = record { at = map inSlot (upTo mostPieces (Number 0) (t .pieces)); used = length (t .pieces); kind = t .type }
 
 -- and back: those that are used
 unfoldable pub fieldsOf : Fields → List Piece
 fieldsOf f = map slot (take (f .used) (f .at))
 
-unfoldable pub tenOf : ℕ → ℕ
-tenOf n = pick (ltb n 10) n 10
+-- how many fields there are: no more than there are places
+unfoldable pub pieceCount : ℕ → ℕ
+pieceCount n = pick (ltb n mostPieces) n mostPieces
 
 -- ---- the fields of a header: numbers, what stands between them, and numbers
 

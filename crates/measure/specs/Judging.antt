@@ -17,6 +17,7 @@ use Rattle.field.specs.declared.Kind.the-variants.{Namespace}
 use Rattle.field.specs.declared.Piece.{Piece}
 use Rattle.field.specs.declared.Piece.the-variants.{Number, Byte, Bytes, List as Listing, Track as Tracked}
 use Rattle.layout.specs.Permitted.{within}
+use Rattle.measure.specs.Small.{smallSpan, smallList}
 use Rattle.measure.specs.declared.Measured.{Measured}
 use Rattle.measure.specs.declared.Measured.the-variants.{Takes, TooLong, Oversize, Forbidden}
 
@@ -24,7 +25,7 @@ use Rattle.measure.specs.declared.Measured.the-variants.{Takes, TooLong,
 
 -- a part that lies within the bytes
 unfoldable pub rightSpan : List ℕ → Span → Bool
-rightSpan s p = both (leb (p .start) (p .end)) (both (leb (p .end) (length s)) (leb (size p) greatest))
+rightSpan s p = both (leb (p .start) (p .end)) (both (leb (p .end) (length s)) (smallSpan p))
 
 -- "bytes handed to it that don't make exactly the stated entries answer 5"
 abbrev pub endsAt : Outcome ℕ → ℕ → Bool
@@ -33,7 +34,7 @@ endsAt (no fault) end = false
 
 unfoldable pub rightList : List ℕ → Kind → Entries → Bool
 rightList s kind l =
-    both (leb (l .count) greatest)
+    both (smallList l)
     (both (leb (l .end) (length s)) (endsAt (entriesAt false kind (l .count) 0 s (l .start)) (l .end)))
 
 unfoldable pub right : List ℕ → Piece → Bool

@@ -11,10 +11,10 @@ use Rattle.field.specs.declared.Entries.{Entries}
 use Rattle.field.specs.declared.Piece.{Piece}
 use Rattle.field.specs.declared.Piece.the-variants.{Number, Byte, Bytes, List as Listing, Track as Tracked}
 
-unfoldable pub smallSpan : Span → Bool
+abbrev pub smallSpan : Span → Bool
 smallSpan p = leb (size p) greatest
 
-unfoldable pub smallList : Entries → Bool
+abbrev pub smallList : Entries → Bool
 smallList l = leb (l .count) greatest
 
 unfoldable pub smallPiece : Piece → Bool

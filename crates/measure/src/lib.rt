@@ -27,9 +27,12 @@ pub struct Slot {
     pub piece: Piece,
 }
 
-// The fields of a message, in their order, and the number of its type. At most ten are used.
+// How many fields a message has at most: there is a place for each.
+pub const MOST_PIECES: usize = 10;
+
+// The fields of a message, in their order, how many are used, and the number of its type.
 pub struct Fields {
-    pub at: [Slot; 10],
+    pub at: [Slot; MOST_PIECES],
     pub used: usize,
     pub kind: u64,
 }

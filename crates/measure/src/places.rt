@@ -4,8 +4,9 @@ ghost use mathlib.Core.List.{[], _∷_};
 ghost use Prim.Native.Nat.{_≤_, _-_};
 ghost use lib.ListN.{take, drop, replicate};
 ghost use Rattle.field.specs.declared.Piece.the-variants.{Number};
-ghost use Rattle.measure.specs.Fields.{placed, tenOf};
+ghost use Rattle.measure.specs.Fields.{mostPieces, placed, pieceCount};
 use crate::Fields;
+use crate::MOST_PIECES;
 use crate::Slot;
 use field::Piece;
 
@@ -21,8 +22,8 @@ fn of(
     f: Piece,
     g: Piece,
 ) -> Fields
-    requires { ⌜ (used ≤ 10) × (drop used (a ∷ b ∷ c ∷ d ∷ e ∷ f ∷ g ∷ replicate 3 (Number 0)) ≡ replicate (10 - used)
-        (Number 0)) ⌝ }
+    requires { ⌜ (used ≤ mostPieces) × (drop used (a ∷ b ∷ c ∷ d ∷ e ∷ f ∷ g ∷ replicate 3 (Number 0)) ≡ replicate
+        (mostPieces - used) (Number 0)) ⌝ }
     ensures { λ r. ⌜ r ≡ placed
         (record { type = kind; pieces = take used (a ∷ b ∷ c ∷ d ∷ e ∷ f ∷ g ∷ replicate 3 (Number 0)) }) ⌝ }
 {
@@ -164,8 +165,12 @@ pub fn of10(
 }
 
 // How many fields there are: no more than there are places.
-pub fn ten(used: usize) -> usize
-    ensures { λ r. ⌜ r ≡ tenOf used ⌝ }
+pub fn piece_count(used: usize) -> usize
+    ensures { λ r. ⌜ r ≡ pieceCount used ⌝ }
 {
-    if used < 10 { used } else { 10 }
+    if used < MOST_PIECES {
+        used
+    } else {
+        MOST_PIECES
+    }
 }

@@ -3,7 +3,7 @@ ghost use mathlib.Core.Path.{_≡_};
 ghost use Rattle.measure.specs.Small.{smallSpan, smallPiece, smallAll};
 ghost use Rattle.measure.specs.Fields.{fieldsOf};
 use crate::Fields;
-use crate::places::ten;
+use crate::places::piece_count;
 use field::Piece;
 use field::Span;
 
@@ -41,7 +41,7 @@ fn is_small(p: Piece) -> bool
 pub fn are_small(f: Fields) -> bool
     ensures { λ r. ⌜ r ≡ smallAll (fieldsOf f) ⌝ }
 {
-    let n = ten(f.used);
+    let n = piece_count(f.used);
     let mut i: usize = 0;
     while i < n {
         let slot = f.at[i];

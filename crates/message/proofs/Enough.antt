@@ -16,7 +16,7 @@ use Rattle.field.specs.declared.Fault.{Fault}
 use Rattle.field.proofs.Found.{number-at, number-read}
 use Rattle.field.proofs.Unjudged.{apart}
 use Rattle.layout.specs.Typed.{Typed, typed}
-use Rattle.message.specs.Reading.{readUpTo}
+use Rattle.message.specs.Reading.{longestUpTo, readUpTo}
 use Rattle.message.proofs.Front.{Stops, no-type, unknown, no-length, too-long, missing, Judged, stopped, present, judged}
 use Rattle.message.proofs.Numbers.{body-numbers}
 
@@ -32,12 +32,8 @@ integer-there s at h e = go (integerOf (drop at s)) refl
 integer-few : (s : List ℕ) (at : ℕ) {n end : ℕ} → numberAt s at ≡ whole n end → end ≤ at + 8
 integer-few s at h = let t = number-at s at h in omega (arith, t .ends, bounds (t .reads) .few)
 
--- the longest message whose body takes up to a limit
-abbrev pub longestMessage : ℕ → ℕ
-longestMessage limit = limit + 16
-
--- so of as many bytes none is wanting before the body,
-stop-decided : {limit : ℕ} {s : List ℕ} {n : ℕ} → longestMessage limit ≤ length s → Stops limit s n → n ≡ 1 → ⊥
+-- so of as many bytes as the longest message has none is wanting before the body,
+stop-decided : {limit : ℕ} {s : List ℕ} {n : ℕ} → longestUpTo limit ≤ length s → Stops limit s n → n ≡ 1 → ⊥
 stop-decided {s = s} long (no-type e) z = integer-there s 0 (omega arith) e
 stop-decided long (unknown e k) z = omega arith
 stop-decided {s = s} long (no-length {next = next} e k f) z = integer-there s next (omega (arith, integer-few s 0 e)) f
@@ -45,7 +41,7 @@ stop-decided long (too-long h great) z = omega arith
 stop-decided {s = s} long (missing h short room) z = omega (arith, integer-few s 0 (h .type-at), integer-few s (h .next) (h .length-at))
 
 -- and a body that is there is never refused by 1
-pub decided : (limit : ℕ) (s : List ℕ) → longestMessage limit ≤ length s → readUpTo limit s ≡ refused 1 → ⊥
+pub decided : (limit : ℕ) (s : List ℕ) → longestUpTo limit ≤ length s → readUpTo limit s ≡ refused 1 → ⊥
 decided limit s long = go (judged limit s)
   where
     go : {o : Answer Typed} → Judged limit s o → o ≡ refused 1 → ⊥
@@ -59,4 +55,4 @@ longer n s = (replicate n 0, rw (length-append, length-replicate) (omega arith))
 
 -- so whatever is there, more bytes decide it
 pub more : (limit : ℕ) (s : List ℕ) → (x : List ℕ) × (readUpTo limit (s ++ x) ≡ refused 1 → ⊥)
-more limit s = let l = longer (longestMessage limit) s in (l .0, decided limit (s ++ l .0) (l .1))
+more limit s = let l = longer (longestUpTo limit) s in (l .0, decided limit (s ++ l .0) (l .1))

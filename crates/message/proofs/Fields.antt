@@ -20,8 +20,8 @@ use Rattle.message.proofs.Front.{WholeAt}
 
 module _ {limit : ℕ} (s : List ℕ) {t : Typed} {used : ℕ} where
   -- its fields are permitted,
-  pub allowed : WholeAt limit s t used → permitted (layoutOf (t .type)) (map (mean (take used s)) (t .pieces)) ≡ true
-  allowed w = scanned-shortest (scanned (layoutOf (t .type)) (take used s) (w .at) (w .body)) .allowed
+  pub is-permitted : WholeAt limit s t used → permitted (layoutOf (t .type)) (map (mean (take used s)) (t .pieces)) ≡ true
+  is-permitted w = scanned-shortest (scanned (layoutOf (t .type)) (take used s) (w .at) (w .body)) .is-permitted
 
   -- it takes two bytes at least, and all of them are there,
   pub used-there : WholeAt limit s t used → (2 ≤ used) × (used ≤ length s)

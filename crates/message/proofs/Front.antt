@@ -10,9 +10,8 @@ use lib.Dec.{eqb}
 use borrow.Author.Tests.{le-leb, lt-leb, eq-eqb, eqb-true}
 use Rattle.common.specs.Answer.{Answer, whole as answered, refused}
 use Rattle.common.proofs.Cases.{pick-by, pick-le, apart}
-use Rattle.field.specs.Outcome.{Outcome, whole, no}
+use Rattle.field.specs.Outcome.{Outcome, whole, no, onFound}
 use Rattle.field.specs.Entries.{numberAt}
-use Rattle.field.specs.Value.{onFound}
 use Rattle.field.specs.declared.Fault.{Fault}
 use Rattle.field.specs.declared.Piece.{Piece}
 use Rattle.field.proofs.Found.{number-at}
@@ -45,7 +44,7 @@ pub data Judged (limit : ℕ) (s : List ℕ) : Answer Typed → Type 0 where
   present : {type size at : ℕ} {fields : Outcome (List Piece)} → Headed s type size at → size ≤ limit → size ≤ length s - at → fields ≡ scan (layoutOf type) (take (at + size) s) at → Judged limit s (filledBy (at + size) (typed type fields))
 
 -- what holds of what comes of a finding and of none holds of what comes of an outcome
-found-by : {A B : Type 0} (P : B → Type 0) (o : Outcome A) {f : A → ℕ → B} {none : B} → ((a : A) (end : ℕ) → o ≡ whole a end → P (f a end)) → ((fault : Fault) → o ≡ no fault → P none) → P (onFound o f none)
+found-by : {A B : Type 0} (P : B → Type 0) (o : Outcome A) {f : A → ℕ → B} {none : B} → ((a : A) (end : ℕ) → o ≡ whole a end → P (f a end)) → ((fault : Fault) → o ≡ no fault → P none) → P (onFound o none f)
 found-by P (whole a end) f g = f a end refl
 found-by P (no fault) f g = g fault refl
 

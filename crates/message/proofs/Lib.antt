@@ -2,7 +2,7 @@ pub mod Made
 pub mod Layouts
 pub mod Known
 pub mod Bodies
-pub mod Filling
+pub mod BodyEnd
 pub mod Front
 pub mod Answers
 pub mod Stable

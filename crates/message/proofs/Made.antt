@@ -4,7 +4,7 @@ use lib.Dec.{eqb}
 use Rattle.common.specs.Choice.{pick}
 use Rattle.common.specs.Answer.{Answer, whole as answered, refused}
 use Rattle.layout.specs.Typed.{Typed}
-use Rattle.types.specs.Table.{Family, setting, subscribing, retrieving, announcing, onListed, typeRowOf}
+use Rattle.types.specs.Table.{Family, sessions, subscriptions, fetches, announces, onListed, typeRowOf}
 use Rattle.subscription.proofs.Made.{messageOf as subscriptionOf}
 use Rattle.fetch.proofs.Made.{messageOf as fetchOf}
 use Rattle.announce.proofs.Made.{messageOf as announceOf}
@@ -16,14 +16,14 @@ use Rattle.message.specs.declared.Reading.the-variants.{Whole, More, Unk
 
 -- the family whose a type is; of a number that is no type, any
 unfoldable pub familyOf : ℕ → Family
-familyOf type = onListed (typeRowOf type) (λ r. r .family) setting
+familyOf type = onListed (typeRowOf type) sessions (λ r. r .family)
 
 -- the message of a type, made by its family
 abbrev pub messageBy : Family → Typed → Message
-messageBy subscribing t = Subscription (subscriptionOf t)
-messageBy retrieving t = Fetch (fetchOf t)
-messageBy announcing t = Announce (announceOf t)
-messageBy setting t = Session (sessionOf t)
+messageBy subscriptions t = Subscription (subscriptionOf t)
+messageBy fetches t = Fetch (fetchOf t)
+messageBy announces t = Announce (announceOf t)
+messageBy sessions t = Session (sessionOf t)
 
 unfoldable pub messageOf : Typed → Message
 messageOf t = messageBy (familyOf (t .type)) t

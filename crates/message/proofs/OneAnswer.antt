@@ -4,7 +4,7 @@ use Prim.Native.Nat.{ℕ}
 use mathlib.Core.Path.{_≡_, refl, sym, _∙_}
 use mathlib.Core.List.{List}
 use Rattle.common.proofs.Telling.{once}
-use Rattle.types.specs.Table.{setting, subscribing, retrieving, announcing, messages, typeRowIn, typeRowOf}
+use Rattle.types.specs.Table.{sessions, subscriptions, fetches, announces, messages, typeRowIn, typeRowOf}
 use Rattle.subscription.proofs.OneAnswer.{message-back as subscription-back}
 use Rattle.subscription.specs.Told.{typedOf as subscriptionTyped}
 use Rattle.subscription.specs.declared.SubscriptionMessage.{SubscriptionMessage}
@@ -36,7 +36,7 @@ use Rattle.message.specs.declared.Reading.the-variants.{Whole, More, Unk
 -- ---- the families, by the numbers of their types
 
 -- each message has a number of its family
-of-subscription : (m : SubscriptionMessage) → familyOf (subscriptionTyped m .type) ≡ subscribing
+of-subscription : (m : SubscriptionMessage) → familyOf (subscriptionTyped m .type) ≡ subscriptions
 unfolding familyOf typeRowOf typeRowIn messages
 of-subscription (subscription.SubscribeUpdate m) = refl
 of-subscription (subscription.Subscribe m) = refl
@@ -47,7 +47,7 @@ of-subscription (subscription.SubscribeDone m) = refl
 of-subscription (subscription.MaxSubscribeId id) = refl
 of-subscription (subscription.SubscribesBlocked id) = refl
 
-of-fetch : (m : FetchMessage) → familyOf (fetchTyped m .type) ≡ retrieving
+of-fetch : (m : FetchMessage) → familyOf (fetchTyped m .type) ≡ fetches
 unfolding familyOf typeRowOf typeRowIn messages
 of-fetch (fetch.Fetch m) = refl
 of-fetch (fetch.FetchOk m) = refl
@@ -56,7 +56,7 @@ of-fetch (fetch.FetchCancel id) = refl
 of-fetch (fetch.TrackStatusRequest t) = refl
 of-fetch (fetch.TrackStatus m) = refl
 
-of-announce : (m : AnnounceMessage) → familyOf (announceTyped m .type) ≡ announcing
+of-announce : (m : AnnounceMessage) → familyOf (announceTyped m .type) ≡ announces
 unfolding familyOf typeRowOf typeRowIn messages announceRow
 of-announce (announce.Named naming.AnnounceOk n) = refl
 of-announce (announce.Named naming.Unannounce n) = refl
@@ -68,7 +68,7 @@ of-announce (announce.Refused refusing.AnnounceError m) = refl
 of-announce (announce.Refused refusing.AnnounceCancel m) = refl
 of-announce (announce.Refused refusing.SubscribeAnnouncesError m) = refl
 
-of-session : (m : SessionMessage) → familyOf (sessionTyped m .type) ≡ setting
+of-session : (m : SessionMessage) → familyOf (sessionTyped m .type) ≡ sessions
 unfolding familyOf typeRowOf typeRowIn messages
 of-session (session.ClientSetup m) = refl
 of-session (session.ServerSetup m) = refl

@@ -102,7 +102,7 @@ said-back : (type : ℕ) (s : List ℕ) (at : ℕ) {ps : List Piece} {end : ℕ}
 unfolding layoutOf typeRowOf
 said-back type s at {ps} {end} = go (typeRowIn messages type) refl
   where
-    go : (l : InTable) → typeRowIn messages type ≡ l → scan (onListed l (λ r. r .layout) forbidden) s at ≡ whole ps end
+    go : (l : InTable) → typeRowIn messages type ≡ l → scan (onListed l forbidden (λ r. r .layout)) s at ≡ whole ps end
         → typedOf (messageOf (record { type = type; pieces = ps })) ≡ record { type = type; pieces = ps }
     go (listed r) e h =
         let f = row-is Says messages type all-say e in

@@ -6,9 +6,8 @@ use lib.ListN.{length, take}
 use lib.Dec.{leb, eqb}
 use Rattle.common.specs.Choice.{guard}
 use Rattle.common.specs.Answer.{Answer, whole as answered, refused}
-use Rattle.field.specs.Outcome.{Outcome, whole, no, faultNumber}
+use Rattle.field.specs.Outcome.{Outcome, whole, no, onFound, faultNumber}
 use Rattle.field.specs.Entries.{numberAt}
-use Rattle.field.specs.Value.{onFound}
 use Rattle.layout.specs.Layout.{scan}
 use Rattle.layout.specs.Typed.{Typed, typed}
 use Rattle.types.specs.Table.{known, layoutOf}
@@ -22,6 +21,14 @@ use Rattle.message.specs.declared.Reading.the-variants.{Whole, More, Unk
 -- the longest body
 abbrev pub longestBody : ℕ
 longestBody = 16_383
+
+-- the longest message whose body takes up to a limit: its body, after a Type and a Length of eight bytes each
+abbrev pub longestUpTo : ℕ → ℕ
+longestUpTo limit = 8 + 8 + limit
+
+-- and with 01's limit: 16,399 bytes, which always decide
+abbrev pub longestMessage : ℕ
+longestMessage = longestUpTo longestBody
 
 -- a body that ends at `end` must be filled: 4 where its fields end before, or are cut
 abbrev pub filledBy : ℕ → Outcome Typed → Answer Typed
@@ -38,10 +45,10 @@ bodyUpTo limit s type size at =
 -- and the message, at the front of bytes
 unfoldable pub readUpTo : ℕ → List ℕ → Answer Typed
 readUpTo limit s =
-    onFound (numberAt s 0)
-    (λ type next. guard (known type) (refused 2)
-    (onFound (numberAt s next) (λ size at. bodyUpTo limit s type size at) (refused 1)))
-    (refused 1)
+    onFound (numberAt s 0) (refused 1) (λ type next.
+    guard (known type) (refused 2)
+    (onFound (numberAt s next) (refused 1) (λ size at.
+    bodyUpTo limit s type size at)))
 
 -- READING, with 01's limit
 abbrev pub readOf : List ℕ → Answer Typed
@@ -59,14 +66,14 @@ told Forbidden = refused 5
 told Oversize = refused 6
 
 -- "Only a whole message reaches the ledger; every other reading ends there": what is done with it, and what else
-abbrev pub onWhole : {A : Type 0} → Reading → (Message → ℕ → A) → A → A
-onWhole (Whole m used) taken rest = taken m used
-onWhole More taken rest = rest
-onWhole Unknown taken rest = rest
-onWhole TooLong taken rest = rest
-onWhole Unfilled taken rest = rest
-onWhole Forbidden taken rest = rest
-onWhole Oversize taken rest = rest
+abbrev pub onWhole : {A : Type 0} → Reading → A → (Message → ℕ → A) → A
+onWhole (Whole m used) rest taken = taken m used
+onWhole More rest taken = rest
+onWhole Unknown rest taken = rest
+onWhole TooLong rest taken = rest
+onWhole Unfilled rest taken = rest
+onWhole Forbidden rest taken = rest
+onWhole Oversize rest taken = rest
 
 abbrev pub toldBody : BodyRead → Outcome Typed
 toldBody (WholeBody m end) = whole (typedOf m) end

@@ -16,7 +16,7 @@ use subscription::SubscriptionMessage;
 use subscription::kinds::SubscriptionKind;
 
 // The longest body that is read or written.
-pub const LONGEST: u32 = 16_383;
+pub const LONGEST_BODY: u32 = 16_383;
 
 pub enum Message {
     Subscription(SubscriptionMessage),

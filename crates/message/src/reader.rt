@@ -9,7 +9,7 @@ ghost use Rattle.message.specs.Reading.{told, toldBody, filledBy, readOf
 use crate::BodyRead;
 use crate::Found;
 use crate::Kind;
-use crate::LONGEST;
+use crate::LONGEST_BODY;
 use crate::Message;
 use crate::Reading;
 use crate::kinds::type_of;
@@ -32,7 +32,7 @@ pub fn read(s: &[u8]) -> Reading
     let NumberRead::Whole(length, b) = field::read_number(s, a) else {
         return Reading::More;
     };
-    if length > LONGEST as u64 {
+    if length > LONGEST_BODY as u64 {
         return Reading::TooLong;
     }
     let left = s.len() - b;

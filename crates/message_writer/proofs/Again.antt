@@ -17,9 +17,9 @@ use Rattle.layout.proofs.Scanned.{scanned}
 use Rattle.layout.proofs.Shortest.{scanned-shortest}
 use Rattle.measure.specs.Measuring.{rightAll, sizedAll, encodeAll}
 use Rattle.encode.proofs.Again.{scanned-right}
-use Rattle.encode.proofs.Longer.{longer-found}
-use Rattle.encode.proofs.Passed.{Passes}
-use Rattle.encode.proofs.Passed as passed
+use Rattle.encode.proofs.InTheWhole.{longer-found}
+use Rattle.encode.proofs.ChecksPassed.{Passes}
+use Rattle.encode.proofs.ChecksPassed as passed
 use Rattle.types.specs.Table.{layoutOf}
 use Rattle.message.specs.Types.{typedOf}
 use Rattle.message.specs.Reading.{longestBody, readOf}

@@ -6,13 +6,13 @@ use mathlib.Core.List.{List}
 use lib.ListN.{length, take}
 use lib.Dec.{leb}
 use Rattle.common.specs.Answer.{refused, wrote}
+use Rattle.common.proofs.Tests.{both-each}
 use Rattle.integer.specs.Integer.{greatest}
 use Rattle.layout.specs.Typed.{Typed}
 use Rattle.layout.specs.Same.{Same}
-use Rattle.layout.proofs.Back.{both-true}
 use Rattle.measure.specs.Measuring.{rightAll, encodeAll}
 use Rattle.encode.specs.Writing.{frame}
-use Rattle.encode.proofs.Passed.{was-written}
+use Rattle.encode.proofs.ChecksPassed.{was-written}
 use Rattle.encode.proofs.Alike as shortest
 use Rattle.message.specs.Types.{typedOf}
 use Rattle.message_writer.specs.Writing.{allowedOf, writeUpTo, writeOf}
@@ -53,8 +53,8 @@ module _ (s t : List ℕ) (m k : Message) (same : Same s (typedOf m) t (typedOf 
   right : (s : List ℕ) (m : Message) (before : List ℕ) → (writeOf s m before .says ≡ refused 5 → ⊥) → (allowedOf m ≡ true) × (rightAll s (typedOf m .pieces) ≡ true)
   unfolding writeUpTo
   right s m before h =
-      let p = both-true (allowedOf m) _ (shortest.not-five _ _ _ _ before h) in
-      (p .0, both-true (leb (typedOf m .type) greatest) (rightAll s (typedOf m .pieces)) (p .1) .1)
+      let p = both-each (allowedOf m) _ (shortest.not-five _ _ _ _ before h) in
+      (p .0, both-each (leb (typedOf m .type) greatest) (rightAll s (typedOf m .pieces)) (p .1) .1)
 
   -- Into the same buffer it is written alike, with the same answer; or one of the two is answered with 5.
   pub written-alike : (before : List ℕ) → (writeOf s m before .says ≡ refused 5 → ⊥) → (writeOf t k before .says ≡ refused 5 → ⊥) → writeOf s m before ≡ writeOf t k before

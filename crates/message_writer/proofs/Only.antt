@@ -13,7 +13,7 @@ use Rattle.layout.specs.Same.{Same}
 use Rattle.layout.proofs.Scanned.{scanned}
 use Rattle.layout.proofs.Shortest.{scanned-shortest}
 use Rattle.measure.specs.Measuring.{encodeAll}
-use Rattle.encode.proofs.Longer.{longer-found}
+use Rattle.encode.proofs.InTheWhole.{longer-found}
 use Rattle.encode.proofs.Framed.{least-frame}
 use Rattle.types.specs.Table.{layoutOf}
 use Rattle.message.specs.Types.{typedOf}

@@ -9,6 +9,7 @@ use lib.Seq.{take-append-seam}
 use lib.Dec.{leb}
 use borrow.Author.Tests.{leb-true}
 use Rattle.common.specs.Answer.{wrote, whole as answered}
+use Rattle.common.proofs.Tests.{both-each}
 use Rattle.integer.specs.Integer.{greatest, encOf}
 use Rattle.field.specs.Outcome.{whole}
 use Rattle.field.specs.Value.{Value, mean, encode}
@@ -18,13 +19,13 @@ use Rattle.layout.specs.Layout.{scan}
 use Rattle.layout.specs.Permitted.{permitted}
 use Rattle.layout.specs.Typed.{Typed}
 use Rattle.layout.specs.Same.{Same}
-use Rattle.layout.proofs.Back.{both-true, scan-back}
+use Rattle.layout.proofs.Back.{scan-back}
 use Rattle.layout.proofs.Scanned.{scanned}
 use Rattle.layout.proofs.Stable.{values-stay}
 use Rattle.measure.specs.Measuring.{rightAll, encodeAll}
 use Rattle.encode.specs.Writing.{frame}
 use Rattle.encode.proofs.Good.{all-good}
-use Rattle.encode.proofs.Passed.{was-written}
+use Rattle.encode.proofs.ChecksPassed.{was-written}
 use Rattle.types.specs.Table.{known, layoutOf}
 use Rattle.message.specs.Types.{typedOf}
 use Rattle.message.specs.Reading.{longestBody, readOf}
@@ -45,7 +46,7 @@ record ReadBack (s : List ℕ) (type : ℕ) (vs : List Value) (used : ℕ) : Typ
 frame-back : (type : ℕ) (vs : List Value) (rest : List ℕ) → known type ≡ true → type ≤ greatest → length (encode vs) ≤ longestBody → permitted (layoutOf type) vs ≡ true
     → ReadBack (frame type (encode vs) ++ rest) type vs (length (frame type (encode vs)))
 unfolding frame
-frame-back type vs rest k small short allowed =
+frame-back type vs rest k small short ok =
     let body = encode vs in
     let size = length body in
     let bytes = frame type body in
@@ -55,7 +56,7 @@ frame-back type vs rest k small short allowed =
     let here = from-start [] bytes rest in
     let behind-type = behind (encOf type) (encOf size ++ body) here in
     let alone : From bytes 0 bytes [] = record { within = omega arith; here = sym (append-nil bytes) } in
-    let back = scan-back (layoutOf type) vs bytes allowed (behind (encOf size) body (behind (encOf type) (encOf size ++ body) alone)) in
+    let back = scan-back (layoutOf type) vs bytes ok (behind (encOf size) body (behind (encOf type) (encOf size ++ body) alone)) in
     let ends : length bytes ≡ at + size = omega (arith, length-append (encOf type) (encOf size ++ body), length-append (encOf size) body) in
     record {
       found = back .found;
@@ -93,8 +94,8 @@ written-reads s m before h =
     let ps = typedOf m .pieces in
     let bytes = frame type (encodeAll s ps) in
     let w = was-written _ _ _ bytes before h in
-    let p = both-true (allowedOf m) _ (w .is-right) in
-    let q = both-true (leb type greatest) (rightAll s ps) (p .1) in
+    let p = both-each (allowedOf m) _ (w .is-right) in
+    let q = both-each (leb type greatest) (rightAll s ps) (p .1) in
     let good = all-good s ps (q .1) (w .is-sized) in
     let small = leb-true type greatest (q .0) in
     let short = leb-true (length (encodeAll s ps)) longestBody (w .is-short) in

@@ -1,6 +1,5 @@
--- What holds of reading and writing a control message, for every byte string and every message. Each theorem with its sentence,
--- and nothing else.
--- Assumes nothing.
+-- What holds of reading and writing a control message, for every byte string and every message. Each theorem with its
+-- sentence, and nothing else. Assumes nothing.
 use Prim.Native.Nat.{ℕ, _≤_}
 use mathlib.Core.Path.{_≡_, refl}
 use mathlib.Core.List.{List, _++_, map}
@@ -21,7 +20,7 @@ use Rattle.encode.specs.Writing.{toldWriting}
 use Rattle.encode.specs.declared.Writing.{Writing}
 use Rattle.types.specs.Table.{known, layoutOf}
 use Rattle.message.specs.Types.{typedOf}
-use Rattle.message.specs.Reading.{longestBody, readOf, told}
+use Rattle.message.specs.Reading.{longestBody, longestMessage, readOf, told}
 use Rattle.message.specs.Part.{PartOf}
 use Rattle.message.specs.Names.{nameSpan, namedSpan}
 use Rattle.message_writer.specs.Writing.{writeOf}
@@ -34,7 +33,6 @@ use Rattle.message.proofs.Front.{WholeAt}
 use Rattle.message.proofs.Front as front
 use Rattle.message.proofs.Stable as stable
 use Rattle.message.proofs.Numbers as refusals
-use Rattle.message.proofs.Enough.{longestMessage}
 use Rattle.message.proofs.Enough as enough
 use Rattle.message.proofs.Fields as fields
 use Rattle.message_writer.proofs.RoundTrip as round-trip
@@ -64,11 +62,12 @@ module _ (s : List ℕ) where
   more _ = enough.more longestBody s
 
   -- No more than 16,399 bytes are ever wanted.
-  pub decided : longestMessage longestBody ≤ length s → readOf s ≡ refused 1 → ⊥
+  pub decided : longestMessage ≤ length s → readOf s ≡ refused 1 → ⊥
   decided = enough.decided longestBody s
 
   module _ {t : Typed} {used : ℕ} where
-    -- 3. A whole message is its Type, its Length, and a body of so many bytes, which its fields fill; those are the bytes used.
+    -- 3. A whole message is its Type, its Length, and a body of so many bytes, which its fields fill; those are the
+    -- bytes used.
     pub framed : readOf s ≡ answered t used → WholeAt longestBody s t used
     framed = front.parts longestBody s
 
@@ -77,33 +76,39 @@ module _ (s : List ℕ) where
     is-known h = front.parts longestBody s h .head .is-known
 
     -- and its fields are permitted: no number is above the greatest, no value is forbidden, nothing is over a size.
-    pub allowed : readOf s ≡ answered t used → permitted (layoutOf (t .type)) (map (mean (take used s)) (t .pieces)) ≡ true
-    allowed h = fields.allowed s (front.parts longestBody s h)
+    pub is-permitted : readOf s ≡ answered t used
+        → permitted (layoutOf (t .type)) (map (mean (take used s)) (t .pieces)) ≡ true
+    is-permitted h = fields.is-permitted s (front.parts longestBody s h)
 
     -- 4. Its bytes are there, and they are two at least;
     pub used-there : readOf s ≡ answered t used → (2 ≤ used) × (used ≤ length s)
     used-there h = fields.used-there s (front.parts longestBody s h)
 
     -- every part that was found lies within them, behind Type and Length.
-    pub inside : {next size at : ℕ} → numberAt s 0 ≡ whole (t .type) next → numberAt s next ≡ whole size at → readOf s ≡ answered t used → Inside at used (t .pieces)
+    pub inside : {next size at : ℕ} → numberAt s 0 ≡ whole (t .type) next → numberAt s next ≡ whole size at
+        → readOf s ≡ answered t used → Inside at used (t .pieces)
     inside e f h = fields.inside s e f (front.parts longestBody s h)
 
   -- 5. What is handed back of a message that was read is the part of the bytes that is its name.
   pub named : (m : Message) {used : ℕ} → readOf s ≡ answered (typedOf m) used → namedSpan s m ≡ nameSpan m
   named m = naming.name-is s m
 
--- Its place counts, and not its bytes alone: the name of `0D 05 01 01 61 01 61` is the byte at 6. That at 4, of the namespace, is the
--- same byte, and is not what is handed back.
-pub by-place : (readOf places.alike ≡ answered (typedOf places.request) 7) × (namedSpan places.alike places.request ≡ byteAt 6) × (part places.alike (byteAt 4) ≡ part places.alike (byteAt 6))
+-- Its place counts, and not its bytes alone: the name of `0D 05 01 01 61 01 61` is the byte at 6. That at 4, of the
+-- namespace, is the same byte, and is not what is handed back.
+pub by-place : (readOf places.alike ≡ answered (typedOf places.request) 7)
+    × (namedSpan places.alike places.request ≡ byteAt 6)
+    × (part places.alike (byteAt 4) ≡ part places.alike (byteAt 6))
 by-place = (places.alike-reads, places.alike-named, places.alike-bytes)
 
-pub not-the-like : {s r : RefT (List ℕ)} → s .now ≡ places.alike → PartOf s r (namedSpan (s .now) places.request) → PartOf s r (byteAt 4) → ⊥
+pub not-the-like : {s r : RefT (List ℕ)} → s .now ≡ places.alike → PartOf s r (namedSpan (s .now) places.request)
+    → PartOf s r (byteAt 4) → ⊥
 not-the-like = places.not-the-like
 
 module _ (s : List ℕ) (m : Message) (before : List ℕ) where
   -- 6. What is written reads back as the same message, and exactly the bytes written are used.
   pub reads-back : {n : ℕ} → writeOf s m before .says ≡ wrote n
-      → (t : Typed) × (readOf (writeOf s m before .holds) ≡ answered t n) × Same (writeOf s m before .holds) t s (typedOf m)
+      → (t : Typed) × (readOf (writeOf s m before .holds) ≡ answered t n)
+      × Same (writeOf s m before .holds) t s (typedOf m)
   reads-back = round-trip.written-reads s m before
 
   module _ {used : ℕ} (read : readOf s ≡ answered (typedOf m) used) where
@@ -119,8 +124,10 @@ module _ (s : List ℕ) (m : Message) (before : List ℕ) where
     pub written-again : used ≤ length before → (n : ℕ) × (writeOf s m before .says ≡ wrote n)
     written-again = again.written-again s m before read
 
-  module _ {n : ℕ} (written : writeOf s m before .says ≡ wrote n) (b : List ℕ) {t : Typed} (read : readOf b ≡ answered t (length b)) (same : Same b t s (typedOf m)) where
-    -- 8. The written bytes are the only shortest form of that message: no bytes that read as the same message are fewer,
+  module _ {n : ℕ} (written : writeOf s m before .says ≡ wrote n) (b : List ℕ) {t : Typed}
+      (read : readOf b ≡ answered t (length b)) (same : Same b t s (typedOf m)) where
+    -- 8. The written bytes are the only shortest form of that message: no bytes that read as the same message are
+    -- fewer,
     pub none-shorter : n ≤ length b
     none-shorter = only.none-shorter s m before written b read same
 
@@ -129,7 +136,8 @@ module _ (s : List ℕ) (m : Message) (before : List ℕ) where
     only-one = only.only-one s m before written b read same
 
   -- 9. Writing twice gives the same bytes: into another buffer a message takes as many, and the same ones;
-  pub elsewhere : (other : List ℕ) {n k : ℕ} → writeOf s m before .says ≡ wrote n → writeOf s m other .says ≡ wrote k → (n ≡ k) × (take n (writeOf s m before .holds) ≡ take k (writeOf s m other .holds))
+  pub elsewhere : (other : List ℕ) {n k : ℕ} → writeOf s m before .says ≡ wrote n → writeOf s m other .says ≡ wrote k
+      → (n ≡ k) × (take n (writeOf s m before .holds) ≡ take k (writeOf s m other .holds))
   elsewhere = alike.alike s s m m (record { type = refl; values = refl }) before
 
   -- and into the buffer that was just written it changes nothing: the answer is the same, and so is the content.
@@ -138,12 +146,14 @@ module _ (s : List ℕ) (m : Message) (before : List ℕ) where
 
 module _ (s t : List ℕ) (m k : Message) (same : Same s (typedOf m) t (typedOf k)) where
   -- Two messages that are the same take the same bytes, in whatever buffers;
-  pub written-twice : (a b : List ℕ) {n j : ℕ} → writeOf s m a .says ≡ wrote n → writeOf t k b .says ≡ wrote j → (n ≡ j) × (take n (writeOf s m a .holds) ≡ take j (writeOf t k b .holds))
+  pub written-twice : (a b : List ℕ) {n j : ℕ} → writeOf s m a .says ≡ wrote n → writeOf t k b .says ≡ wrote j
+      → (n ≡ j) × (take n (writeOf s m a .holds) ≡ take j (writeOf t k b .holds))
   written-twice = alike.alike s t m k same
 
-  -- and in one buffer they have the same answer and leave the same content, refusals too. Only 5 may be answered for one of them and
-  -- not for the other: whether bytes make what is stated of them is no part of a value.
-  pub written-alike : (before : List ℕ) → (writeOf s m before .says ≡ refused 5 → ⊥) → (writeOf t k before .says ≡ refused 5 → ⊥) → writeOf s m before ≡ writeOf t k before
+  -- and in one buffer they have the same answer and leave the same content, refusals too. Only 5 may be answered for
+  -- one of them and not for the other: whether bytes make what is stated of them is no part of a value.
+  pub written-alike : (before : List ℕ) → (writeOf s m before .says ≡ refused 5 → ⊥)
+      → (writeOf t k before .says ≡ refused 5 → ⊥) → writeOf s m before ≡ writeOf t k before
   written-alike = alike.written-alike s t m k same
 
 -- 10. For all bytes there is a reading that meets the contract of `read`,
@@ -155,9 +165,11 @@ pub read-once : (s : List ℕ) (a b : Reading) → told a ≡ readOf s → told 
 read-once = reading.read-once
 
 -- that of `track_name` one possible part of the bytes,
-pub name-once : {s a b : RefT (List ℕ)} {p : Span} → PartOf s a p → PartOf s b p → (a .ptr .0 ≡ b .ptr .0) × (a .ptr .1 ≡ b .ptr .1) × (a .now ≡ b .now)
+pub name-once : {s a b : RefT (List ℕ)} {p : Span} → PartOf s a p → PartOf s b p
+    → (a .ptr .0 ≡ b .ptr .0) × (a .ptr .1 ≡ b .ptr .1) × (a .now ≡ b .now)
 name-once = places.part-once
 
 -- and that of `write` one possible answer and one possible content of the buffer, refusals too.
-pub write-once : (s : List ℕ) (m : Message) (before : List ℕ) (a b : Writing) {x y : List ℕ} → Leaves (writeOf s m before) (toldWriting a) x → Leaves (writeOf s m before) (toldWriting b) y → (a ≡ b) × (x ≡ y)
+pub write-once : (s : List ℕ) (m : Message) (before : List ℕ) (a b : Writing) {x y : List ℕ}
+    → Leaves (writeOf s m before) (toldWriting a) x → Leaves (writeOf s m before) (toldWriting b) y → (a ≡ b) × (x ≡ y)
 write-once = writing.write-once

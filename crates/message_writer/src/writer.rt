@@ -8,7 +8,7 @@ ghost use Rattle.message.specs.Types.{typedOf};
 ghost use Rattle.message_writer.specs.Writing.{allowedOf, writeOf};
 use encode::Writing;
 use measure::Fields;
-use message::LONGEST;
+use message::LONGEST_BODY;
 use message::Message;
 
 // bytes is what the parts of the message point into.
@@ -23,11 +23,11 @@ pub fn write(out: &mut [u8], bytes: &[u8], m: Message) -> Writing
             out,
             bytes,
             subscription::fields(x),
-            LONGEST,
+            LONGEST_BODY,
         ),
-        Message::Fetch(x) => encode::write_framed(out, bytes, fetch::fields(x), LONGEST),
-        Message::Announce(x) => encode::write_framed(out, bytes, announce::fields(x), LONGEST),
-        Message::Session(x) => encode::write_framed(out, bytes, session::fields(x), LONGEST),
+        Message::Fetch(x) => encode::write_framed(out, bytes, fetch::fields(x), LONGEST_BODY),
+        Message::Announce(x) => encode::write_framed(out, bytes, announce::fields(x), LONGEST_BODY),
+        Message::Session(x) => encode::write_framed(out, bytes, session::fields(x), LONGEST_BODY),
     }
 }
 

@@ -16,7 +16,7 @@ use Rattle.replay.specs.Progressing.{finishOf}
 use Rattle.replay.specs.declared.Stage.{Stage}
 use Rattle.replay.specs.declared.Stage.the-variants.{Empty, Running, Faulty}
 use Rattle.replay.specs.declared.Progress.{Progress}
-use Rattle.report.proofs.Putting.{put-within}
+use Rattle.report.proofs.LinePut.{put-within}
 use Rattle.answers.specs.Answers.{faultItems, endItems}
 use Rattle.answers.proofs.TextAdded.{lent-length, given-length}
 use Rattle.moqanswers.specs.Ending.{Ends}

@@ -144,7 +144,7 @@ fn print_front(out: &mut [u8], at: usize, line: Line) -> Putting
 
 // The line of the trace's end, if it has one.
 fn print_end(p: Progress, left: usize) {
-    let mut out = [0u8; text::LONGEST];
+    let mut out = [0u8; text::LONGEST_LINE];
     let line = answers::tell_end(p, left);
     text::put(&mut out, line);
     let n = text::measure(line);

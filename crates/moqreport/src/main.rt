@@ -56,7 +56,7 @@ fn put(out: &mut [u8], p: Progress, left: usize) -> usize
 }
 
 fn print(p: Progress, left: usize) {
-    let mut out = [0u8; report::LONGEST];
+    let mut out = [0u8; report::LONGEST_REPORT];
     let n = put(&mut out, p, left);
     if !io::write_all(STDOUT_FILENO, &out[..n]) {
         os::fail(b"moqreport: standard output");

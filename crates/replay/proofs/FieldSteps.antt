@@ -13,7 +13,7 @@ use Rattle.field.specs.declared.Arrival.{Arrival}
 use Rattle.ledger.specs.Steps.{arrivalOf}
 use Rattle.ledger.specs.Runs.{arrivalsIn, afterArrivals, runOf}
 use Rattle.ledger.specs.declared.Ledger.{Ledger}
-use Rattle.ledger.proofs.Running.{thirds, run-behind}
+use Rattle.ledger.proofs.RunTurns.{thirds, run-behind}
 use Rattle.trace.specs.Fields.{tagOf, valueOf, fieldSize, isWhole, fieldOf}
 use Rattle.trace.specs.Feeding.{Held, feed}
 use Rattle.trace.specs.declared.Field.{Field}
@@ -32,7 +32,7 @@ use Rattle.replay.specs.declared.Heard.{Heard}
 use Rattle.replay.specs.declared.Stepped.{Stepped}
 use Rattle.replay.specs.declared.Fed.{Fed}
 use Rattle.replay.specs.declared.Gathered.{Gathered}
-use Rattle.replay.proofs.Rests.{drop-take}
+use Rattle.replay.proofs.WhatIsLeft.{drop-take}
 
 -- ---- one event
 

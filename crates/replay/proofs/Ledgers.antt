@@ -9,10 +9,9 @@ use lib.ListN.{length, getD}
 use Rattle.common.specs.Answer.{number}
 use Rattle.common.proofs.Cases.{pick-by}
 use Rattle.integer.specs.Integer.{greatest}
-use Rattle.field.specs.Outcome.{Outcome, whole, no}
+use Rattle.field.specs.Outcome.{Outcome, whole, no, onFound}
 use Rattle.field.specs.Entries.{numberAt}
 use Rattle.field.specs.Fields.{placeAt}
-use Rattle.field.specs.Value.{onFound}
 use Rattle.field.specs.declared.Place.{Place}
 use Rattle.field.proofs.Found.{number-at}
 use Rattle.message.specs.Reading.{told, onWhole}
@@ -49,7 +48,7 @@ started-fits : (value : List ℕ) → Startable (startedBy value)
 unfolding startedBy small
 started-fits value = go (numberAt value 1) refl
   where
-    go : (o : Outcome ℕ) → numberAt value 1 ≡ o → Startable (onFound o (λ maximum end. filling value end (partBy (getD value 0 0) maximum)) Fault)
+    go : (o : Outcome ℕ) → numberAt value 1 ≡ o → Startable (onFound o Fault (λ maximum end. filling value end (partBy (getD value 0 0) maximum)))
     go (no fault) e = tt
     go (whole n end) e =
         let fits = le-leb n greatest (number-at value 1 e .small) in
@@ -57,7 +56,7 @@ started-fits value = go (numberAt value 1) refl
         (λ _. pick-by Startable (eqb (getD value 0 0) 0) (λ _. fits) (λ _. pick-by Startable (eqb (getD value 0 0) 1) (λ _. fits) (λ _. tt)))
         (λ _. tt)
 
-whole-fits : (r : Reading) (taken : Message → ℕ → Event) (rest : Event) → ((m : Message) (used : ℕ) → Startable (taken m used)) → Startable rest → Startable (onWhole r taken rest)
+whole-fits : (r : Reading) (taken : Message → ℕ → Event) (rest : Event) → ((m : Message) (used : ℕ) → Startable (taken m used)) → Startable rest → Startable (onWhole r rest taken)
 whole-fits (Whole m used) taken rest f g = f m used
 whole-fits More taken rest f g = g
 whole-fits Unknown taken rest f g = g
@@ -80,11 +79,11 @@ arrived-fits : (value : List ℕ) → Startable (arrivedBy value)
 unfolding arrivedBy
 arrived-fits value = go (numberAt value 0)
   where
-    place : (alias : ℕ) (o : Outcome Place) → Startable (onFound o (λ place end. filling value end (Arrived (record { alias = alias; place = place }))) Fault)
+    place : (alias : ℕ) (o : Outcome Place) → Startable (onFound o Fault (λ place end. filling value end (Arrived (record { alias = alias; place = place }))))
     place alias (no fault) = tt
     place alias (whole p end) = pick-by Startable (eqb end (length value)) (λ _. tt) (λ _. tt)
 
-    go : (o : Outcome ℕ) → Startable (onFound o (λ alias next. onFound (placeAt value next) (λ place end. filling value end (Arrived (record { alias = alias; place = place }))) Fault) Fault)
+    go : (o : Outcome ℕ) → Startable (onFound o Fault (λ alias next. onFound (placeAt value next) Fault (λ place end. filling value end (Arrived (record { alias = alias; place = place })))))
     go (no fault) = tt
     go (whole alias next) = place alias (placeAt value next)
 

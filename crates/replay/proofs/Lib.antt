@@ -1,5 +1,5 @@
 pub mod Meaning
-pub mod Rests
+pub mod WhatIsLeft
 pub mod FieldSteps
 pub mod Ledgers
 pub mod Theorems

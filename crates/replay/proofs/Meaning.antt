@@ -16,7 +16,7 @@ use Rattle.field.specs.declared.NumberRead.the-variants.{Whole as WholeNumber, 
 use Rattle.field.specs.declared.PlaceRead.{PlaceRead}
 use Rattle.field.specs.declared.PlaceRead.the-variants.{Whole as WholePlace, Cut as CutPlace}
 use Rattle.field.proofs.Found.{number-at}
-use Rattle.field.proofs.Together.{number-missing, number-there}
+use Rattle.field.proofs.TwoReads.{number-missing, number-there}
 use Rattle.message.specs.Reading.{readOf, told, onWhole}
 use Rattle.message.specs.declared.Message.{Message}
 use Rattle.message.specs.declared.Reading.{Reading}
@@ -57,7 +57,7 @@ unfolding controlBy
 control-by value {r} said h is = is ∙ ap (readingBy value) (sym h ∙ reading-only value r said)
 
 -- "every other reading ends there", by the place of its variant
-pub not-whole : {A : Type 0} (r : Reading) (taken : Message → ℕ → A) (rest : A) → OneOf (1 ∷ 2 ∷ 3 ∷ 4 ∷ 5 ∷ 6 ∷ []) (tagOf the-type r) → rest ≡ onWhole r taken rest
+pub not-whole : {A : Type 0} (r : Reading) (taken : Message → ℕ → A) (rest : A) → OneOf (1 ∷ 2 ∷ 3 ∷ 4 ∷ 5 ∷ 6 ∷ []) (tagOf the-type r) → rest ≡ onWhole r rest taken
 not-whole (Whole m used) taken rest h = absurd (miss (1 ∷ 2 ∷ 3 ∷ 4 ∷ 5 ∷ 6 ∷ []) 0 tt h)
 not-whole More taken rest h = refl
 not-whole Unknown taken rest h = refl

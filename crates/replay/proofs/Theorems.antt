@@ -16,7 +16,7 @@ use Rattle.trace.specs.Feeding.{Held, feed}
 use Rattle.trace.proofs.Fed.{size-take, size-head, whole-fits, cut-short, feed-cut, fed-none, fed-by}
 use Rattle.replay.specs.Progressing.{offsetOf, stepOf, begun, step, holding, fed}
 use Rattle.replay.specs.declared.Progress.{Progress}
-use Rattle.replay.proofs.Rests.{rest-is, rest-none}
+use Rattle.replay.proofs.WhatIsLeft.{rest-is, rest-none}
 use Rattle.replay.proofs.Ledgers.{step-keeps, begun-is}
 
 -- ---- cuts
@@ -42,7 +42,8 @@ joined [] = []
 joined (piece ∷ pieces) = piece ++ joined pieces
 
 -- However a trace is cut into pieces, it comes to the same.
-pub fed-pieces : (p : Progress) (left : List ℕ) (pieces : List (List ℕ)) → isWhole left ≡ false → fedPieces p left pieces ≡ fed p (left ++ joined pieces)
+pub fed-pieces : (p : Progress) (left : List ℕ) (pieces : List (List ℕ)) → isWhole left ≡ false
+    → fedPieces p left pieces ≡ fed p (left ++ joined pieces)
 unfolding fedPieces joined fed
 fed-pieces p left [] none = sym (fed-none step p left none) ∙ ap (fed p) (sym (append-nil left))
 fed-pieces p left (piece ∷ pieces) none =
@@ -73,11 +74,13 @@ rest-short p s bytes = go (leb 3 (length (fed p s .rest))) refl
 -- ---- offsets
 
 -- a field's step goes on by its bytes, where 64 bits hold the sum
-step-offset : (p : Progress) (s : List ℕ) → p .offset + fieldSize s < 2 ^ 64 → step p (take (fieldSize s) s) .offset ≡ p .offset + fieldSize s
+step-offset : (p : Progress) (s : List ℕ) → p .offset + fieldSize s < 2 ^ 64
+    → step p (take (fieldSize s) s) .offset ≡ p .offset + fieldSize s
 unfolding step stepOf offsetOf
 step-offset p s h = rw (size-take (fieldSize s) s (size-head s)) (mod-eq-of-lt h)
 
-offsets : (p : Progress) (s : List ℕ) → p .offset + length s < 2 ^ 64 → fed p s .soFar .offset + length (fed p s .rest) ≡ p .offset + length s
+offsets : (p : Progress) (s : List ℕ) → p .offset + length s < 2 ^ 64
+    → fed p s .soFar .offset + length (fed p s .rest) ≡ p .offset + length s
 unfolding fed
 offsets =
     fed-by step (λ (p : Progress) (s : List ℕ) (h : Held Progress). p .offset + length s < 2 ^ 64 → h .soFar .offset + length (h .rest) ≡ p .offset + length s)

@@ -10,7 +10,7 @@ use Rattle.common.specs.Choice.{guard, pick}
 use Rattle.common.specs.Answer.{number}
 use Rattle.field.specs.Entries.{numberAt}
 use Rattle.field.specs.Fields.{placeAt}
-use Rattle.field.specs.Value.{onFound}
+use Rattle.field.specs.Outcome.{onFound}
 use Rattle.message.specs.Reading.{told, onWhole}
 use Rattle.message.proofs.OneReading.{readingOf}
 use Rattle.message.specs.declared.Reading.{Reading}
@@ -28,28 +28,26 @@ partBy part maximum = pick (eqb part 0) (Start Subscriber maximum) (pick (eqb pa
 
 unfoldable pub startedBy : List ℕ → Event
 startedBy value =
-    onFound (numberAt value 1) (λ maximum end. filling value end (partBy (getD value 0 0) maximum)) Fault
+    onFound (numberAt value 1) Fault (λ maximum end. filling value end (partBy (getD value 0 0) maximum))
 
 -- tag 2: "answers 2 to 6 count as malformed"; "a message answering 1" is a fault
 abbrev pub malformedBy : ℕ → Event
 malformedBy answer = guard (leb 2 answer) Fault (Malformed answer)
 
 abbrev pub readingBy : List ℕ → Reading → Event
-readingBy value r = onWhole r (λ m used. filling value used (Control m)) (malformedBy (number (told r)))
+readingBy value r = onWhole r (malformedBy (number (told r))) (λ m used. filling value used (Control m))
 
--- the one reading that `told r ≡ readOf value` names
+-- the one reading that `told r ≡ readOf value` names: there is one, and no other (message/proofs/OneReading.antt:
+-- `reading-is`, `reading-only`)
 unfoldable pub controlBy : List ℕ → Event
 controlBy value = readingBy value (readingOf value)
 
 -- tag 3
 unfoldable pub arrivedBy : List ℕ → Event
 arrivedBy value =
-    onFound (numberAt value 0)
-    (λ alias next.
-    onFound (placeAt value next)
-    (λ place end. filling value end (Arrived (record { alias = alias; place = place })))
-    Fault)
-    Fault
+    onFound (numberAt value 0) Fault (λ alias next.
+    onFound (placeAt value next) Fault (λ place end.
+    filling value end (Arrived (record { alias = alias; place = place }))))
 
 unfoldable pub eventOf : ℕ → List ℕ → Event
 eventOf tag value =

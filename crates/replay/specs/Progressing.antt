@@ -110,7 +110,7 @@ endStage stage offset left = onFault stage Faulty (guard (eqb left 0) (Faulty of
 unfoldable pub finishOf : Progress → ℕ → Progress
 finishOf p left = record { ledger = p .ledger; stage = endStage (p .stage) (p .offset) left; offset = p .offset }
 
--- THE RUN of a whole trace
+-- THE REPLAY of a whole trace
 unfoldable pub replayOf : List ℕ → Progress
 replayOf s = let h = fed begun s in finishOf (h .soFar) (length (h .rest))
 

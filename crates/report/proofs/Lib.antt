@@ -1,5 +1,5 @@
-pub mod Putting
-pub mod Showing
-pub mod Joining
-pub mod Ending
+pub mod LinePut
+pub mod RowLines
+pub mod LinesJoined
+pub mod ReplayShown
 pub mod Longest

@@ -15,7 +15,7 @@ use Rattle.replay.specs.declared.Progress.{Progress}
 use Rattle.replay.proofs.Theorems.{run-ledger}
 use Rattle.report.specs.Rows.{faultLine}
 use Rattle.report.specs.Report.{ledgerText, textOf, reportOf, longestReport}
-use Rattle.report.proofs.Showing.{ledger-bound}
+use Rattle.report.proofs.RowLines.{ledger-bound}
 
 -- of a ledger with its places, whatever the stage
 pub text-bound : (p : Progress) → length (p .ledger .rows) ≡ mostRows → length (textOf p) ≤ longestReport

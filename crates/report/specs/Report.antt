@@ -17,7 +17,7 @@ rowsText (r ∷ rs) = lineOf (rowLine r) ++ rowsText rs
 unfoldable pub ledgerText : Ledger → List ℕ
 ledgerText l = lineOf (sessionLine (l .session) (l .used)) ++ (lineOf columnsLine ++ rowsText (held l))
 
--- a run that ended shows its ledger; a fault "prints only `trace fault at N`"
+-- a replay that ended shows its ledger; a fault "prints only `trace fault at N`"
 unfoldable pub textOf : Progress → List ℕ
 textOf p = onFault (p .stage) (λ at. lineOf (faultLine at)) (ledgerText (p .ledger))
 

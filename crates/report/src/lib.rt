@@ -8,4 +8,4 @@ pub use writing::of_progress;
 pub use writing::of_trace;
 
 // How many bytes a report takes at most: a line for the session, one for the columns, and one for each row.
-pub const LONGEST: usize = text::LONGEST * (2 + MOST_ROWS);
+pub const LONGEST_REPORT: usize = text::LONGEST_LINE * (2 + MOST_ROWS);

@@ -24,8 +24,8 @@ use Rattle.header.specs.declared.StreamHeader.{StreamHeader}
 use Rattle.header.specs.declared.StreamHeader.the-variants.{Subgroup, Fetch}
 use Rattle.header_writer.proofs.Theorems as headers
 use Rattle.rewrite.specs.Rewriting.{Doing, Does, rewriting, typeIn, noType, framedForm, typedForm, controlAgain, datagramAgain, streamAgain, subgroupObjectAgain, fetchObjectAgain}
-use Rattle.rewrite.proofs.Ending.{by-room, Ends}
-use Rattle.rewrite.proofs.Ending as ending
+use Rattle.rewrite.proofs.CallEnds.{by-room, Ends}
+use Rattle.rewrite.proofs.CallEnds as ending
 
 -- ---- what every call stands on
 

@@ -1,4 +1,4 @@
-pub mod Told
-pub mod Ending
+pub mod InfoTold
+pub mod CallEnds
 pub mod Again
 pub mod OneAnswer

@@ -34,8 +34,8 @@ fn datagram_type(d: Datagram) -> u64
     ensures { λ r. ⌜ r ≡ datagramTyped d .type ⌝ }
 {
     match d {
-        Datagram::Object(_) => 0x1,
-        Datagram::Status(_, _) => 0x2,
+        Datagram::Object(_) => header::OBJECT_DATAGRAM,
+        Datagram::Status(_, _) => header::OBJECT_DATAGRAM_STATUS,
     }
 }
 
@@ -62,8 +62,8 @@ fn stream_type(h: StreamHeader) -> u64
     ensures { λ r. ⌜ r ≡ streamTyped h .type ⌝ }
 {
     match h {
-        StreamHeader::Subgroup(_) => 0x4,
-        StreamHeader::Fetch(_) => 0x5,
+        StreamHeader::Subgroup(_) => header::SUBGROUP_HEADER,
+        StreamHeader::Fetch(_) => header::FETCH_HEADER,
     }
 }
 

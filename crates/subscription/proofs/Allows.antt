@@ -11,7 +11,7 @@ use Rattle.field.specs.declared.Entries.{Entries}
 use Rattle.field.specs.declared.Piece.the-variants.{List as Listing}
 use Rattle.layout.specs.Layout.{place, parameters}
 use Rattle.layout.specs.Allowed.{allowed}
-use Rattle.layout.proofs.Allowed.{test-alone}
+use Rattle.common.proofs.Tests.{test-alone}
 use Rattle.types.specs.Rules.{endsAfter}
 use Rattle.types.specs.Subscriptions.{ending, filter, delivery, subscribe, content, subscribeOk}
 use Rattle.types.specs.Table.{messages, typeRowIn, typeRowOf, layoutOf, allowedTyped}

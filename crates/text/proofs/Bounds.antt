@@ -1,5 +1,5 @@
 -- How long a line can be. Assumes nothing.
-use Prim.Native.Nat.{ℕ, suc, _*_, _≤_}
+use Prim.Native.Nat.{ℕ, suc, _+_, _*_, _≤_}
 use mathlib.Core.Path.{_≡_, refl}
 use mathlib.Core.Bool.{Bool, true, false}
 use mathlib.Core.List.{List, [], _∷_, _++_}
@@ -14,14 +14,14 @@ use Rattle.types.specs.Letters.{letters}
 use Rattle.types.specs.Table.{TypeRow, InTable, onListed, messages, typeRowIn, typeRowOf, nameOf}
 use Rattle.text.specs.Decimals.{decimalOf}
 use Rattle.text.specs.Words.{wordOf}
-use Rattle.text.specs.Lines.{itemOf, endedOf, isNone, lineOf, longestLine, itemsOf}
+use Rattle.text.specs.Lines.{itemOf, endedOf, isNone, lineOf, mostItems, longestItem, longestLine, itemsOf}
 use Rattle.text.specs.declared.Word.{Word as Wording}
 use Rattle.text.specs.declared.Word.the-variants.{Open, Closed, Columns, Pending, Active, Nothing, TraceFaultAt, Start, Malformed, Arrival}
 use Rattle.text.specs.declared.Item.{Item}
 use Rattle.text.specs.declared.Item.the-variants.{Number, Word, Rule, Name}
 use Rattle.text.specs.declared.Line.{Line}
 use Rattle.text.proofs.Decimals.{decimal-few}
-use Rattle.text.proofs.Following.{items-count}
+use Rattle.text.proofs.ItemsInLine.{items-count}
 
 -- twenty digits
 pub number-bound : (n : ℕ) → length (decimalOf n) ≤ 20
@@ -32,7 +32,7 @@ pub number-few : (n : ℕ) {k : ℕ} → k ≡ length (decimalOf n) → k ≤ 20
 number-few n e = omega (arith, number-bound n)
 
 -- the longest of the words are the columns
-pub word-bound : (word : Wording) → length (wordOf word) ≤ 33
+pub word-bound : (word : Wording) → length (wordOf word) ≤ longestItem
 unfolding wordOf letters
 word-bound Open = lit≤ tt
 word-bound Closed = lit≤ tt
@@ -51,7 +51,7 @@ areWithin n [] = true
 areWithin n (row ∷ rows) = pick (leb (length (letters (row .name))) n) (areWithin n rows) false
 
 nameIn : InTable → List ℕ
-nameIn l = onListed l (λ r. letters (r .name)) []
+nameIn l = onListed l [] (λ r. letters (r .name))
 
 within : (n : ℕ) (rows : List TypeRow) (type : ℕ) → areWithin n rows ≡ true → length (nameIn (typeRowIn rows type)) ≤ n
 unfolding areWithin nameIn typeRowIn
@@ -66,24 +66,24 @@ unfolding nameOf typeRowOf messages nameIn areWithin letters
 name-bound type = within 25 messages type refl
 
 -- so no item is longer than the columns,
-pub item-bound : (item : Item) → length (itemOf item) ≤ 33
+pub item-bound : (item : Item) → length (itemOf item) ≤ longestItem
 unfolding itemOf letters
 item-bound (Number n) = omega (arith, number-bound n)
 item-bound (Word word) = word-bound word
 item-bound (Rule n) = omega (arith, number-bound n)
 item-bound (Name type) = omega (arith, name-bound type)
 
-pub item-few : (item : Item) {k : ℕ} → k ≡ length (itemOf item) → k ≤ 33
+pub item-few : (item : Item) {k : ℕ} → k ≡ length (itemOf item) → k ≤ longestItem
 item-few item e = omega (arith, item-bound item)
 
 -- and a line takes at most one byte more for each
-pub line-bound : (items : List Item) → length (lineOf items) ≤ 34 * length items
+pub line-bound : (items : List Item) → length (lineOf items) ≤ (longestItem + 1) * length items
 unfolding lineOf endedOf
 line-bound [] = le-refl 0
 line-bound (item ∷ rest) =
     let last = isNone rest in
     omega (arith, length-append (endedOf item last) (lineOf rest), length-append (itemOf item) (pick last 10 32 ∷ []), item-bound item, line-bound rest)
 
--- six items, then, at most
-pub six-bound : (line : Line) → length (line .at) ≡ 6 → length (lineOf (itemsOf line)) ≤ longestLine
-six-bound line l = omega (arith, line-bound (itemsOf line), items-count line l)
+-- so no line is longer
+pub longest-bound : (line : Line) → length (line .at) ≡ mostItems → length (lineOf (itemsOf line)) ≤ longestLine
+longest-bound line l = omega (arith, line-bound (itemsOf line), items-count line l)

@@ -1,9 +1,9 @@
 pub mod Placing
 pub mod Decimals
 pub mod Copied
-pub mod Standing
+pub mod TextParts
 pub mod Ended
-pub mod Following
+pub mod ItemsInLine
 pub mod Counted
 pub mod Bounds
 pub mod Outcomes

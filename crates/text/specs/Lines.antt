@@ -1,5 +1,5 @@
 -- A line is its items, with a space between two and a newline at the end.
-use Prim.Native.Nat.{ℕ}
+use Prim.Native.Nat.{ℕ, _+_, _*_}
 use mathlib.Core.Bool.{Bool, true, false}
 use mathlib.Core.List.{List, [], _∷_, _++_, map}
 use lib.ListN.{length, take}
@@ -39,9 +39,16 @@ unfoldable pub lineOf : List Item → List ℕ
 lineOf [] = []
 lineOf (item ∷ rest) = endedOf item (isNone rest) ++ lineOf rest
 
--- no line is longer: six items of at most 33 letters, and a byte behind each
+-- how many items a line has at most; how long an item is at most, as the columns are; and so how long a line is, with a
+-- byte after each item
+abbrev pub mostItems : ℕ
+mostItems = 6
+
+abbrev pub longestItem : ℕ
+longestItem = 33
+
 abbrev pub longestLine : ℕ
-longestLine = 204
+longestLine = mostItems * (longestItem + 1)
 
 -- ---- the items in their places
 
@@ -53,7 +60,7 @@ inSlot item = record { item = item }
 
 -- A LINE'S ITEMS, each in its place; a place that is not used holds the number 0
 unfoldable pub placed : List Item → Line
-placed items = record { at = map inSlot (upTo 6 (Number 0) items); used = length items }
+placed items = record { at = map inSlot (upTo mostItems (Number 0) items); used = length items }
 
 -- and back: those that are used
 unfoldable pub itemsOf : Line → List Item

@@ -13,8 +13,12 @@ pub use lines::of5;
 pub use lines::of6;
 pub use lines::put;
 
-// How many bytes a line takes at most.
-pub const LONGEST: usize = 204;
+// How many items a line has at most, how many bytes an item takes, and how many a line, with one after each item.
+pub const MOST_ITEMS: usize = 6;
+
+pub const LONGEST_ITEM: usize = 33;
+
+pub const LONGEST_LINE: usize = MOST_ITEMS * (LONGEST_ITEM + 1);
 
 // The words that the programs print.
 pub enum Word {
@@ -43,9 +47,9 @@ pub struct Slot {
     pub item: Item,
 }
 
-// The items of a line, in their order. At most six are used.
+// The items of a line, in their order, and how many are used.
 pub struct Line {
-    pub at: [Slot; 6],
+    pub at: [Slot; MOST_ITEMS],
     pub used: usize,
 }
 

@@ -6,10 +6,11 @@ ghost use Prim.Native.Nat.{_≤_, _-_, min};
 ghost use lib.ListN.{length, take, drop, replicate};
 ghost use Rattle.common.specs.Answer.{Leaves};
 ghost use Rattle.common.specs.Buffer.{Put};
-ghost use Rattle.text.specs.Lines.{itemOf, endedOf, lineOf, placed, itemsOf, putText, toldPutting};
+ghost use Rattle.text.specs.Lines.{mostItems, itemOf, endedOf, lineOf, placed, itemsOf, putText, toldPutting};
 ghost use Rattle.text.specs.declared.Item.the-variants.{Number};
 use crate::Item;
 use crate::Line;
+use crate::MOST_ITEMS;
 use crate::Putting;
 use crate::Slot;
 use crate::digits::places;
@@ -24,7 +25,8 @@ use crate::words::word_part;
 
 // The first of six items, so many as are used.
 fn of(used: usize, a: Item, b: Item, c: Item, d: Item, e: Item, f: Item) -> Line
-    requires { ⌜ (used ≤ 6) × (drop used (a ∷ b ∷ c ∷ d ∷ e ∷ f ∷ []) ≡ replicate (6 - used) (Number 0)) ⌝ }
+    requires { ⌜ (used ≤ mostItems) × (drop used (a ∷ b ∷ c ∷ d ∷ e ∷ f ∷ []) ≡ replicate (mostItems - used)
+        (Number 0)) ⌝ }
     ensures { λ r. ⌜ r ≡ placed (take used (a ∷ b ∷ c ∷ d ∷ e ∷ f ∷ [])) ⌝ }
 {
     let at = [
@@ -102,17 +104,17 @@ fn size(item: Item) -> usize
 }
 
 // How many items there are: no more than there are places.
-fn six(used: usize) -> usize
-    ensures { λ r. ⌜ r ≡ min used 6 ⌝ }
+fn item_count(used: usize) -> usize
+    ensures { λ r. ⌜ r ≡ min used mostItems ⌝ }
 {
-    if used < 6 { used } else { 6 }
+    if used < MOST_ITEMS { used } else { MOST_ITEMS }
 }
 
 // How many bytes a line takes: each item, and one behind it.
 pub fn measure(line: Line) -> usize
     ensures { λ r. ⌜ r ≡ length (lineOf (itemsOf line)) ⌝ }
 {
-    let n = six(line.used);
+    let n = item_count(line.used);
     let mut sum: usize = 0;
     let mut i: usize = 0;
     while i < n {
@@ -158,7 +160,7 @@ fn put_items(out: &mut [u8], line: Line) -> usize
     requires { ⌜ length (lineOf (itemsOf line)) ≤ length (now out) ⌝ }
     ensures { λ r. ⌜ Put (lineOf (itemsOf line)) (now (out .entry)) r (now (out .exit)) ⌝ }
 {
-    let n = six(line.used);
+    let n = item_count(line.used);
     let mut at: usize = 0;
     let mut i: usize = 0;
     while i < n {

@@ -1,3 +1,3 @@
 pub mod Cutting
-pub mod Following
+pub mod FieldsAsEvents
 pub mod Theorems

@@ -18,10 +18,10 @@ use Rattle.types.specs.Announces.{named}
 
 -- what a message is about: the session, a subscription, a fetch, a namespace
 pub data Family : Type 0 where
-  setting : Family
-  subscribing : Family
-  retrieving : Family
-  announcing : Family
+  sessions : Family
+  subscriptions : Family
+  fetches : Family
+  announces : Family
 
 pub record TypeRow : Type 0 where
   pub number : ℕ
@@ -39,82 +39,82 @@ typedAs r ps = record { type = r .number; pieces = ps }
 -- ---- the rows
 
 abbrev pub «CLIENT_SETUP» : TypeRow
-«CLIENT_SETUP» = row 0x40 "CLIENT_SETUP" setting clientSetup
+«CLIENT_SETUP» = row 0x40 "CLIENT_SETUP" sessions clientSetup
 
 abbrev pub «SERVER_SETUP» : TypeRow
-«SERVER_SETUP» = row 0x41 "SERVER_SETUP" setting serverSetup
+«SERVER_SETUP» = row 0x41 "SERVER_SETUP" sessions serverSetup
 
 abbrev pub GOAWAY : TypeRow
-GOAWAY = row 0x10 "GOAWAY" setting goAway
+GOAWAY = row 0x10 "GOAWAY" sessions goAway
 
 abbrev pub «MAX_SUBSCRIBE_ID» : TypeRow
-«MAX_SUBSCRIBE_ID» = row 0x15 "MAX_SUBSCRIBE_ID" subscribing idOnly
+«MAX_SUBSCRIBE_ID» = row 0x15 "MAX_SUBSCRIBE_ID" subscriptions idOnly
 
 abbrev pub «SUBSCRIBES_BLOCKED» : TypeRow
-«SUBSCRIBES_BLOCKED» = row 0x1A "SUBSCRIBES_BLOCKED" subscribing idOnly
+«SUBSCRIBES_BLOCKED» = row 0x1A "SUBSCRIBES_BLOCKED" subscriptions idOnly
 
 abbrev pub SUBSCRIBE : TypeRow
-SUBSCRIBE = row 0x3 "SUBSCRIBE" subscribing subscribe
+SUBSCRIBE = row 0x3 "SUBSCRIBE" subscriptions subscribe
 
 abbrev pub «SUBSCRIBE_OK» : TypeRow
-«SUBSCRIBE_OK» = row 0x4 "SUBSCRIBE_OK" subscribing subscribeOk
+«SUBSCRIBE_OK» = row 0x4 "SUBSCRIBE_OK" subscriptions subscribeOk
 
 abbrev pub «SUBSCRIBE_ERROR» : TypeRow
-«SUBSCRIBE_ERROR» = row 0x5 "SUBSCRIBE_ERROR" subscribing subscribeError
+«SUBSCRIBE_ERROR» = row 0x5 "SUBSCRIBE_ERROR" subscriptions subscribeError
 
 abbrev pub UNSUBSCRIBE : TypeRow
-UNSUBSCRIBE = row 0xA "UNSUBSCRIBE" subscribing idOnly
+UNSUBSCRIBE = row 0xA "UNSUBSCRIBE" subscriptions idOnly
 
 abbrev pub «SUBSCRIBE_UPDATE» : TypeRow
-«SUBSCRIBE_UPDATE» = row 0x2 "SUBSCRIBE_UPDATE" subscribing subscribeUpdate
+«SUBSCRIBE_UPDATE» = row 0x2 "SUBSCRIBE_UPDATE" subscriptions subscribeUpdate
 
 abbrev pub «SUBSCRIBE_DONE» : TypeRow
-«SUBSCRIBE_DONE» = row 0xB "SUBSCRIBE_DONE" subscribing subscribeDone
+«SUBSCRIBE_DONE» = row 0xB "SUBSCRIBE_DONE" subscriptions subscribeDone
 
 abbrev pub FETCH : TypeRow
-FETCH = row 0x16 "FETCH" retrieving fetch
+FETCH = row 0x16 "FETCH" fetches fetch
 
 abbrev pub «FETCH_OK» : TypeRow
-«FETCH_OK» = row 0x18 "FETCH_OK" retrieving fetchOk
+«FETCH_OK» = row 0x18 "FETCH_OK" fetches fetchOk
 
 abbrev pub «FETCH_ERROR» : TypeRow
-«FETCH_ERROR» = row 0x19 "FETCH_ERROR" retrieving fetchError
+«FETCH_ERROR» = row 0x19 "FETCH_ERROR" fetches fetchError
 
 abbrev pub «FETCH_CANCEL» : TypeRow
-«FETCH_CANCEL» = row 0x17 "FETCH_CANCEL" retrieving fetchCancel
+«FETCH_CANCEL» = row 0x17 "FETCH_CANCEL" fetches fetchCancel
 
 abbrev pub «TRACK_STATUS_REQUEST» : TypeRow
-«TRACK_STATUS_REQUEST» = row 0xD "TRACK_STATUS_REQUEST" retrieving trackStatusRequest
+«TRACK_STATUS_REQUEST» = row 0xD "TRACK_STATUS_REQUEST" fetches trackStatusRequest
 
 abbrev pub «TRACK_STATUS» : TypeRow
-«TRACK_STATUS» = row 0xE "TRACK_STATUS" retrieving trackStatus
+«TRACK_STATUS» = row 0xE "TRACK_STATUS" fetches trackStatus
 
 abbrev pub ANNOUNCE : TypeRow
-ANNOUNCE = row 0x6 "ANNOUNCE" announcing (named parameters)
+ANNOUNCE = row 0x6 "ANNOUNCE" announces (named parameters)
 
 abbrev pub «ANNOUNCE_OK» : TypeRow
-«ANNOUNCE_OK» = row 0x7 "ANNOUNCE_OK" announcing (named done)
+«ANNOUNCE_OK» = row 0x7 "ANNOUNCE_OK" announces (named done)
 
 abbrev pub «ANNOUNCE_ERROR» : TypeRow
-«ANNOUNCE_ERROR» = row 0x8 "ANNOUNCE_ERROR" announcing (named (failure done))
+«ANNOUNCE_ERROR» = row 0x8 "ANNOUNCE_ERROR" announces (named (failure done))
 
 abbrev pub UNANNOUNCE : TypeRow
-UNANNOUNCE = row 0x9 "UNANNOUNCE" announcing (named done)
+UNANNOUNCE = row 0x9 "UNANNOUNCE" announces (named done)
 
 abbrev pub «ANNOUNCE_CANCEL» : TypeRow
-«ANNOUNCE_CANCEL» = row 0xC "ANNOUNCE_CANCEL" announcing (named (failure done))
+«ANNOUNCE_CANCEL» = row 0xC "ANNOUNCE_CANCEL" announces (named (failure done))
 
 abbrev pub «SUBSCRIBE_ANNOUNCES» : TypeRow
-«SUBSCRIBE_ANNOUNCES» = row 0x11 "SUBSCRIBE_ANNOUNCES" announcing (named parameters)
+«SUBSCRIBE_ANNOUNCES» = row 0x11 "SUBSCRIBE_ANNOUNCES" announces (named parameters)
 
 abbrev pub «SUBSCRIBE_ANNOUNCES_OK» : TypeRow
-«SUBSCRIBE_ANNOUNCES_OK» = row 0x12 "SUBSCRIBE_ANNOUNCES_OK" announcing (named done)
+«SUBSCRIBE_ANNOUNCES_OK» = row 0x12 "SUBSCRIBE_ANNOUNCES_OK" announces (named done)
 
 abbrev pub «SUBSCRIBE_ANNOUNCES_ERROR» : TypeRow
-«SUBSCRIBE_ANNOUNCES_ERROR» = row 0x13 "SUBSCRIBE_ANNOUNCES_ERROR" announcing (named (failure done))
+«SUBSCRIBE_ANNOUNCES_ERROR» = row 0x13 "SUBSCRIBE_ANNOUNCES_ERROR" announces (named (failure done))
 
 abbrev pub «UNSUBSCRIBE_ANNOUNCES» : TypeRow
-«UNSUBSCRIBE_ANNOUNCES» = row 0x14 "UNSUBSCRIBE_ANNOUNCES" announcing (named done)
+«UNSUBSCRIBE_ANNOUNCES» = row 0x14 "UNSUBSCRIBE_ANNOUNCES" announces (named done)
 
 -- all of them, in the order of 004
 unfoldable pub messages : List TypeRow
@@ -132,9 +132,9 @@ pub data InTable : Type 0 where
   listed : TypeRow → InTable
   unlisted : InTable
 
-abbrev pub onListed : {A : Type 0} → InTable → (TypeRow → A) → A → A
-onListed (listed r) f none = f r
-onListed unlisted f none = none
+abbrev pub onListed : {A : Type 0} → InTable → A → (TypeRow → A) → A
+onListed (listed r) none f = f r
+onListed unlisted none f = none
 
 unfoldable pub typeRowIn : List TypeRow → ℕ → InTable
 typeRowIn [] type = unlisted
@@ -145,15 +145,15 @@ typeRowOf type = typeRowIn messages type
 
 -- "Types fall into known numbers, gaps between them and numbers beyond the last"
 unfoldable pub known : ℕ → Bool
-known type = onListed (typeRowOf type) (λ r. true) false
+known type = onListed (typeRowOf type) false (λ r. true)
 
 -- the body of a message of a type
 unfoldable pub layoutOf : ℕ → Layout
-layoutOf type = onListed (typeRowOf type) (λ r. r .layout) forbidden
+layoutOf type = onListed (typeRowOf type) forbidden (λ r. r .layout)
 
 -- and its name, as 004 spells it
 unfoldable pub nameOf : ℕ → List ℕ
-nameOf type = onListed (typeRowOf type) (λ r. letters (r .name)) []
+nameOf type = onListed (typeRowOf type) [] (λ r. letters (r .name))
 
 -- "Forbidden field values (5)": whether a message holds none that the layout of its type forbids
 abbrev pub allowedTyped : Typed → Bool

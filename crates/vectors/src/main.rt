@@ -173,7 +173,7 @@ fn say_put(out: &[u8], putting: Putting) {
 }
 
 fn say_report(s: &[u8]) {
-    let mut out = [0u8; 16384];
+    let mut out = [0u8; report::LONGEST_REPORT];
     let putting = report::of_trace(s, &mut out);
     say_put(&out, putting);
 }

@@ -12,8 +12,8 @@ use Rattle.view.specs.Orders.{Apart, SeenInEitherOrder}
 use Rattle.view.proofs.LedgersFollow as ledgers
 use Rattle.view.proofs.EitherOrder as order
 
--- 1. A ledger follows the step of its view: of every event it says what the step says, and the view of the next ledger is
--- the next view.
+-- 1. A ledger follows the step of its view: of every event it says what the step says, and the view of the next ledger
+-- is the next view.
 pub ledger-follows : (l : Ledger) (e : Event) → isLedger l ≡ true → seenOf (comes l e) ≡ viewStep (viewOf l) e
 ledger-follows = ledgers.ledger-follows
 
@@ -25,7 +25,9 @@ view-loses-nothing = ledgers.view-once
 pub arrivals-in-either-order : (v : View) (a b : Arrival) → SeenInEitherOrder v (arrival a) (arrival b)
 arrivals-in-either-order = order.arrivals-either
 
--- Two messages that name different subscriptions, neither being SUBSCRIBE, or of which the ledger doesn't keep one, may change places,
--- in any view where the session is open after both.
-pub messages-in-either-order : (v : View) {m n : Message} → Apart m n → isOpen (viewStep (viewStep v (message m) .next) (message n) .next .standing .session) ≡ true → SeenInEitherOrder v (message m) (message n)
+-- Two messages that name different subscriptions, neither being SUBSCRIBE, or of which the ledger doesn't keep one, may
+-- change places, in any view where the session is open after both.
+pub messages-in-either-order : (v : View) {m n : Message} → Apart m n
+    → isOpen (viewStep (viewStep v (message m) .next) (message n) .next .standing .session) ≡ true
+    → SeenInEitherOrder v (message m) (message n)
 messages-in-either-order = order.messages-either

@@ -9,18 +9,18 @@ use lib.ListN.{getD}
 use Rattle.common.specs.Choice.{pick}
 use Rattle.ledger.proofs.Finds.{HasNone, end, other, IsFirst, here, later}
 use Rattle.ledger.proofs.Keyed.{Known}
-use Rattle.ledger.specs.Keys.{Looked, none, one, look, onLooked, Change, gone, now, put, turn}
+use Rattle.ledger.specs.Keys.{Looked, none, one, look, onLooked, Change, gone, now, instead, turn}
 
 -- ---- two turns
 
 -- what is put in the place of one is not the one that has another number
 module _ {A : Type 0} (key : A → ℕ) (m n : ℕ) (other : m ≡ n → ⊥) (x : A) (here : key x ≡ n) where
-  look-past : (c : Change A) (xs : List A) → Known key x c → look key m (put c xs) ≡ look key m xs
+  look-past : (c : Change A) (xs : List A) → Known key x c → look key m (instead c xs) ≡ look key m xs
   unfolding look
   look-past gone xs k = refl
   look-past (now y) xs k = rw (ne-eqb (key y) m (λ h. other (sym h ∙ k ∙ here)))
 
-  turn-past : (f : A → Change A) (c : Change A) (xs : List A) → Known key x c → turn key m f (put c xs) ≡ put c (turn key m f xs)
+  turn-past : (f : A → Change A) (c : Change A) (xs : List A) → Known key x c → turn key m f (instead c xs) ≡ instead c (turn key m f xs)
   unfolding turn
   turn-past f gone xs k = refl
   turn-past f (now y) xs k = rw (ne-eqb (key y) m (λ h. other (sym h ∙ k ∙ here)))
@@ -32,7 +32,7 @@ module _ {A : Type 0} (key : A → ℕ) (m n : ℕ) (other : m ≡ n → ⊥) (f
   look-other [] = refl
   look-other (x ∷ xs) = go (eqb (key x) n) refl (look-other xs)
     where
-      go : (b : Bool) → eqb (key x) n ≡ b → look key m (turn key n f xs) ≡ look key m xs → look key m (pick b (put (f x) xs) (x ∷ turn key n f xs)) ≡ look key m (x ∷ xs)
+      go : (b : Bool) → eqb (key x) n ≡ b → look key m (turn key n f xs) ≡ look key m xs → look key m (pick b (instead (f x) xs) (x ∷ turn key n f xs)) ≡ look key m (x ∷ xs)
       go true h ih =
           let here : key x ≡ n = eqb-true (key x) n h in
           rw (ne-eqb (key x) m (λ e. other (sym e ∙ here))) (look-past key m n other x here (f x) xs (f-knows x))
@@ -44,7 +44,7 @@ module _ {A : Type 0} (key : A → ℕ) (m n : ℕ) (other : m ≡ n → ⊥) (f
   turn-other g g-knows [] = refl
   turn-other g g-knows (x ∷ xs) = go (eqb (key x) n) refl (eqb (key x) m) refl (turn-other g g-knows xs)
     where
-      go : (b : Bool) → eqb (key x) n ≡ b → (c : Bool) → eqb (key x) m ≡ c → turn key m g (turn key n f xs) ≡ turn key n f (turn key m g xs) → turn key m g (pick b (put (f x) xs) (x ∷ turn key n f xs)) ≡ turn key n f (pick c (put (g x) xs) (x ∷ turn key m g xs))
+      go : (b : Bool) → eqb (key x) n ≡ b → (c : Bool) → eqb (key x) m ≡ c → turn key m g (turn key n f xs) ≡ turn key n f (turn key m g xs) → turn key m g (pick b (instead (f x) xs) (x ∷ turn key n f xs)) ≡ turn key n f (pick c (instead (g x) xs) (x ∷ turn key m g xs))
       go true h true k ih = absurd (other (sym (eqb-true (key x) m k) ∙ eqb-true (key x) n h))
       go true h false k ih = rw h (turn-past key m n other x (eqb-true (key x) n h) g (f x) xs (f-knows x))
       go false h true k ih =

@@ -1,16 +1,16 @@
 //! A whole report: ten million arrivals over 64 rows, from the bytes of the trace
 //! to the text.
 
+use second::ledger::ROWS;
 use second::{integer, report};
 
 use crate::{clock, ours};
 
 const ARRIVALS: usize = 10_000_000;
-const ROWS: u64 = 64;
 
 pub fn measure() {
     let trace = trace();
-    let mut text = vec![0; 16_384];
+    let mut text = vec![0; report::LONGEST_REPORT];
     let ours = || {
         let mut info = [0u64; 1];
         unsafe {
@@ -35,7 +35,7 @@ pub fn measure() {
 fn trace() -> Vec<u8> {
     let mut trace = Vec::with_capacity(120 << 20);
     field(&mut trace, 1, &[&[0], &number(1_000)]);
-    for id in 0..ROWS {
+    for id in 0..ROWS as u64 {
         let body = [
             &number(id)[..],
             &number(1_000 + id),
@@ -51,7 +51,7 @@ fn trace() -> Vec<u8> {
     let mut seed = 7u64;
     for at in 0..ARRIVALS as u64 {
         seed = seed.wrapping_mul(6_364_136_223_846_793_005).wrapping_add(1);
-        let alias = 1_000 + (seed >> 33) % ROWS;
+        let alias = 1_000 + (seed >> 33) % ROWS as u64;
         let group = at / 1_000 + (seed >> 40) % 100_000;
         field(
             &mut trace,

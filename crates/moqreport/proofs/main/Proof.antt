@@ -4,7 +4,7 @@ use mathlib.Core.Path.{_≡_}
 use native.Mathlib.Omega.{arith}
 use borrow.Author.Needs.{needs}
 use lib.ListN.{length}
-use Rattle.moqreport.proofs.Leaving.{left-within}
+use Rattle.moqreport.proofs.LeftInBuffer.{left-within}
 use Rattle.moqreport.proofs.main.Statement.{statement}
 use Rattle.moqreport.proofs.main.Tie as tie
 

@@ -4,12 +4,13 @@ use native.Mathlib.Omega.{arith}
 use borrow.Author.Needs.{needs}
 use lib.ListN.{length, length-map}
 use lib.Seq.{length-take-le}
+use Rattle.ledger.specs.Ledgers.{mostRows}
 use Rattle.report.proofs.Longest.{ended-bound}
 use Rattle.moqreport.proofs.print.Statement.{statement}
 use Rattle.moqreport.proofs.print.Tie as tie
 
 -- there are places for all rows
-places : (a : tie.Start) → length (a .args .p .ledger .rows) ≡ 64
+places : (a : tie.Start) → length (a .args .p .ledger .rows) ≡ mostRows
 places a = sym (length-map (a .args .p .ledger .rows) _) ∙ a .good .0 .1 .1 .0 .1 .1 .0 .1 .0 .1
 
 -- what was put ends within the array

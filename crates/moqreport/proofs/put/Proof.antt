@@ -4,15 +4,16 @@ use mathlib.Core.Path.{_≡_, sym, _∙_}
 use native.Mathlib.Omega.{arith}
 use borrow.Author.Needs.{needs}
 use lib.ListN.{length, length-map}
+use Rattle.ledger.specs.Ledgers.{mostRows}
 use Rattle.replay.specs.Progressing.{finishOf}
 use Rattle.report.specs.Report.{textOf}
-use Rattle.report.proofs.Putting.{was-put, no-refusal}
+use Rattle.report.proofs.LinePut.{was-put, no-refusal}
 use Rattle.report.proofs.Longest.{ended-bound}
 use Rattle.moqreport.proofs.put.Statement.{statement}
 use Rattle.moqreport.proofs.put.Tie as tie
 
 -- there are places for all rows
-places : (a : tie.Start) → length (a .args .p .ledger .rows) ≡ 64
+places : (a : tie.Start) → length (a .args .p .ledger .rows) ≡ mostRows
 places a = sym (length-map (a .args .p .ledger .rows) _) ∙ a .good .1 .0 .1 .1 .0 .1 .1 .0 .1 .0 .1
 
 fits : (a : tie.Start) → length (textOf (finishOf (a .args .p) (a .args .left))) ≤ length (a .args .out .now)

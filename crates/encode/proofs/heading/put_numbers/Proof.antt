@@ -9,9 +9,9 @@ use Rattle.common.proofs.PutLoop.{going-length, going-within}
 use Rattle.field.specs.Value.{mean, encField}
 use Rattle.field.specs.declared.Piece.the-variants.{Number}
 use Rattle.measure.specs.Measuring.{encodeAll}
-use Rattle.measure.proofs.Rows.{numbersFrom, numbers-first, numbers-row}
+use Rattle.measure.proofs.FieldsFrom.{numbersFrom, numbers-first, numbers-row}
 use Rattle.encode.proofs.Pieces.{number-asks}
-use Rattle.encode.proofs.Filling.{Filling, filling-start, filling-end, field-asks, field-sum, field-next}
+use Rattle.encode.proofs.FieldsPut.{Filling, filling-start, filling-end, field-asks, field-sum, field-next}
 use Rattle.encode.proofs.heading.put_numbers.Statement.{statement}
 use Rattle.encode.proofs.heading.put_numbers.Tie as tie
 

@@ -7,7 +7,7 @@ use Rattle.measure.specs.Fields.{headed}
 use Rattle.measure.specs.Measuring.{measureAll}
 use Rattle.measure.proofs.Numbers.{judgement-all, judgement-joined}
 use Rattle.encode.specs.Writing.{bareOf}
-use Rattle.encode.proofs.Filling.{AllAsk}
+use Rattle.encode.proofs.FieldsPut.{AllAsk}
 use Rattle.encode.proofs.Headings.{headed-judged, front-asks, front-within, middle-asks, middle-sum, middle-within, back-asks, back-sum, headed-put}
 use Rattle.encode.proofs.Written.{taken, bare-forbidden, bare-oversize, bare-over, bare-done}
 use Rattle.encode.proofs.heading.write_header.Statement.{statement}

@@ -1,6 +1,6 @@
 -- `put` meets its contract: the field is judged whole before a byte of it is put. Assumes nothing.
 use borrow.Author.Needs.{needs}
-use Rattle.encode.proofs.Single.{takes-asks, leaves-put, kept-long, kept-oversize, kept-forbidden}
+use Rattle.encode.proofs.OneField.{takes-asks, leaves-put, kept-long, kept-oversize, kept-forbidden}
 use Rattle.encode.proofs.putting.put.Statement.{statement}
 use Rattle.encode.proofs.putting.put.Tie as tie
 

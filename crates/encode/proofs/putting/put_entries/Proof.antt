@@ -3,14 +3,14 @@
 use native.Mathlib.Omega.{arith}
 use borrow.Author.Needs.{needs}
 use Rattle.common.proofs.PutLoop.{going-length, going-within}
-use Rattle.field.specs.Value.{itemsOf, contents, encItems}
-use Rattle.encode.proofs.Entering.{Entering, Turn, entering-start, entering-end, entry-found, turn, parts, head-asks, head-sum, head-within, bytes-fit, entry-sum, entry-next}
+use Rattle.field.specs.Value.{entryValues, contents, encItems}
+use Rattle.encode.proofs.EntriesPut.{Entering, Turn, entering-start, entering-end, entry-found, turn, parts, head-asks, head-sum, head-within, bytes-fit, entry-sum, entry-next}
 use Rattle.encode.proofs.putting.put_entries.Statement.{statement}
 use Rattle.encode.proofs.putting.put_entries.Tie as tie
 
 abbrev Inv-loop : tie.InvT-loop
 Inv-loop out₀ bytes kind at₀ here₀ left₀ out at here left =
-    Entering kind bytes (encItems kind (itemsOf kind left₀ bytes here₀)) out₀ out at here left
+    Entering kind bytes (encItems kind (entryValues kind left₀ bytes here₀)) out₀ out at here left
 
 abbrev μ-loop : tie.MeasureT-loop
 μ-loop out₀ bytes kind at₀ here₀ left₀ out at here left = left

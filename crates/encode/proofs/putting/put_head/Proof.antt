@@ -6,7 +6,7 @@ use Rattle.common.proofs.Puts.{Room, first-fits, ends-within, second-fits, both
 use Rattle.integer.specs.Integer.{encOf}
 use Rattle.field.specs.declared.Kind.the-variants.{Parameters}
 use Rattle.encode.specs.Entries.{encHead}
-use Rattle.encode.proofs.Items.{field-head, version-head, parameter-room}
+use Rattle.encode.proofs.EntryForms.{field-head, version-head, parameter-room}
 use Rattle.encode.proofs.putting.put_head.Statement.{statement}
 use Rattle.encode.proofs.putting.put_head.Tie as tie
 

@@ -6,10 +6,10 @@ use borrow.Author.Needs.{needs}
 use lib.ListN.{length, length-map}
 use Rattle.common.proofs.PutLoop.{going-length, going-within}
 use Rattle.field.specs.declared.Piece.the-variants.{Byte}
-use Rattle.measure.specs.Fields.{fieldsOf}
+use Rattle.measure.specs.Fields.{mostPieces, fieldsOf}
 use Rattle.measure.specs.Measuring.{encodeAll}
-use Rattle.measure.proofs.Rows.{ten-most, fieldsFrom, from-first, fields-row}
-use Rattle.encode.proofs.Filling.{Filling, filling-start, filling-end, field-asks, field-sum, field-next}
+use Rattle.measure.proofs.FieldsFrom.{count-most, fieldsFrom, from-first, fields-row}
+use Rattle.encode.proofs.FieldsPut.{Filling, filling-start, filling-end, field-asks, field-sum, field-next}
 use Rattle.encode.proofs.writer.put_all.Statement.{statement}
 use Rattle.encode.proofs.writer.put_all.Tie as tie
 
@@ -19,18 +19,18 @@ Inv-loop out₀ bytes f n at₀ i₀ out at i = Filling bytes (encodeAll bytes (
 abbrev μ-loop : tie.MeasureT-loop
 μ-loop out₀ bytes f n at₀ i₀ out at i = n - i
 
--- there are ten places
-places : (a : tie.Start Inv-loop μ-loop) → length (a .args .t3 .at) ≡ 10
+-- there are places for all fields
+places : (a : tie.Start Inv-loop μ-loop) → length (a .args .t3 .at) ≡ mostPieces
 places a = sym (length-map (a .args .t3 .at) _) ∙ a .good .1 .1 .0 .1 .1 .0 .1 .0 .1
 
 loop-holds : tie.Need-loop-holds Inv-loop μ-loop
 loop-holds c = rw (from-first (c .before .before .before .args .t3)) (filling-start _ (c .before .before .before .pre .0))
 
 mul-slot : tie.Need-mul-slot Inv-loop μ-loop
-mul-slot c = omega (arith, ten-most (c .before .before .before .before .before .args .t3 .used))
+mul-slot c = omega (arith, count-most (c .before .before .before .before .before .args .t3 .used))
 
 element-copy-out-slot : tie.Need-element-copy-out-slot Inv-loop μ-loop
-element-copy-out-slot c = omega (arith, ten-most (c .before .before .before .before .before .args .t3 .used))
+element-copy-out-slot c = omega (arith, count-most (c .before .before .before .before .before .args .t3 .used))
 
 ends : tie.Need-sub-put-piece Inv-loop μ-loop
 ends c = going-within (c .before .before .loop .inv .going) (c .before .before .before .before .before .before .pre .1)

@@ -9,12 +9,12 @@ use Rattle.common.proofs.Puts.{first-fits, ends-within, second-fits, both-fit, 
 use Rattle.integer.specs.Integer.{greatest}
 use Rattle.integer.proofs.Widths.{size-few}
 use Rattle.field.specs.declared.Piece.the-variants.{Byte}
-use Rattle.measure.specs.Fields.{slot, fieldsOf, tenOf}
+use Rattle.measure.specs.Fields.{mostPieces, slot, fieldsOf, pieceCount}
 use Rattle.measure.specs.Measuring.{measureAll}
 use Rattle.measure.specs.declared.Slot.{Slot}
-use Rattle.measure.proofs.Rows.{Row, ten-most, fieldsFrom, from-first, fields-row}
+use Rattle.measure.proofs.FieldsFrom.{Row, count-most, fieldsFrom, from-first, fields-row}
 use Rattle.measure.proofs.Numbers.{judgement, judgement-joined}
-use Rattle.measure.proofs.SoFar.{SoFar, none-judged, judged-next, judged-all}
+use Rattle.measure.proofs.JudgedSoFar.{SoFar, none-judged, judged-next, judged-all}
 use Rattle.encode.specs.Writing.{framedOf}
 use Rattle.encode.proofs.Written.{taken, kind-great, fields-forbidden, fields-oversize, done, Message, message-room, message-long, message-short, message}
 use Rattle.encode.proofs.writer.write_framed.Statement.{statement}
@@ -26,12 +26,12 @@ Inv-loop out bytes longest f kind room count found₀ i₀ found i = SoFar bytes
 abbrev μ-loop : tie.MeasureT-loop
 μ-loop out bytes longest f kind room count found₀ i₀ found i = count - i
 
--- there are ten places,
-places : (a : tie.Start Inv-loop μ-loop) → length (a .args .t3 .at) ≡ 10
+-- there are places for all fields,
+places : (a : tie.Start Inv-loop μ-loop) → length (a .args .t3 .at) ≡ mostPieces
 places a = sym (length-map (a .args .t3 .at) _) ∙ a .good .1 .1 .0 .1 .1 .0 .1 .0 .1
 
 -- so that the fields are a row
-row : (a : tie.Start Inv-loop μ-loop) (d : Slot) → Row (fieldsFrom (a .args .t3)) (tenOf (a .args .t3 .used)) (λ i. slot (getD (a .args .t3 .at) i d))
+row : (a : tie.Start Inv-loop μ-loop) (d : Slot) → Row (fieldsFrom (a .args .t3)) (pieceCount (a .args .t3 .used)) (λ i. slot (getD (a .args .t3 .at) i d))
 row a d = fields-row (a .args .t3) d (places a)
 
 -- ---- the body is judged
@@ -40,10 +40,10 @@ loop-holds : tie.Need-loop-holds Inv-loop μ-loop
 loop-holds c = rw (from-first (c .before .before .before .before .args .t3)) (none-judged _ _ _)
 
 slot-first : tie.Need-mul-slot Inv-loop μ-loop
-slot-first c = omega (arith, ten-most (c .before .before .before .before .before .before .args .t3 .used))
+slot-first c = omega (arith, count-most (c .before .before .before .before .before .before .args .t3 .used))
 
 copy-first : tie.Need-element-copy-out-slot Inv-loop μ-loop
-copy-first c = omega (arith, ten-most (c .before .before .before .before .before .before .args .t3 .used))
+copy-first c = omega (arith, count-most (c .before .before .before .before .before .before .args .t3 .used))
 
 loop-again : tie.Need-loop-again Inv-loop μ-loop
 loop-again c = judged-next _ _ (row (c .before .before .before .before .before .before .before .before .before) _) (c .before .before .before .before .loop .inv) (omega arith) (judgement _ _ _ {r = c .before .measure .result} (c .before .measure .ensures)) (judgement-joined _ _ _ (c .join .ensures))

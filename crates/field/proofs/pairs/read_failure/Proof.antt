@@ -1,6 +1,6 @@
 -- `read_failure` meets its contract: an integer, then bytes. Assumes nothing.
 use borrow.Author.Needs.{needs}
-use Rattle.field.proofs.Together.{failure-cut, failure-half, failure-whole}
+use Rattle.field.proofs.TwoReads.{failure-cut, failure-half, failure-whole}
 use Rattle.field.proofs.pairs.read_failure.Statement.{statement}
 use Rattle.field.proofs.pairs.read_failure.Tie as tie
 

@@ -1,6 +1,6 @@
 -- `read_place` meets its contract: two integers, one after the other. Assumes nothing.
 use borrow.Author.Needs.{needs}
-use Rattle.field.proofs.Together.{place-cut, place-half, place-whole}
+use Rattle.field.proofs.TwoReads.{place-cut, place-half, place-whole}
 use Rattle.field.proofs.pairs.read_place.Statement.{statement}
 use Rattle.field.proofs.pairs.read_place.Tie as tie
 

@@ -4,7 +4,7 @@ use borrow.Author.Needs.{needs}
 use Rattle.header.specs.Layouts.{datagrams}
 use Rattle.header.specs.Told.{toldObject}
 use Rattle.header.proofs.Headed.{headed-cut, headed-unknown, headed-by, no-datagram}
-use Rattle.header.proofs.Closing.{is-open, has-status}
+use Rattle.header.proofs.StatusDatagrams.{is-open, has-status}
 use Rattle.header.proofs.datagrams.read_datagram.Statement.{statement}
 use Rattle.header.proofs.datagrams.read_datagram.Tie as tie
 

@@ -2,7 +2,7 @@
 use borrow.Author.Needs.{needs}
 use Rattle.layout.proofs.Steps.{stopping}
 use Rattle.header.specs.Layouts.{status}
-use Rattle.header.proofs.Closing.{object-cut, status-cut, status-forbidden, status-over, status-last}
+use Rattle.header.proofs.StatusDatagrams.{object-cut, status-cut, status-forbidden, status-over, status-last}
 use Rattle.header.proofs.datagrams.read_status.Statement.{statement}
 use Rattle.header.proofs.datagrams.read_status.Tie as tie
 

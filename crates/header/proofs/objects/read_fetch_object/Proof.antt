@@ -1,6 +1,6 @@
 -- `read_fetch_object` meets its contract. Assumes nothing.
 use borrow.Author.Needs.{needs}
-use Rattle.header.proofs.Ending.{fetch-none, fetch-cut, fetch-ends}
+use Rattle.header.proofs.ObjectHeaders.{fetch-none, fetch-cut, fetch-ends}
 use Rattle.header.proofs.objects.read_fetch_object.Statement.{statement}
 use Rattle.header.proofs.objects.read_fetch_object.Tie as tie
 

@@ -4,7 +4,7 @@ use Rattle.layout.proofs.Steps.{stopping}
 use Rattle.header.specs.Layouts.{subgroupObject}
 use Rattle.header.specs.Reading.{subgroupObjectOf}
 use Rattle.header.proofs.Headed.{cut-short}
-use Rattle.header.proofs.Ending.{subgroup-cut, subgroup-ends}
+use Rattle.header.proofs.ObjectHeaders.{subgroup-cut, subgroup-ends}
 use Rattle.header.proofs.objects.read_subgroup_object.Statement.{statement}
 use Rattle.header.proofs.objects.read_subgroup_object.Tie as tie
 

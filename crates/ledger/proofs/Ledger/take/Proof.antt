@@ -3,7 +3,7 @@ use mathlib.Core.Path.{refl, ap}
 use borrow.Author.Needs.{needs}
 use Rattle.ledger.specs.Views.{viewOf}
 use Rattle.ledger.specs.Steps.{subscriptionStep, messageStep}
-use Rattle.ledger.proofs.Taking.{of-kind, not-kept}
+use Rattle.ledger.proofs.CodePaths.{of-kind, not-kept}
 use Rattle.ledger.proofs.Ledger.take.Statement.{statement}
 use Rattle.ledger.proofs.Ledger.take.Tie as tie
 

@@ -4,7 +4,7 @@ use native.Mathlib.Omega.{arith}
 use Rattle.ledger.specs.Steps.{aliasOf}
 use Rattle.ledger.proofs.Facts.{ledger-used}
 use Rattle.ledger.proofs.Finds.{found-used}
-use Rattle.ledger.proofs.Taking.{no-alias, waiting, outside, counted}
+use Rattle.ledger.proofs.CodePaths.{no-alias, waiting, outside, counted}
 use Rattle.ledger.proofs.arrivals.count.Statement.{statement}
 use Rattle.ledger.proofs.arrivals.count.Tie as tie
 

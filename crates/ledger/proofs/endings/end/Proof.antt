@@ -4,7 +4,7 @@ use native.Mathlib.Omega.{arith}
 use Rattle.ledger.specs.Steps.{idOf}
 use Rattle.ledger.proofs.Facts.{ledger-used}
 use Rattle.ledger.proofs.Finds.{found-used}
-use Rattle.ledger.proofs.Taking.{nowhere, end-freed, end-refused}
+use Rattle.ledger.proofs.CodePaths.{nowhere, end-freed, end-refused}
 use Rattle.ledger.proofs.endings.end.Statement.{statement}
 use Rattle.ledger.proofs.endings.end.Tie as tie
 

@@ -4,7 +4,7 @@ use mathlib.Core.Path.{_≡_, sym, refl, _∙_}
 use native.Mathlib.Omega.{arith}
 use borrow.Author.Needs.{needs}
 use lib.ListN.{length, length-map}
-use Rattle.ledger.proofs.Moving.{Moving, moves, moves-on, moved}
+use Rattle.ledger.proofs.RowsMovedUp.{Moving, moves, moves-on, moved}
 use Rattle.ledger.proofs.endings.without.Statement.{statement}
 use Rattle.ledger.proofs.endings.without.Tie as tie
 

@@ -1,7 +1,7 @@
 -- `other` meets its contract. Assumes nothing.
 use borrow.Author.Needs.{needs}
 use Rattle.ledger.proofs.Gates.{stopped, went, went-ledger}
-use Rattle.ledger.proofs.Taking.{stays}
+use Rattle.ledger.proofs.CodePaths.{stays}
 use Rattle.ledger.proofs.messages.other.Statement.{statement}
 use Rattle.ledger.proofs.messages.other.Tie as tie
 

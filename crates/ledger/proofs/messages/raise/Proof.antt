@@ -1,6 +1,6 @@
 -- `raise` meets its contract. Assumes nothing.
 use borrow.Author.Needs.{needs}
-use Rattle.ledger.proofs.Taking.{not-larger, raised}
+use Rattle.ledger.proofs.CodePaths.{not-larger, raised}
 use Rattle.ledger.proofs.messages.raise.Statement.{statement}
 use Rattle.ledger.proofs.messages.raise.Tie as tie
 

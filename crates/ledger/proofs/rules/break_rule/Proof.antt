@@ -1,5 +1,5 @@
 -- `break_rule` meets its contract. Assumes nothing.
-use Rattle.ledger.proofs.Taking.{own-breaks, peer-breaks}
+use Rattle.ledger.proofs.CodePaths.{own-breaks, peer-breaks}
 use Rattle.ledger.proofs.rules.break_rule.Statement.{statement}
 use Rattle.ledger.proofs.rules.break_rule.Tie as tie
 

@@ -4,7 +4,7 @@ use mathlib.Core.Path.{_≡_, refl, sym, _∙_}
 use native.Mathlib.Omega.{arith}
 use borrow.Author.Needs.{needs}
 use lib.ListN.{length, length-map}
-use Rattle.ledger.proofs.Naming.{Named, named-next, all-named}
+use Rattle.ledger.proofs.AliasesFound.{Named, named-next, all-named}
 use Rattle.ledger.proofs.run.aliases.Statement.{statement}
 use Rattle.ledger.proofs.run.aliases.Tie as tie
 

@@ -4,7 +4,7 @@ use native.Mathlib.Omega.{arith}
 use Rattle.ledger.specs.Steps.{idOf}
 use Rattle.ledger.proofs.Facts.{ledger-used}
 use Rattle.ledger.proofs.Finds.{found-used}
-use Rattle.ledger.proofs.Taking.{nowhere, ok-refused, ok-opened}
+use Rattle.ledger.proofs.CodePaths.{nowhere, ok-refused, ok-opened}
 use Rattle.ledger.proofs.subscribing.accept.Statement.{statement}
 use Rattle.ledger.proofs.subscribing.accept.Tie as tie
 

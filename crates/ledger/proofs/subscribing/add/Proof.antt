@@ -2,7 +2,7 @@
 use borrow.Author.Needs.{needs}
 use native.Mathlib.Omega.{arith}
 use Rattle.ledger.proofs.Facts.{parts, ledger-used}
-use Rattle.ledger.proofs.Taking.{not-higher, not-lower, alias-held, is-full, is-added}
+use Rattle.ledger.proofs.CodePaths.{not-higher, not-lower, alias-held, is-full, is-added}
 use Rattle.ledger.proofs.subscribing.add.Statement.{statement}
 use Rattle.ledger.proofs.subscribing.add.Tie as tie
 

@@ -3,7 +3,7 @@ use borrow.Author.Needs.{needs}
 use mathlib.Core.Path.{_∙_}
 use borrow.Author.Tests.{le-leb, lt-leb}
 use Rattle.ledger.specs.Steps.{noRow}
-use Rattle.ledger.proofs.Taking.{stays}
+use Rattle.ledger.proofs.CodePaths.{stays}
 use Rattle.ledger.proofs.subscribing.no_row.Statement.{statement}
 use Rattle.ledger.proofs.subscribing.no_row.Tie as tie
 

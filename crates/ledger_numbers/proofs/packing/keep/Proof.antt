@@ -5,14 +5,15 @@ use native.Mathlib.Omega.{arith}
 use borrow.Author.Needs.{needs}
 use borrow.Author.Tests.{eq-eqb, ne-eqb, lt-leb, le-leb}
 use lib.ListN.{length, length-map}
+use Rattle.ledger.specs.Ledgers.{mostRows}
 use Rattle.ledger_numbers.specs.Numbers.{numbersOf}
 use Rattle.ledger_numbers.specs.Naming.{keptIn}
 use Rattle.ledger_numbers.proofs.Storing.{numbers-length}
 use Rattle.ledger_numbers.proofs.packing.keep.Statement.{statement}
 use Rattle.ledger_numbers.proofs.packing.keep.Tie as tie
 
--- there are 64 places
-places : (a : tie.Start) → length (a .args .next .rows) ≡ 64
+-- there are places for all rows
+places : (a : tie.Start) → length (a .args .next .rows) ≡ mostRows
 places a = sym (length-map (a .args .next .rows) _) ∙ a .good .1 .0 .1 .1 .0 .1 .0 .1
 
 returns : tie.Need-returns

@@ -6,19 +6,20 @@ use borrow.Author.Needs.{needs}
 use lib.ListN.{length, drop, length-map}
 use Rattle.common.proofs.PutLoop.{Going, going-start, going-length, going-within, going-end, next-fits, going-sum, going-next}
 use Rattle.row.specs.Rows.{unusedRow}
-use Rattle.ledger_numbers.specs.Numbers.{rowsNumbers}
-use Rattle.ledger_numbers.proofs.Storing.{eleven-fit, at-within, rows-length, row-next, rows-end}
+use Rattle.ledger.specs.Ledgers.{mostRows}
+use Rattle.ledger_numbers.specs.Numbers.{numbersOfRows}
+use Rattle.ledger_numbers.proofs.Storing.{row-fits, at-within, rows-length, row-next, rows-end}
 use Rattle.ledger_numbers.proofs.packing.put_rows.Statement.{statement}
 use Rattle.ledger_numbers.proofs.packing.put_rows.Tie as tie
 
 abbrev Inv-loop : tie.InvT-loop
-Inv-loop out₀ l at₀ i₀ out at i = Going (rowsNumbers (l .rows)) out₀ out at (rowsNumbers (drop i (l .rows)))
+Inv-loop out₀ l at₀ i₀ out at i = Going (numbersOfRows (l .rows)) out₀ out at (numbersOfRows (drop i (l .rows)))
 
 abbrev μ-loop : tie.MeasureT-loop
-μ-loop out₀ l at₀ i₀ out at i = 64 - i
+μ-loop out₀ l at₀ i₀ out at i = mostRows - i
 
--- there are 64 places
-places : (a : tie.Start Inv-loop μ-loop) → length (a .args .t2 .rows) ≡ 64
+-- there are places for all rows
+places : (a : tie.Start Inv-loop μ-loop) → length (a .args .t2 .rows) ≡ mostRows
 places a = sym (length-map (a .args .t2 .rows) _) ∙ a .good .1 .0 .1 .1 .0 .1 .0 .1
 
 loop-holds : tie.Need-loop-holds Inv-loop μ-loop
@@ -34,7 +35,7 @@ mul-put-row c =
 asks : tie.Need-put-row-requires Inv-loop μ-loop
 asks c κs =
     let a = c .before .before .before .before .before in
-    eleven-fit _ (next-fits (c .before .before .before .loop .inv) (a .pre) (row-next (a .args .t2 .rows) (c .before .before .before .loop .i) unusedRow (omega (arith, places a))))
+    row-fits _ (next-fits (c .before .before .before .loop .inv) (a .pre) (row-next (a .args .t2 .rows) (c .before .before .before .loop .i) unusedRow (omega (arith, places a))))
 
 add-at : tie.Need-add-at Inv-loop μ-loop
 add-at c =

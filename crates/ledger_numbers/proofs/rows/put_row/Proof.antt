@@ -1,4 +1,4 @@
--- `put_row` meets its contract: eleven numbers are stored, one by one. Assumes nothing.
+-- `put_row` meets its contract: the numbers are stored, one by one. Assumes nothing.
 use native.Mathlib.Omega.{arith}
 use borrow.Author.Needs.{needs}
 use lib.ListN.{length-set}

@@ -5,6 +5,8 @@ use mathlib.Core.List.{List}
 use native.Mathlib.Omega.{arith}
 use borrow.Author.Needs.{needs}
 use lib.ListN.{length, take, drop, length-map}
+use Rattle.ledger.specs.Ledgers.{mostRows}
+use Rattle.ledger_numbers.specs.Numbers.{ledgerNumbers}
 use Rattle.ledger_numbers.specs.Naming.{areSame}
 use Rattle.ledger_numbers.proofs.Storing.{numbers-length}
 use Rattle.ledger_numbers.proofs.Comparing.{same-next, same-not, same-end, own-is, own-long}
@@ -13,13 +15,13 @@ use Rattle.ledger_numbers.proofs.unpacking.has_numbers.Tie as tie
 
 abbrev Inv-loop : tie.InvT-loop
 Inv-loop numbers own i₀ i =
-    (i ≤ 710) × (areSame (drop i own) (drop i (take 710 numbers)) ≡ areSame own (take 710 numbers))
+    (i ≤ ledgerNumbers) × (areSame (drop i own) (drop i (take ledgerNumbers numbers)) ≡ areSame own (take ledgerNumbers numbers))
 
 abbrev μ-loop : tie.MeasureT-loop
-μ-loop numbers own i₀ i = 710 - i
+μ-loop numbers own i₀ i = ledgerNumbers - i
 
--- there are 64 places
-places : (a : tie.Start Inv-loop μ-loop) → length (a .args .l .rows) ≡ 64
+-- there are places for all rows
+places : (a : tie.Start Inv-loop μ-loop) → length (a .args .l .rows) ≡ mostRows
 places a = sym (length-map (a .args .l .rows) _) ∙ a .good .0 .1 .1 .0 .1 .0 .1
 
 put-ledger-requires : tie.Need-put-ledger-requires Inv-loop μ-loop
@@ -31,7 +33,7 @@ returns : tie.Need-returns Inv-loop μ-loop
 returns c =
     let a = c .before .before .before .before .before .before .before .before in
     let p = c .before .before .before .before .before .put-ledger .ensures in
-    sym (same-not (c .before .before .before .before .before .put-ledger .last .0) (a .args .numbers .now) (c .before .before .before .loop .i) (own-long (a .args .l) (places a) p) (a .pre) (omega arith) (c .if1 .taken)) ∙ c .before .before .before .loop .inv .1 ∙ ap (λ (ns : List _). areSame ns (take 710 (a .args .numbers .now))) (own-is (a .args .l) (places a) p)
+    sym (same-not (c .before .before .before .before .before .put-ledger .last .0) (a .args .numbers .now) (c .before .before .before .loop .i) (own-long (a .args .l) (places a) p) (a .pre) (omega arith) (c .if1 .taken)) ∙ c .before .before .before .loop .inv .1 ∙ ap (λ (ns : List _). areSame ns (take ledgerNumbers (a .args .numbers .now))) (own-is (a .args .l) (places a) p)
 
 loop-again : tie.Need-loop-again Inv-loop μ-loop
 loop-again c =
@@ -43,7 +45,7 @@ returns-2 : tie.Need-returns-2 Inv-loop μ-loop
 returns-2 c =
     let a = c .before .before .before .before .before .before in
     let p = c .before .before .before .put-ledger .ensures in
-    sym (same-end (c .before .before .before .put-ledger .last .0) (a .args .numbers .now) (c .before .loop .i) (own-long (a .args .l) (places a) p) (a .pre) (omega arith)) ∙ c .before .loop .inv .1 ∙ ap (λ (ns : List _). areSame ns (take 710 (a .args .numbers .now))) (own-is (a .args .l) (places a) p)
+    sym (same-end (c .before .before .before .put-ledger .last .0) (a .args .numbers .now) (c .before .loop .i) (own-long (a .args .l) (places a) p) (a .pre) (omega arith)) ∙ c .before .loop .inv .1 ∙ ap (λ (ns : List _). areSame ns (take ledgerNumbers (a .args .numbers .now))) (own-is (a .args .l) (places a) p)
 
 pub has-numbers-spec : {M : Type 1} → statement M
 has-numbers-spec =

@@ -3,8 +3,9 @@ use Prim.Native.Nat.{_-_}
 use mathlib.Core.Path.{refl}
 use native.Mathlib.Omega.{arith}
 use borrow.Author.Needs.{needs}
+use Rattle.ledger.specs.Ledgers.{mostRows}
 use Rattle.ledger_numbers.specs.Naming.{rowsNamed}
-use Rattle.ledger_numbers.proofs.Filling.{Filled, filled-next, all-filled}
+use Rattle.ledger_numbers.proofs.RowsNamed.{Filled, filled-next, all-filled}
 use Rattle.ledger_numbers.proofs.unpacking.rows_in.Statement.{statement}
 use Rattle.ledger_numbers.proofs.unpacking.rows_in.Tie as tie
 
@@ -12,7 +13,7 @@ abbrev Inv-loop : tie.InvT-loop
 Inv-loop numbers rows₀ i₀ rows i = Filled numbers rows i
 
 abbrev μ-loop : tie.MeasureT-loop
-μ-loop numbers rows₀ i₀ rows i = 64 - i
+μ-loop numbers rows₀ i₀ rows i = mostRows - i
 
 pub rows-in-spec : {M : Type 1} → statement M
 unfolding rowsNamed

@@ -5,9 +5,9 @@ use mathlib.Core.List.{[], map}
 use borrow.Author.Needs.{needs}
 use lib.ListN.{length}
 use Rattle.field.specs.declared.Piece.the-variants.{Number}
-use Rattle.measure.proofs.Rows.{numbersFrom, numbers-first, numbers-row}
+use Rattle.measure.proofs.FieldsFrom.{numbersFrom, numbers-first, numbers-row}
 use Rattle.measure.proofs.Numbers.{measured-all, judgement-joined}
-use Rattle.measure.proofs.SoFar.{SoFar, none-judged, judged-next, judged-all}
+use Rattle.measure.proofs.JudgedSoFar.{SoFar, none-judged, judged-next, judged-all}
 use Rattle.measure.proofs.heading.measure_numbers.Statement.{statement}
 use Rattle.measure.proofs.heading.measure_numbers.Tie as tie
 

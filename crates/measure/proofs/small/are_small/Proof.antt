@@ -4,7 +4,8 @@ use mathlib.Core.Path.{_≡_, sym, _∙_}
 use native.Mathlib.Omega.{arith}
 use borrow.Author.Needs.{needs}
 use lib.ListN.{length, length-map}
-use Rattle.measure.proofs.Rows.{ten-most}
+use Rattle.measure.specs.Fields.{mostPieces}
+use Rattle.measure.proofs.FieldsFrom.{count-most}
 use Rattle.measure.proofs.AllSmall.{Left, all-left, one-great, one-small, none-great}
 use Rattle.measure.proofs.small.are_small.Statement.{statement}
 use Rattle.measure.proofs.small.are_small.Tie as tie
@@ -15,15 +16,15 @@ Inv-loop f n i₀ i = Left f i
 abbrev μ-loop : tie.MeasureT-loop
 μ-loop f n i₀ i = n - i
 
--- there are ten places
-places : (a : tie.Start Inv-loop μ-loop) → length (a .args .t1 .at) ≡ 10
+-- there are places for all fields
+places : (a : tie.Start Inv-loop μ-loop) → length (a .args .t1 .at) ≡ mostPieces
 places a = sym (length-map (a .args .t1 .at) _) ∙ a .good .0 .1 .1 .0 .1 .0 .1
 
 mul-slot : tie.Need-mul-slot Inv-loop μ-loop
-mul-slot c = omega (arith, ten-most (c .before .before .before .args .t1 .used))
+mul-slot c = omega (arith, count-most (c .before .before .before .args .t1 .used))
 
 element-copy-out-slot : tie.Need-element-copy-out-slot Inv-loop μ-loop
-element-copy-out-slot c = omega (arith, ten-most (c .before .before .before .args .t1 .used))
+element-copy-out-slot c = omega (arith, count-most (c .before .before .before .args .t1 .used))
 
 returns : tie.Need-returns Inv-loop μ-loop
 returns c = one-great _ _ (places (c .before .before .before .before .before .before)) (c .before .before .before .before .loop .inv) _ (omega arith) (c .before .is-small .ensures) (c .if1 .taken)

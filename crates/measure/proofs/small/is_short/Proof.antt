@@ -1,6 +1,5 @@
 -- `is_short` meets its contract. Assumes nothing.
 use borrow.Author.Needs.{needs}
-use Rattle.measure.specs.Small.{smallSpan}
 use Rattle.measure.proofs.AllSmall.{short-backward}
 use Rattle.measure.proofs.small.is_short.Statement.{statement}
 use Rattle.measure.proofs.small.is_short.Tie as tie
@@ -9,7 +8,6 @@ returns : tie.Need-returns
 returns c = short-backward _ (c .if1 .taken)
 
 returns-2 : tie.Need-returns-2
-unfolding smallSpan
 returns-2 c = search needs
 
 pub is-short-spec : {M : Type 1} → statement M

@@ -1,6 +1,6 @@
 -- `filled` meets its contract. Assumes nothing.
 use borrow.Author.Needs.{needs}
-use Rattle.message.proofs.Filling.{filling-whole, filling-over, filling-cut, filling-forbidden, filling-oversize}
+use Rattle.message.proofs.BodyEnd.{filling-whole, filling-over, filling-cut, filling-forbidden, filling-oversize}
 use Rattle.message.proofs.reader.filled.Statement.{statement}
 use Rattle.message.proofs.reader.filled.Tie as tie
 

@@ -5,7 +5,7 @@ use Prim.Native.Nat.{_≤_}
 use native.Mathlib.Omega.{arith}
 use lib.ListN.{length}
 use lib.Seq.{length-take-le}
-use Rattle.replay.proofs.Rests.{at-most-fits, used-fits, moves-fit, advanced}
+use Rattle.replay.proofs.WhatIsLeft.{at-most-fits, used-fits, moves-fit, advanced}
 use Rattle.replay.proofs.Progress.advance.Statement.{statement}
 use Rattle.replay.proofs.Progress.advance.Tie as tie
 

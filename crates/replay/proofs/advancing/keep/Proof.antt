@@ -1,6 +1,6 @@
 -- `keep` meets its contract. Assumes nothing.
 use borrow.Author.Needs.{needs}
-use Rattle.replay.proofs.Rests.{kept-none, keeps-fit, kept}
+use Rattle.replay.proofs.WhatIsLeft.{kept-none, keeps-fit, kept}
 use Rattle.replay.proofs.advancing.keep.Statement.{statement}
 use Rattle.replay.proofs.advancing.keep.Tie as tie
 

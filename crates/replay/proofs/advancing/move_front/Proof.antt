@@ -4,7 +4,7 @@ use mathlib.Core.Path.{_≡_, refl, ap, _∙_}
 use mathlib.Core.List.{_++_}
 use native.Mathlib.Omega.{arith}
 use lib.ListN.{take, drop}
-use Rattle.replay.proofs.Rests.{Moved, moved-more}
+use Rattle.replay.proofs.WhatIsLeft.{Moved, moved-more}
 use Rattle.replay.proofs.advancing.move_front.Statement.{statement}
 use Rattle.replay.proofs.advancing.move_front.Tie as tie
 

@@ -3,12 +3,13 @@ use mathlib.Core.Path.{_≡_, sym, _∙_}
 use native.Mathlib.Omega.{arith}
 use borrow.Author.Needs.{needs}
 use lib.ListN.{length, length-map}
-use Rattle.report.proofs.Showing.{ledger-counted, ledger-bound}
+use Rattle.ledger.specs.Ledgers.{mostRows}
+use Rattle.report.proofs.RowLines.{ledger-counted, ledger-bound}
 use Rattle.report.proofs.writing.measure_ledger.Statement.{statement}
 use Rattle.report.proofs.writing.measure_ledger.Tie as tie
 
--- there are 64 places
-places : (a : tie.Start) → length (a .args .l .rows) ≡ 64
+-- there are places for all rows
+places : (a : tie.Start) → length (a .args .l .rows) ≡ mostRows
 places a = sym (length-map (a .args .l .rows) _) ∙ a .good .0 .1 .1 .0 .1 .0 .1
 
 returns : tie.Need-returns

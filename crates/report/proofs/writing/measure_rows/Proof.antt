@@ -4,10 +4,10 @@ use mathlib.Core.Path.{_≡_, sym, _∙_}
 use native.Mathlib.Omega.{arith}
 use borrow.Author.Needs.{needs}
 use lib.ListN.{length, drop, length-map}
-use Rattle.ledger.specs.Ledgers.{held}
+use Rattle.ledger.specs.Ledgers.{mostRows, held}
 use Rattle.text.proofs.Counted.{Counted, counted-start, counted-sum, counted-next, counted-end}
 use Rattle.report.specs.Report.{rowsText}
-use Rattle.report.proofs.Showing.{row-next, rows-end, held-bound}
+use Rattle.report.proofs.RowLines.{row-next, rows-end, held-bound}
 use Rattle.report.proofs.writing.measure_rows.Statement.{statement}
 use Rattle.report.proofs.writing.measure_rows.Tie as tie
 
@@ -17,8 +17,8 @@ Inv-loop l used sum₀ i₀ sum i = Counted (rowsText (held l)) sum (rowsText (d
 abbrev μ-loop : tie.MeasureT-loop
 μ-loop l used sum₀ i₀ sum i = used - i
 
--- there are 64 places
-places : (a : tie.Start Inv-loop μ-loop) → length (a .args .t1 .rows) ≡ 64
+-- there are places for all rows
+places : (a : tie.Start Inv-loop μ-loop) → length (a .args .t1 .rows) ≡ mostRows
 places a = sym (length-map (a .args .t1 .rows) _) ∙ a .good .0 .1 .1 .0 .1 .0 .1
 
 loop-holds : tie.Need-loop-holds Inv-loop μ-loop

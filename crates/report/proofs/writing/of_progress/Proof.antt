@@ -1,6 +1,6 @@
 -- `of_progress` meets its contract. Assumes nothing.
 use borrow.Author.Needs.{needs}
-use Rattle.report.proofs.Ending.{shows-nothing, shows-ledger, shows-fault}
+use Rattle.report.proofs.ReplayShown.{shows-nothing, shows-ledger, shows-fault}
 use Rattle.report.proofs.writing.of_progress.Statement.{statement}
 use Rattle.report.proofs.writing.of_progress.Tie as tie
 

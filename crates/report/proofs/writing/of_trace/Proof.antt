@@ -1,6 +1,6 @@
 -- `of_trace` meets its contract. Assumes nothing.
 use borrow.Author.Needs.{needs}
-use Rattle.report.proofs.Ending.{used-fits, shows-report}
+use Rattle.report.proofs.ReplayShown.{used-fits, shows-report}
 use Rattle.report.proofs.writing.of_trace.Statement.{statement}
 use Rattle.report.proofs.writing.of_trace.Tie as tie
 

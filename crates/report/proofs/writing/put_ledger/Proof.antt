@@ -1,7 +1,7 @@
 -- `put_ledger` meets its contract. Assumes nothing.
 use native.Mathlib.Omega.{arith}
 use borrow.Author.Needs.{needs}
-use Rattle.report.proofs.Joining.{session-fits, session-ends, columns-fit, front-sum, front-ends, rows-fit, all-sum, all-put}
+use Rattle.report.proofs.LinesJoined.{session-fits, session-ends, columns-fit, front-sum, front-ends, rows-fit, all-sum, all-put}
 use Rattle.report.proofs.writing.put_ledger.Statement.{statement}
 use Rattle.report.proofs.writing.put_ledger.Tie as tie
 

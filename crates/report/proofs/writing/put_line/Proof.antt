@@ -1,6 +1,6 @@
 -- `put_line` meets its contract. Assumes nothing.
 use borrow.Author.Needs.{needs}
-use Rattle.report.proofs.Putting.{was-put, no-refusal}
+use Rattle.report.proofs.LinePut.{was-put, no-refusal}
 use Rattle.report.proofs.writing.put_line.Statement.{statement}
 use Rattle.report.proofs.writing.put_line.Tie as tie
 

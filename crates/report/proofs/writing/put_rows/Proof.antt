@@ -5,9 +5,9 @@ use native.Mathlib.Omega.{arith}
 use borrow.Author.Needs.{needs}
 use lib.ListN.{length, drop, length-map}
 use Rattle.common.proofs.PutLoop.{Going, going-start, going-length, going-within, going-end, next-fits, going-sum, going-next}
-use Rattle.ledger.specs.Ledgers.{held}
+use Rattle.ledger.specs.Ledgers.{mostRows, held}
 use Rattle.report.specs.Report.{rowsText}
-use Rattle.report.proofs.Showing.{row-next, rows-end}
+use Rattle.report.proofs.RowLines.{row-next, rows-end}
 use Rattle.report.proofs.writing.put_rows.Statement.{statement}
 use Rattle.report.proofs.writing.put_rows.Tie as tie
 
@@ -17,8 +17,8 @@ Inv-loop out₀ l used at₀ i₀ out at i = Going (rowsText (held l)) out₀ ou
 abbrev μ-loop : tie.MeasureT-loop
 μ-loop out₀ l used at₀ i₀ out at i = used - i
 
--- there are 64 places
-places : (a : tie.Start Inv-loop μ-loop) → length (a .args .t2 .rows) ≡ 64
+-- there are places for all rows
+places : (a : tie.Start Inv-loop μ-loop) → length (a .args .t2 .rows) ≡ mostRows
 places a = sym (length-map (a .args .t2 .rows) _) ∙ a .good .1 .0 .1 .1 .0 .1 .0 .1
 
 loop-holds : tie.Need-loop-holds Inv-loop μ-loop

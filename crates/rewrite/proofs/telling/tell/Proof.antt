@@ -4,7 +4,7 @@ use native.Mathlib.Omega.{arith}
 use borrow.Author.Needs.{needs}
 use lib.ListN.{length-set}
 use Rattle.rewrite.specs.Ends.{endNumber, endInfo}
-use Rattle.rewrite.proofs.Told.{three, not-done}
+use Rattle.rewrite.proofs.InfoTold.{three, not-done}
 use Rattle.rewrite.proofs.telling.tell.Statement.{statement}
 use Rattle.rewrite.proofs.telling.tell.Tie as tie
 

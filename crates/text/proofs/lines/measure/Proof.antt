@@ -4,10 +4,10 @@ use mathlib.Core.Path.{_≡_, sym, _∙_}
 use native.Mathlib.Omega.{arith}
 use borrow.Author.Needs.{needs}
 use lib.ListN.{length, drop, length-map}
-use Rattle.text.specs.Lines.{lineOf, itemsOf}
-use Rattle.text.proofs.Bounds.{item-few, six-bound}
+use Rattle.text.specs.Lines.{mostItems, lineOf, itemsOf}
+use Rattle.text.proofs.Bounds.{item-few, longest-bound}
 use Rattle.text.proofs.Counted.{Counted, counted-start, counted-sum, counted-next, counted-end}
-use Rattle.text.proofs.Following.{line-next, line-end, ended-size}
+use Rattle.text.proofs.ItemsInLine.{line-next, line-end, ended-size}
 use Rattle.text.proofs.lines.measure.Statement.{statement}
 use Rattle.text.proofs.lines.measure.Tie as tie
 
@@ -17,18 +17,18 @@ Inv-loop line n sum₀ i₀ sum i = Counted (lineOf (itemsOf line)) sum (lineOf 
 abbrev μ-loop : tie.MeasureT-loop
 μ-loop line n sum₀ i₀ sum i = n - i
 
--- there are six places
-places : (a : tie.Start Inv-loop μ-loop) → length (a .args .t1 .at) ≡ 6
+-- there are places for all items
+places : (a : tie.Start Inv-loop μ-loop) → length (a .args .t1 .at) ≡ mostItems
 places a = sym (length-map (a .args .t1 .at) _) ∙ a .good .0 .1 .1 .0 .1 .0 .1
 
 loop-holds : tie.Need-loop-holds Inv-loop μ-loop
 loop-holds c = counted-start _
 
 mul-slot : tie.Need-mul-slot Inv-loop μ-loop
-mul-slot c = omega (arith, c .before .before .six .ensures)
+mul-slot c = omega (arith, c .before .before .item-count .ensures)
 
 element-copy-out-slot : tie.Need-element-copy-out-slot Inv-loop μ-loop
-element-copy-out-slot c = omega (arith, c .before .before .six .ensures)
+element-copy-out-slot c = omega (arith, c .before .before .item-count .ensures)
 
 add-k : tie.Need-add-k Inv-loop μ-loop
 add-k c = omega (arith, item-few _ (c .size .ensures))
@@ -36,18 +36,18 @@ add-k c = omega (arith, item-few _ (c .size .ensures))
 add-sum : tie.Need-add-sum Inv-loop μ-loop
 add-sum c =
     let a = c .before .before .before .before .before in
-    omega (arith, counted-sum (c .before .before .before .loop .inv) (line-next _ (places a) (c .before .before .before .before .six .ensures) _ _ (c .before .before .loop-test .taken)) (ended-size _ _ (c .size .ensures)), six-bound (a .args .t1) (places a))
+    omega (arith, counted-sum (c .before .before .before .loop .inv) (line-next _ (places a) (c .before .before .before .before .item-count .ensures) _ _ (c .before .before .loop-test .taken)) (ended-size _ _ (c .size .ensures)), longest-bound (a .args .t1) (places a))
 
 loop-again : tie.Need-loop-again Inv-loop μ-loop
 loop-again c =
     let a = c .before .before .before .before .before in
-    let next = line-next _ (places a) (c .before .before .before .before .six .ensures) _ _ (c .before .before .loop-test .taken) in
+    let next = line-next _ (places a) (c .before .before .before .before .item-count .ensures) _ _ (c .before .before .loop-test .taken) in
     counted-next (c .before .before .before .loop .inv) next (ended-size _ _ (c .size .ensures))
 
 returns : tie.Need-returns Inv-loop μ-loop
 returns c =
     let a = c .before .before .before in
-    counted-end (c .before .loop .inv) (line-end _ (places a) (c .before .before .six .ensures) _ (c .loop-test .left))
+    counted-end (c .before .loop .inv) (line-end _ (places a) (c .before .before .item-count .ensures) _ (c .loop-test .left))
 
 pub measure-spec : {M : Type 1} → statement M
 measure-spec =

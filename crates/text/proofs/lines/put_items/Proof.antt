@@ -5,8 +5,8 @@ use native.Mathlib.Omega.{arith}
 use borrow.Author.Needs.{needs}
 use lib.ListN.{length, drop, length-map}
 use Rattle.common.proofs.PutLoop.{Going, going-start, going-length, going-within, going-end, next-fits, going-sum, going-next}
-use Rattle.text.specs.Lines.{lineOf, itemsOf}
-use Rattle.text.proofs.Following.{line-next, line-end}
+use Rattle.text.specs.Lines.{mostItems, lineOf, itemsOf}
+use Rattle.text.proofs.ItemsInLine.{line-next, line-end}
 use Rattle.text.proofs.lines.put_items.Statement.{statement}
 use Rattle.text.proofs.lines.put_items.Tie as tie
 
@@ -19,15 +19,15 @@ abbrev μ-loop : tie.MeasureT-loop
 loop-holds : tie.Need-loop-holds Inv-loop μ-loop
 loop-holds c = going-start _ _
 
--- there are six places
-places : (a : tie.Start Inv-loop μ-loop) → length (a .args .t2 .at) ≡ 6
+-- there are places for all items
+places : (a : tie.Start Inv-loop μ-loop) → length (a .args .t2 .at) ≡ mostItems
 places a = sym (length-map (a .args .t2 .at) _) ∙ a .good .1 .0 .1 .1 .0 .1 .0 .1
 
 mul-slot : tie.Need-mul-slot Inv-loop μ-loop
-mul-slot c = omega (arith, c .before .before .six .ensures)
+mul-slot c = omega (arith, c .before .before .item-count .ensures)
 
 element-copy-out-slot : tie.Need-element-copy-out-slot Inv-loop μ-loop
-element-copy-out-slot c = omega (arith, c .before .before .six .ensures)
+element-copy-out-slot c = omega (arith, c .before .before .item-count .ensures)
 
 starts : tie.Need-part-put-ended-start Inv-loop μ-loop
 starts c = going-within (c .before .before .loop .inv) (c .before .before .before .before .before .pre)
@@ -35,17 +35,17 @@ starts c = going-within (c .before .before .loop .inv) (c .before .before .befor
 asks : tie.Need-put-ended-requires Inv-loop μ-loop
 asks c κs =
     let a = c .before .before .before .before .before .before in
-    next-fits (c .before .before .before .loop .inv) (a .pre) (line-next _ (places a) (c .before .before .before .before .six .ensures) _ _ (c .before .before .loop-test .taken))
+    next-fits (c .before .before .before .loop .inv) (a .pre) (line-next _ (places a) (c .before .before .before .before .item-count .ensures) _ _ (c .before .before .loop-test .taken))
 
 add-at : tie.Need-add-at Inv-loop μ-loop
 add-at c =
     let a = c .before .before .before .before .before .before .before .before .before in
-    omega (arith, going-sum (c .before .before .before .before .before .before .loop .inv) (a .pre) (line-next _ (places a) (c .before .before .before .before .before .before .before .six .ensures) _ _ (c .before .before .before .before .before .loop-test .taken)) (c .before .before .put-ended .ensures))
+    omega (arith, going-sum (c .before .before .before .before .before .before .loop .inv) (a .pre) (line-next _ (places a) (c .before .before .before .before .before .before .before .item-count .ensures) _ _ (c .before .before .before .before .before .loop-test .taken)) (c .before .before .put-ended .ensures))
 
 loop-again : tie.Need-loop-again Inv-loop μ-loop
 loop-again c =
     let a = c .before .before .before .before .before .before .before .before .before in
-    let next = line-next _ (places a) (c .before .before .before .before .before .before .before .six .ensures) _ _ (c .before .before .before .before .before .loop-test .taken) in
+    let next = line-next _ (places a) (c .before .before .before .before .before .before .before .item-count .ensures) _ _ (c .before .before .before .before .before .loop-test .taken) in
     going-next (c .before .before .before .before .before .before .loop .inv) (a .pre) next (c .before .before .put-ended .ensures)
 
 same-length : tie.Need-same-length Inv-loop μ-loop
@@ -54,7 +54,7 @@ same-length c = going-length (c .before .loop .inv) (c .before .before .before .
 returns : tie.Need-returns Inv-loop μ-loop
 returns c =
     let a = c .before .before .before .before in
-    going-end (c .before .loop .inv) (a .pre) (line-end _ (places a) (c .before .before .six .ensures) _ (c .loop-test .left))
+    going-end (c .before .loop .inv) (a .pre) (line-end _ (places a) (c .before .before .item-count .ensures) _ (c .loop-test .left))
 
 pub put-items-spec : {M : Type 1} → statement M
 put-items-spec =

@@ -4,7 +4,7 @@ use native.Mathlib.Omega.{arith}
 use borrow.Author.Needs.{needs}
 use Rattle.text.proofs.Bounds.{number-few}
 use Rattle.text.proofs.Ended.{number-is, word-is, name-is, rule-size}
-use Rattle.text.proofs.Standing.{stands-length}
+use Rattle.text.proofs.TextParts.{stands-length}
 use Rattle.text.proofs.lines.size.Statement.{statement}
 use Rattle.text.proofs.lines.size.Tie as tie
 

@@ -5,7 +5,7 @@ use Rattle.types.specs.Letters.{letters}
 use Rattle.types.specs.Table.{TypeRow, messages, typeRowIn, typeRowOf, nameOf}
 use Rattle.types.proofs.Gaps.{nameless-missed}
 use Rattle.text.specs.Parts.{inOneText, namesText}
-use Rattle.text.proofs.Standing.{standing}
+use Rattle.text.proofs.TextParts.{standing}
 use Rattle.text.proofs.words.name_part.Statement.{statement}
 use Rattle.text.proofs.words.name_part.Tie as tie
 

@@ -3,7 +3,7 @@ use borrow.Author.Needs.{needs}
 use Rattle.types.specs.Letters.{letters}
 use Rattle.types.specs.Table.{messages}
 use Rattle.text.specs.Parts.{inOneText, namesText}
-use Rattle.text.proofs.Standing.{stands-fits, stands-put}
+use Rattle.text.proofs.TextParts.{stands-fits, stands-put}
 use Rattle.text.proofs.words.put_name.Statement.{statement}
 use Rattle.text.proofs.words.put_name.Tie as tie
 

@@ -3,7 +3,7 @@ use borrow.Author.Needs.{needs}
 use Rattle.types.specs.Letters.{letters}
 use Rattle.text.specs.Words.{wordOf}
 use Rattle.text.specs.Parts.{words, inOneText, wordsText}
-use Rattle.text.proofs.Standing.{stands-fits, stands-put}
+use Rattle.text.proofs.TextParts.{stands-fits, stands-put}
 use Rattle.text.proofs.words.put_word.Statement.{statement}
 use Rattle.text.proofs.words.put_word.Tie as tie
 

@@ -4,7 +4,7 @@ use borrow.Author.Needs.{needs}
 use Rattle.types.specs.Letters.{letters}
 use Rattle.text.specs.Words.{wordOf}
 use Rattle.text.specs.Parts.{words, inOneText, wordsText}
-use Rattle.text.proofs.Standing.{standing}
+use Rattle.text.proofs.TextParts.{standing}
 use Rattle.text.proofs.words.word_part.Statement.{statement}
 use Rattle.text.proofs.words.word_part.Tie as tie
 

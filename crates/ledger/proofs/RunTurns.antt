@@ -30,8 +30,8 @@ use Rattle.ledger.specs.declared.Found.the-variants.{At, Missing}
 use Rattle.ledger.proofs.Facts.{parts, ledger-used}
 use Rattle.ledger.proofs.Gates.{gate-passed}
 use Rattle.ledger.proofs.Finds.{found-used, by-place}
-use Rattle.ledger.proofs.Naming.{take-map, find-map}
-use Rattle.ledger.proofs.Taking.{no-alias, by-row, answered}
+use Rattle.ledger.proofs.AliasesFound.{take-map, find-map}
+use Rattle.ledger.proofs.CodePaths.{no-alias, by-row, answered}
 use Rattle.ledger.proofs.Keeps.{keeps-arrival}
 
 -- ---- arrivals in a list of numbers

@@ -8,7 +8,7 @@ use borrow.Author.Tests.{eqb-true, ne-eqb, not-true, leb-true}
 use lib.Dec.{eqb, leb, ltb}
 use Rattle.common.specs.Choice.{pick}
 use Rattle.common.specs.Lists.{Each}
-use Rattle.layout.proofs.Back.{both-true}
+use Rattle.common.proofs.Tests.{both-each}
 use Rattle.message.specs.declared.Message.the-variants.{Subscription, Fetch, Announce, Session}
 use Rattle.row.specs.Rows.{isRow}
 use Rattle.row.specs.declared.Row.{Row}
@@ -17,15 +17,15 @@ use Rattle.ledger.specs.Steps.{idOf, aliasOf, newRow, broken, replied}
 use Rattle.ledger.specs.declared.Ledger.{Ledger}
 use Rattle.ledger.specs.declared.Rule.{Rule}
 use Rattle.ledger.proofs.Facts.{parts}
-use Rattle.ledger.specs.Keys.{Change, now, put, turn}
+use Rattle.ledger.specs.Keys.{Change, now, instead, turn}
 use Rattle.ledger.specs.Views.{View, Seen, viewOf}
 use Rattle.view.specs.Events.{Event, message, malformed, arrival, comes}
 use Rattle.view.proofs.LedgersFollow.{seen-by}
 use Rattle.history.specs.Deeds.{Deed, nothing, deedIn}
 use Rattle.history.specs.Ledgers.{nextBy, maximumBy}
 use Rattle.ledger.proofs.Rises.{has-not}
-use Rattle.history.proofs.Moves.{Quiet, not-a-ledger, quiet, withRows, counting, Turns, opens, frees, Moves, stayed, broke, turned, taken, raised, moves}
-use Rattle.history.proofs.Telling.{made, every, new}
+use Rattle.history.proofs.EventCases.{Quiet, not-a-ledger, quiet, withRows, counting, Turns, opens, frees, Moves, stayed, broke, turned, taken, raised, moves}
+use Rattle.history.proofs.RowsByDeeds.{made, every, new}
 
 -- ---- no two rows have one number
 
@@ -44,16 +44,16 @@ alias-lone : (rs : List Row) → distinct rs ≡ true → Lone aliasOf rs
 unfolding distinct
 alias-lone [] e = tt
 alias-lone (r ∷ rs) e =
-    let (fresh, more) = both-true (not (hasAlias (r .alias) rs)) (distinct rs) e in
+    let (fresh, more) = both-each (not (hasAlias (r .alias) rs)) (distinct rs) e in
     (alias-others (r .alias) rs (not-true (hasAlias (r .alias) rs) fresh), alias-lone rs more)
 
 -- the first of rows that rise, and those behind it
 rising-first : (low next : ℕ) (r : Row) (rs : List Row) → rising low next (r ∷ rs) ≡ true → (low ≤ r .id) × (rising (r .id + 1) next rs ≡ true)
 unfolding rising
 rising-first low next r rs e =
-    let (above, e₁) = both-true (leb low (r .id)) _ e in
-    let (_, e₂) = both-true (ltb (r .id) next) _ e₁ in
-    let (_, more) = both-true (isRow r) _ e₂ in
+    let (above, e₁) = both-each (leb low (r .id)) _ e in
+    let (_, e₂) = both-each (ltb (r .id) next) _ e₁ in
+    let (_, more) = both-each (isRow r) _ e₂ in
     (leb-true low (r .id) above, more)
 
 id-others : (n low next : ℕ) (rs : List Row) → n + 1 ≤ low → rising low next rs ≡ true → Others idOf n rs
@@ -83,9 +83,9 @@ module _ (key : Row → ℕ) (n : ℕ) (f : Row → Change Row) where
   turn-every [] h = refl
   turn-every (r ∷ rs) h = go (eqb (key r) n) refl (turn-every rs (h .1))
     where
-      go : (b : Bool) → eqb (key r) n ≡ b → turn key n f rs ≡ every at rs → pick b (put (f r) rs) (r ∷ turn key n f rs) ≡ put (pick b (f r) (now r)) (every at rs)
+      go : (b : Bool) → eqb (key r) n ≡ b → turn key n f rs ≡ every at rs → pick b (instead (f r) rs) (r ∷ turn key n f rs) ≡ instead (pick b (f r) (now r)) (every at rs)
       go true e ih =
-          ap (put (f r)) (sym (every-other rs (subst (λ (k : ℕ). Others key k rs) (eqb-true (key r) n e) (h .0))))
+          ap (instead (f r)) (sym (every-other rs (subst (λ (k : ℕ). Others key k rs) (eqb-true (key r) n e) (h .0))))
       go false e ih = ap (λ (xs : List Row). r ∷ xs) ih
 
 every-now : (rs : List Row) → every now rs ≡ rs

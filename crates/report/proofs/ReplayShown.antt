@@ -9,7 +9,7 @@ use Rattle.text.specs.Lines.{lineOf, placed, itemsOf, putText}
 use Rattle.text.specs.declared.Line.{Line}
 use Rattle.text.proofs.Placing.{items-placed}
 use Rattle.replay.specs.Progressing.{begun, fed, finishOf, replayOf, fedOf}
-use Rattle.replay.proofs.Rests.{rest-few}
+use Rattle.replay.proofs.WhatIsLeft.{rest-few}
 use Rattle.replay.specs.declared.Fed.{Fed}
 use Rattle.replay.specs.declared.Stage.the-variants.{Empty, Running, Faulty}
 use Rattle.replay.specs.declared.Progress.{Progress}

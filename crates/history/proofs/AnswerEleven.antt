@@ -20,7 +20,7 @@ use Rattle.ledger.specs.Steps.{idOf, aliasOf, takeOf, broken, replied, subscrib
 use Rattle.ledger.specs.declared.Ledger.{Ledger}
 use Rattle.ledger.specs.declared.Rule.{Rule}
 use Rattle.ledger.proofs.Facts.{parts, ledger-used}
-use Rattle.ledger.proofs.Parts.{held-long}
+use Rattle.ledger.proofs.PartsOfLists.{held-long}
 use Rattle.ledger.specs.Keys.{Change, turn}
 use Rattle.ledger.specs.Views.{View, Seen, viewOf}
 use Rattle.view.specs.Events.{Event, message, comes, isSound}
@@ -31,9 +31,9 @@ use Rattle.view.proofs.Guards.{passed}
 use Rattle.history.specs.Events.{ledgerAfter, logOf}
 use Rattle.history.specs.Deeds.{Deed, deedIn}
 use Rattle.history.specs.Takings.{NoneTaken}
-use Rattle.history.proofs.Keeping.{run-keeps}
+use Rattle.history.proofs.Keeping.{history-keeps}
 use Rattle.ledger.proofs.Rises.{has-turn}
-use Rattle.history.proofs.Moves.{withRows, counting, Turns, opens, frees, Moves, stayed, broke, counted, turned, taken, raised, ledger-moves}
+use Rattle.history.proofs.EventCases.{withRows, counting, Turns, opens, frees, Moves, stayed, broke, counted, turned, taken, raised, ledger-moves}
 
 -- nothing but the rows in use stands against a SUBSCRIBE
 record Waits (m : Subscribe) (v : View) : Type 0 where
@@ -125,7 +125,7 @@ eleven-ledger l e h = go (isLedger l) refl
 pub promised : (l : Ledger) (m : Subscribe) (es : List Event) → takeOf l (Subscription (ASubscribe m)) .says ≡ noRule 11 → NoneTaken (logOf l es) → isOpen (ledgerAfter l es .session) ≡ true → ledgerAfter l es .used < ledgerAfter l es .capacity → takeOf (ledgerAfter l es) (Subscription (ASubscribe m)) .says ≡ noRule 8
 promised l m es eleven none o free =
     let w = eleven-ledger l (asking m) eleven in
-    let v = run-keeps l es w in
+    let v = history-keeps l es w in
     let (waits, sound) = eleven-waits (viewOf l) m (sym (ap (λ (s : Seen). s .says) (ledger-follows l (asking m) w)) ∙ eleven) in
     let few : length (held (ledgerAfter l es)) < ledgerAfter l es .capacity = omega (arith, held-long (ledgerAfter l es) (parts (ledgerAfter l es) v .long) (ledger-used (ledgerAfter l es) v)) in
     ap (λ (s : Seen). s .says) (ledger-follows (ledgerAfter l es) (asking m) v)

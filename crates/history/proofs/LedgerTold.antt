@@ -25,8 +25,8 @@ use Rattle.history.specs.Deeds.{deedOf}
 use Rattle.history.specs.Rows.{rowsOf}
 use Rattle.history.specs.Ledgers.{through, nextBy, maximumBy, ShownBy}
 use Rattle.history.proofs.Closing.{kept-after}
-use Rattle.history.proofs.Telling.{laters, no-laters, laters-none, laters-on}
-use Rattle.history.proofs.Doing.{Did, did}
+use Rattle.history.proofs.RowsByDeeds.{laters, no-laters, laters-none, laters-on}
+use Rattle.history.proofs.DeedsDone.{Did, did}
 
 -- ---- from any ledger
 

@@ -13,7 +13,7 @@ use lib.ListN.{length, getD, take, drop, length-append, length-map, length-take,
 use lib.Seq.{drop-cons, getD-take, append-snoc}
 use Rattle.common.specs.Choice.{pick}
 use Rattle.common.proofs.PutLoop.{Next}
-use Rattle.text.specs.Lines.{itemOf, endedOf, isNone, lineOf, slot, itemsOf}
+use Rattle.text.specs.Lines.{mostItems, itemOf, endedOf, isNone, lineOf, slot, itemsOf}
 use Rattle.text.specs.declared.Item.{Item}
 use Rattle.text.specs.declared.Slot.{Slot}
 use Rattle.text.specs.declared.Line.{Line}
@@ -41,11 +41,11 @@ last-is items d i h =
     (eq-or-lt-of-le k)
 
 -- as many as are used, and no more than there are places
-pub items-count : (line : Line) → length (line .at) ≡ 6 → length (itemsOf line) ≡ min (line .used) 6
+pub items-count : (line : Line) → length (line .at) ≡ mostItems → length (itemsOf line) ≡ min (line .used) mostItems
 unfolding itemsOf
 items-count line l = length-map (take (line .used) (line .at)) slot ∙ length-take (line .used) (line .at) ∙ rw l
 
-module _ (line : Line) (l : length (line .at) ≡ 6) {n : ℕ} (e : n ≡ min (line .used) 6) (i : ℕ) where
+module _ (line : Line) (l : length (line .at) ≡ mostItems) {n : ℕ} (e : n ≡ min (line .used) mostItems) (i : ℕ) where
   module _ (d : Slot) (h : i < n) where
     -- the i-th, and those behind it
     item-next : drop i (itemsOf line) ≡ slot (getD (line .at) i d) ∷ drop (i + 1) (itemsOf line)

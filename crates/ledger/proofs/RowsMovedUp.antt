@@ -10,7 +10,7 @@ use Rattle.row.specs.Rows.{unusedRow}
 use Rattle.row.specs.declared.Row.{Row}
 use Rattle.ledger.specs.Arrays.{withRows, freed}
 use Rattle.ledger.specs.declared.Ledger.{Ledger}
-use Rattle.ledger.proofs.Parts.{rest-next, rest-end}
+use Rattle.ledger.proofs.PartsOfLists.{rest-next, rest-end}
 
 -- a list without its i-th element
 unfoldable pub gone : {A : Type 0} → List A → ℕ → List A

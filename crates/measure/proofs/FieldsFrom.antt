@@ -11,7 +11,7 @@ use lib.Seq.{take-all, drop-cons, getD-take, length-take-le}
 use Rattle.common.proofs.Cases.{pick-by}
 use Rattle.field.specs.declared.Piece.{Piece}
 use Rattle.field.specs.declared.Piece.the-variants.{Number}
-use Rattle.measure.specs.Fields.{slot, fieldsOf, tenOf}
+use Rattle.measure.specs.Fields.{mostPieces, slot, fieldsOf, pieceCount}
 use Rattle.measure.specs.declared.Slot.{Slot}
 use Rattle.measure.specs.declared.Fields.{Fields}
 
@@ -27,41 +27,41 @@ pub fieldsFrom : Fields → ℕ → List Piece
 fieldsFrom f i = map slot (drop i (take (f .used) (f .at)))
 
 -- how many there are: no more than places, and no more than are used
-pub ten-most : (n : ℕ) → (tenOf n ≤ 10) × (tenOf n ≤ n)
-unfolding tenOf
-ten-most n =
-    pick-by (λ k. (k ≤ 10) × (k ≤ n)) (ltb n 10)
-    (λ e. let h = ltb-true n 10 e in (omega arith, omega arith))
-    (λ e. let h = ltb-false n 10 e in (omega arith, omega arith))
+pub count-most : (n : ℕ) → (pieceCount n ≤ mostPieces) × (pieceCount n ≤ n)
+unfolding pieceCount
+count-most n =
+    pick-by (λ k. (k ≤ mostPieces) × (k ≤ n)) (ltb n mostPieces)
+    (λ e. let h = ltb-true n mostPieces e in (omega arith, omega arith))
+    (λ e. let h = ltb-false n mostPieces e in (omega arith, omega arith))
 
 -- as many are in their places
-ten-are : (f : Fields) → length (f .at) ≡ 10 → length (take (f .used) (f .at)) ≡ tenOf (f .used)
-unfolding tenOf
-ten-are f l =
-    pick-by (λ k. length (take (f .used) (f .at)) ≡ k) (ltb (f .used) 10)
-    (λ e. length-take-le (f .used) (f .at) (omega (arith, ltb-true (f .used) 10 e)))
-    (λ e. rw (take-all (f .used) (f .at) (omega (arith, ltb-false (f .used) 10 e))) l)
+count-is : (f : Fields) → length (f .at) ≡ mostPieces → length (take (f .used) (f .at)) ≡ pieceCount (f .used)
+unfolding pieceCount
+count-is f l =
+    pick-by (λ k. length (take (f .used) (f .at)) ≡ k) (ltb (f .used) mostPieces)
+    (λ e. length-take-le (f .used) (f .at) (omega (arith, ltb-true (f .used) mostPieces e)))
+    (λ e. rw (take-all (f .used) (f .at) (omega (arith, ltb-false (f .used) mostPieces e))) l)
 
 -- from the first on, they are all
 pub from-first : (f : Fields) → fieldsFrom f 0 ≡ fieldsOf f
 unfolding fieldsFrom fieldsOf
 from-first f = refl
 
-module _ (f : Fields) (i : ℕ) (l : length (f .at) ≡ 10) where
+module _ (f : Fields) (i : ℕ) (l : length (f .at) ≡ mostPieces) where
   -- the i-th, and those behind it
-  pub from-next : (d : Slot) → i < tenOf (f .used) → fieldsFrom f i ≡ slot (getD (f .at) i d) ∷ fieldsFrom f (i + 1)
+  pub from-next : (d : Slot) → i < pieceCount (f .used) → fieldsFrom f i ≡ slot (getD (f .at) i d) ∷ fieldsFrom f (i + 1)
   unfolding fieldsFrom
   from-next d h =
-      let t = ten-most (f .used) in
-      rw (add-one i, drop-cons (take (f .used) (f .at)) i d (omega (arith, ten-are f l)), getD-take (f .used) (f .at) i d (omega arith))
+      let t = count-most (f .used) in
+      rw (add-one i, drop-cons (take (f .used) (f .at)) i d (omega (arith, count-is f l)), getD-take (f .used) (f .at) i d (omega arith))
 
   -- behind the last there are none
-  pub from-last : tenOf (f .used) ≤ i → fieldsFrom f i ≡ []
+  pub from-last : pieceCount (f .used) ≤ i → fieldsFrom f i ≡ []
   unfolding fieldsFrom
-  from-last h = rw (drop-of-length-le (take (f .used) (f .at)) {i = i} (omega (arith, ten-are f l)))
+  from-last h = rw (drop-of-length-le (take (f .used) (f .at)) {i = i} (omega (arith, count-is f l)))
 
 -- so they are a row
-pub fields-row : (f : Fields) (d : Slot) → length (f .at) ≡ 10 → Row (fieldsFrom f) (tenOf (f .used)) (λ i. slot (getD (f .at) i d))
+pub fields-row : (f : Fields) (d : Slot) → length (f .at) ≡ mostPieces → Row (fieldsFrom f) (pieceCount (f .used)) (λ i. slot (getD (f .at) i d))
 fields-row f d l = record { next = λ i h. from-next f i l d h; last = λ i h. from-last f i l h }
 
 -- ---- numbers

@@ -160,9 +160,9 @@ module _ (s : List ℕ) where
     unfolding startIn
     trace-starts = first .0
 
-    pub run-follows : replayOf s .ledger ≡ ledgerAfter (startIn s) (historyOf s)
+    pub replay-follows : replayOf s .ledger ≡ ledgerAfter (startIn s) (historyOf s)
     unfolding finishOf all-told
-    run-follows = rw run-is (all-follows .ledger)
+    replay-follows = rw run-is (all-follows .ledger)
 
     pub answers-follow : answersOf s ≡ linesOf 0 (traceFields s) (noRule 8 ∷ map verdictIn (logOf (startIn s) (historyOf s)))
     unfolding answersOf lastText endItems finishOf lineOf all-told

@@ -21,7 +21,7 @@ use Rattle.row.specs.declared.State.the-variants.{Pending, Active}
 use Rattle.row.specs.declared.Greatest.{Greatest}
 use Rattle.row.specs.declared.Greatest.the-variants.{Nowhere, At}
 use Rattle.ledger.specs.Steps.{newRow}
-use Rattle.ledger.specs.Keys.{Change, gone, now, put}
+use Rattle.ledger.specs.Keys.{Change, gone, now, instead}
 use Rattle.history.specs.Events.{Logged}
 use Rattle.history.specs.Deeds.{Deed, asked, opened, ended, raised, counted, nothing, deedOf}
 use Rattle.history.specs.Rows.{ends, opens, counts, isEnded, given, stateOf, settled, greatestOf, rowOf, adds, rowsOf}
@@ -40,7 +40,7 @@ made nothing r = now r
 -- of each row,
 unfoldable pub every : (Row → Change Row) → List Row → List Row
 every f [] = []
-every f (r ∷ rs) = put (f r) (every f rs)
+every f (r ∷ rs) = instead (f r) (every f rs)
 
 -- and the row that it adds
 abbrev pub new : Deed → List Row
@@ -214,7 +214,7 @@ module _ (t : Logged) (ts : List Logged) where
       others : List Row
       others = every (made (deedOf t)) rs
 
-      go : (c : Change Row) → laters (put c others) ts ≡ behind (later ts) c ++ laters others ts
+      go : (c : Change Row) → laters (instead c others) ts ≡ behind (later ts) c ++ laters others ts
       go gone = refl
       go (now x) = refl
 

@@ -11,7 +11,7 @@ use Rattle.common.proofs.PutLoop.{Going, Next, going-start, going-within, going
 use Rattle.integer.specs.Integer.{greatest}
 use Rattle.field.specs.Outcome.{whole}
 use Rattle.field.specs.Entries.{size, entryAt}
-use Rattle.field.specs.Value.{part, itemsOf, contents, encItems}
+use Rattle.field.specs.Value.{part, entryValues, contents, encItems}
 use Rattle.field.specs.Told.{toldEntry}
 use Rattle.field.specs.declared.Entries.{Entries}
 use Rattle.field.specs.declared.Entry.{Entry}
@@ -22,15 +22,15 @@ use Rattle.field.specs.declared.Kind.{Kind}
 use Rattle.field.proofs.Found.{EntryAt, entry-at}
 use Rattle.field.proofs.Lengths.{length-part}
 use Rattle.measure.specs.Judging.{rightList}
-use Rattle.measure.proofs.Runs.{Run, run-first, run-next, items-next, items-none}
+use Rattle.measure.proofs.EntriesFrom.{Run, run-first, run-next, items-next, items-none}
 use Rattle.measure.proofs.Lists.{holds}
 use Rattle.encode.specs.Entries.{encHead}
 use Rattle.encode.proofs.Copies.{copy-put}
-use Rattle.encode.proofs.Items.{head-is}
+use Rattle.encode.proofs.EntryForms.{head-is}
 
 -- so many entries from an offset on are there, and left to be put
 pub record Entering (kind : Kind) (s all before out : List ℕ) (at here left : ℕ) : Type 0 where
-  pub going : Going all before out at (encItems kind (itemsOf kind left s here))
+  pub going : Going all before out at (encItems kind (entryValues kind left s here))
   pub run : Run kind left s here
 
 -- and the next of them was found
@@ -64,7 +64,7 @@ module _ {kind : Kind} {s all before out : List ℕ} {at here left : ℕ} (g : E
 
 -- those of the entries behind it
 abbrev others : Kind → List ℕ → ℕ → Entry → List ℕ
-others kind s left e = encItems kind (itemsOf kind (left - 1) s (e .bytes .end))
+others kind s left e = encItems kind (entryValues kind (left - 1) s (e .bytes .end))
 
 module _ {kind : Kind} {s all before out : List ℕ} {at here left : ℕ} {e : Entry} (w : Turn kind s all before out at here left e) where
   -- what was found, by its parts
@@ -72,7 +72,7 @@ module _ {kind : Kind} {s all before out : List ℕ} {at here left : ℕ} {e : E
   parts = entry-at kind greatest s here (w .found)
 
   -- the numbers come first,
-  head-next : Next (encHead kind (e .number) (size (e .bytes))) (part s (e .bytes) ++ others kind s left e) (encItems kind (itemsOf kind left s here))
+  head-next : Next (encHead kind (e .number) (size (e .bytes))) (part s (e .bytes) ++ others kind s left e) (encItems kind (entryValues kind left s here))
   head-next =
       record { joins = items-next kind left s here (w .more) (w .found) ∙ ap (λ (x : List ℕ). x ++ others kind s left e) (sym (head-is kind s here (w .found))) ∙ append-assoc (encHead kind (e .number) (size (e .bytes))) (part s (e .bytes)) _ }
 

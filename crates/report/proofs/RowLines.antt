@@ -22,7 +22,7 @@ use Rattle.report.specs.Report.{rowsText, ledgerText, longestReport}
 
 -- ---- how long lines are
 
-session-bound : (session : Session) (rows : ℕ) → length (lineOf (sessionLine session rows)) ≤ 102
+session-bound : (session : Session) (rows : ℕ) → length (lineOf (sessionLine session rows)) ≤ longestLine
 session-bound Open rows = omega (arith, line-bound (sessionLine Open rows))
 session-bound (Closed rule) rows = omega (arith, line-bound (sessionLine (Closed rule) rows))
 

@@ -13,7 +13,7 @@ use Rattle.field.specs.Value.{mean, encField, encode}
 use Rattle.field.specs.declared.Piece.{Piece}
 use Rattle.measure.specs.Judging.{right}
 use Rattle.measure.specs.Measuring.{rightAll, encodeAll}
-use Rattle.measure.proofs.Rows.{Row}
+use Rattle.measure.proofs.FieldsFrom.{Row}
 use Rattle.measure.proofs.Joins.{right-joined, encode-joined}
 use Rattle.encode.proofs.Pieces.{Asks}
 

@@ -8,7 +8,7 @@ use Rattle.common.proofs.Puts.{Room}
 use Rattle.integer.specs.Integer.{encOf, greatest}
 use Rattle.field.specs.Outcome.{whole}
 use Rattle.field.specs.Entries.{size, numberAt, entryAt}
-use Rattle.field.specs.Value.{part, item, encText, encItem}
+use Rattle.field.specs.Value.{part, entryValue, encText, encItem}
 use Rattle.field.specs.declared.Entry.{Entry}
 use Rattle.field.specs.declared.Kind.{Kind}
 use Rattle.field.specs.declared.Kind.the-variants.{Namespace, Parameters, Versions}
@@ -37,7 +37,7 @@ module _ (kind : Kind) (number n : ℕ) where
 -- ---- and then the bytes
 
 -- an entry that was found is both
-pub head-is : (kind : Kind) (s : List ℕ) (at : ℕ) {e : Entry} {next : ℕ} → entryAt kind greatest s at ≡ whole e next → encHead kind (e .number) (size (e .bytes)) ++ part s (e .bytes) ≡ encItem kind (item s e)
+pub head-is : (kind : Kind) (s : List ℕ) (at : ℕ) {e : Entry} {next : ℕ} → entryAt kind greatest s at ≡ whole e next → encHead kind (e .number) (size (e .bytes)) ++ part s (e .bytes) ≡ encItem kind (entryValue s e)
 unfolding encHead encItem encText entryAt
 head-is Namespace s at {e} f =
     let i = entry-at Namespace greatest s at f in

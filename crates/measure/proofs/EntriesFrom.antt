@@ -10,7 +10,7 @@ use lib.ListN.{length}
 use Rattle.integer.specs.Integer.{greatest}
 use Rattle.field.specs.Outcome.{whole, no}
 use Rattle.field.specs.Entries.{size, entryAt, mostOf, entriesAt}
-use Rattle.field.specs.Value.{item, itemsOf, total, encItem, encItems}
+use Rattle.field.specs.Value.{entryValue, entryValues, total, encItem, encItems}
 use Rattle.field.specs.declared.Entry.{Entry}
 use Rattle.field.specs.declared.Fault.{Fault}
 use Rattle.field.specs.declared.Kind.{Kind}
@@ -24,11 +24,11 @@ pub record Run (kind : Kind) (count : ℕ) (s : List ℕ) (at : ℕ) : Type 0 wh
   pub runs : entriesAt false kind count earlier s at ≡ whole held end
 
 -- they are as many items,
-pub items-length : {kind : Kind} (count : ℕ) {s : List ℕ} {at : ℕ} → Run kind count s at → length (itemsOf kind count s at) ≡ count
+pub items-length : {kind : Kind} (count : ℕ) {s : List ℕ} {at : ℕ} → Run kind count s at → length (entryValues kind count s at) ≡ count
 items-length {kind} count {s} {at} r = run-at false kind count (r .earlier) s at (r .runs) .counted
 
 -- which hold what was counted
-pub items-held : {kind : Kind} (count : ℕ) {s : List ℕ} {at : ℕ} (r : Run kind count s at) → r .held ≡ r .earlier + total (itemsOf kind count s at)
+pub items-held : {kind : Kind} (count : ℕ) {s : List ℕ} {at : ℕ} (r : Run kind count s at) → r .held ≡ r .earlier + total (entryValues kind count s at)
 items-held {kind} count {s} {at} r = run-at false kind count (r .earlier) s at (r .runs) .sum
 
 -- ---- the first entry, and the others
@@ -50,12 +50,12 @@ run-next (suc count) {e = e} r h f =
     record { earlier = r .earlier + size (e .bytes); held = r .held; end = r .end; runs = rw sub-one (rw f at (r .runs)) }
 
 -- also in the shortest form
-pub items-next : (kind : Kind) (count : ℕ) (s : List ℕ) (at : ℕ) {e : Entry} {next : ℕ} → 0 < count → entryAt kind greatest s at ≡ whole e next → encItems kind (itemsOf kind count s at) ≡ encItem kind (item s e) ++ encItems kind (itemsOf kind (count - 1) s next)
-unfolding itemsOf encItems
+pub items-next : (kind : Kind) (count : ℕ) (s : List ℕ) (at : ℕ) {e : Entry} {next : ℕ} → 0 < count → entryAt kind greatest s at ≡ whole e next → encItems kind (entryValues kind count s at) ≡ encItem kind (entryValue s e) ++ encItems kind (entryValues kind (count - 1) s next)
+unfolding entryValues encItems
 items-next kind zero s at h f = absurd (not-suc-le-zero h)
 items-next kind (suc count) s at h f = rw (sub-one, f)
 
 -- and where there are none, nothing is to be put
-pub items-none : (kind : Kind) (s : List ℕ) (at : ℕ) → encItems kind (itemsOf kind 0 s at) ≡ []
-unfolding itemsOf encItems
+pub items-none : (kind : Kind) (s : List ℕ) (at : ℕ) → encItems kind (entryValues kind 0 s at) ≡ []
+unfolding entryValues encItems
 items-none kind s at = refl

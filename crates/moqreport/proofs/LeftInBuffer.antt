@@ -7,7 +7,7 @@ use lib.ListN.{length, take, length-take}
 use Rattle.replay.specs.Advancing.{advanceOf, Advances}
 use Rattle.replay.specs.declared.Advanced.{Advanced}
 use Rattle.replay.specs.declared.Progress.{Progress}
-use Rattle.replay.proofs.Rests.{rest-few}
+use Rattle.replay.proofs.WhatIsLeft.{rest-few}
 
 pub left-within : (p : Progress) (before : List ℕ) (filled : ℕ) {r : Advanced} {after : List ℕ} → Advances (advanceOf p before filled) r after → r .left ≤ length before
 unfolding advanceOf

@@ -15,7 +15,7 @@ use Rattle.measure.specs.Measuring.{rightAll, sizedAll, encodeAll, measu
 use Rattle.measure.specs.declared.Measured.{Measured}
 use Rattle.measure.specs.declared.Measured.the-variants.{Takes}
 use Rattle.measure.proofs.Judges.{fit-within, judged-joined}
-use Rattle.measure.proofs.Rows.{Row}
+use Rattle.measure.proofs.FieldsFrom.{Row}
 
 -- the judgement found is of the fields before, which with those that are left are all
 pub record SoFar (s : List ℕ) (all left : List Piece) (room : ℕ) (found : Measured) : Type 0 where

@@ -6,6 +6,7 @@ use mathlib.Core.Bool.{Bool, false, not}
 use lib.ListN.{length}
 use borrow.Author.Tests.{lt-ltb, le-ltb}
 use Rattle.common.specs.Answer.{Answer, whole as answered, refused}
+use Rattle.common.proofs.Tests.{kept}
 use Rattle.field.specs.Outcome.{Outcome, whole, answer}
 use Rattle.field.specs.Fields.{integer, fieldAt}
 use Rattle.field.specs.Told.{toldNumber}
@@ -16,9 +17,9 @@ use Rattle.field.specs.declared.Piece.{Piece}
 use Rattle.field.specs.declared.Piece.the-variants.{Number}
 use Rattle.layout.specs.Layout.{scan}
 use Rattle.layout.specs.Typed.{Typed, led, typed}
-use Rattle.layout.proofs.Steps.{To, Stops, there, is-whole, is-no, number-then, kept}
+use Rattle.layout.proofs.Steps.{To, Stops, there, is-whole, is-no, number-then}
 use Rattle.header.specs.Rules.{isObjectStatus}
-use Rattle.header.specs.Layouts.{objectDatagram, status, datagramStatus, datagrams}
+use Rattle.header.specs.Layouts.{objectDatagram, status, datagramStatus, «OBJECT_DATAGRAM_STATUS», datagrams}
 use Rattle.header.specs.Told.{objectPieces, datagramTyped, toldObject}
 use Rattle.header.specs.Reading.{headedOf, endedDatagram, datagramOf}
 use Rattle.header.specs.declared.ObjectDatagram.{ObjectDatagram}
@@ -34,16 +35,16 @@ unfolding datagramOf
 is-open s h e = e ∙ ap (endedDatagram (length s)) h
 
 -- and one with a status, by its reader
-pub has-status : (s : List ℕ) {r : NumberRead} {n at : ℕ} {a : Answer Typed} → r ≡ WholeNumber n at → toldNumber r ≡ fieldAt integer s 0 → n ≡ 0x2 → a ≡ endedDatagram (length s) (answer 4 (typed 0x2 (scan datagramStatus s at))) → a ≡ datagramOf s
+pub has-status : (s : List ℕ) {r : NumberRead} {n at : ℕ} {a : Answer Typed} → r ≡ WholeNumber n at → toldNumber r ≡ fieldAt integer s 0 → n ≡ «OBJECT_DATAGRAM_STATUS» .number → a ≡ endedDatagram (length s) (answer 4 (typed («OBJECT_DATAGRAM_STATUS» .number) (scan datagramStatus s at))) → a ≡ datagramOf s
 unfolding datagramOf datagrams
 has-status s read said is e = e ∙ ap (endedDatagram (length s)) (headed-is 4 datagrams s said read is refl refl)
 
 module _ (s : List ℕ) (at : ℕ) where
   -- what a datagram with a status comes to, by its fields
   abbrev Closes : Answer Typed → Type 0
-  Closes a = a ≡ endedDatagram (length s) (answer 4 (typed 0x2 (scan datagramStatus s at)))
+  Closes a = a ≡ endedDatagram (length s) (answer 4 (typed («OBJECT_DATAGRAM_STATUS» .number) (scan datagramStatus s at)))
 
-  by-fields : {o : Outcome (List Piece)} {a : Answer Typed} → o ≡ scan datagramStatus s at → a ≡ endedDatagram (length s) (answer 4 (typed 0x2 o)) → Closes a
+  by-fields : {o : Outcome (List Piece)} {a : Answer Typed} → o ≡ scan datagramStatus s at → a ≡ endedDatagram (length s) (answer 4 (typed («OBJECT_DATAGRAM_STATUS» .number) o)) → Closes a
   by-fields h e = rw (← h) e
 
   module _ {r : ObjectRead} (said : toldObject r ≡ scan objectDatagram s at) where
