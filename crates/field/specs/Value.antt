@@ -87,7 +87,7 @@ unfoldable pub encode : List Value → List ℕ
 encode [] = []
 encode (v ∷ vs) = encField v ++ encode vs
 
--- how many bytes an entry takes that has a number and holds so many bytes
+-- how many bytes an entry takes that has a number and holds that many bytes
 unfoldable pub itemSize : Kind → ℕ → ℕ → ℕ
 itemSize Namespace n held = length (encOf held) + held
 itemSize Parameters n held = length (encOf n) + (length (encOf held) + held)

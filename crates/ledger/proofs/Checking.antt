@@ -50,7 +50,7 @@ module _ (l : Ledger) (low i : ℕ) (long : length (l .rows) ≡ 64) (few : l .u
 pub Apart : Ledger → ℕ → Type 0
 Apart l i = distinct (drop i (held l)) ≡ distinct (held l)
 
--- the i-th alias isn't held by the rows behind it, as far as the j-th
+-- the i-th alias isn't held by the rows after it, as far as the j-th
 pub Lone : Ledger → ℕ → ℕ → ℕ → Type 0
 Lone l alias i j = both (not (hasAlias alias (drop j (held l)))) (distinct (drop (i + 1) (held l))) ≡ distinct (held l)
 

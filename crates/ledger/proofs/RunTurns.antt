@@ -201,7 +201,7 @@ module _ {start : Ledger} {run before names : List ℕ} {opened : Bool} {used : 
             pub counted-turn : (w : Arriving) {r : Row} {m : ℕ} → toldArriving w (rowAt l i) ≡ arriveOf (rowAt l i) (arrivalAt run (3 * k) .place) → r ≡ leftBy w (rowAt l i) → m ≡ arrivedNumber w → Along start run before names opened used (set answers k m) (changed l i r) (k + 1)
             counted-turn w came left number = taken-turn (rw (left, number) (answered l (g .is) (arrivalAt run (3 * k)) by-alias at {v = w} came {u = w} refl))
 
-  -- behind the last
+  -- after the last
   module _ {count : ℕ} (e : count ≡ length run / 3) (all : count ≤ k) (to : k ≤ count) where
     over-all : arrivalsIn (drop (3 * k) run) ≡ []
     over-all =
@@ -249,7 +249,7 @@ no-room l run before valid e h =
     let short = lt-leb (length (arrivalsIn run)) (length before) (omega (arith, thirds run)) in
     record { says = rw (valid, short); next = rw (valid, short); holds = rw (valid, short) }
 
--- where there is room, the ledger behind a run is that behind its arrivals, also of what is no ledger
+-- where there is room, the ledger after a run is that after its arrivals, also of what is no ledger
 pub run-behind : (l : Ledger) (run before : List ℕ) → length (arrivalsIn run) ≤ length before → runOf l run before .next ≡ afterArrivals l (arrivalsIn run)
 unfolding runOf
 run-behind l run before room = go (isLedger l) refl
