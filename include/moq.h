@@ -73,8 +73,8 @@ uint64_t moq_fetch_object_rewrite(const uint8_t *s, size_t s_len, uint8_t *out, 
 
    info[0]: the bytes written. A trace that is at fault has a text too, which says where. 7: info has no value, or out is too short. */
 
-/* The report, which has at most MOQ_LONGEST_REPORT bytes: a line for the session, one for the columns and one for each row, none
-   of them longer than MOQ_LONGEST_LINE. */
+/* The report, which has at most MOQ_LONGEST_REPORT bytes: a line for the session, one for the columns and one for each
+   row, none of them longer than MOQ_LONGEST_LINE. */
 #define MOQ_LONGEST_LINE 204
 #define MOQ_LONGEST_REPORT (MOQ_LONGEST_LINE * (2 + MOQ_ROWS))
 uint64_t moq_report(const uint8_t *trace, size_t trace_len, uint8_t *out, size_t out_len, uint64_t *info, size_t info_len);
