@@ -5,7 +5,6 @@ use mathlib.Core.Path.{_≡_, refl, sym, ap, _∙_}
 use mathlib.Core.List.{List, [], _∷_, _++_, append-nil, append-assoc}
 use mathlib.Core.Bool.{Bool, true, false}
 use Rattle.common.proofs.Tests.{tests}
-pub use Rattle.common.proofs.Tests.{kept, broken}
 use Rattle.field.specs.Outcome.{Outcome, whole, no, andThen}
 use Rattle.integer.specs.Integer.{greatest}
 use Rattle.field.specs.Entries.{numberAt, textAt}

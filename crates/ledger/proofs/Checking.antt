@@ -5,7 +5,7 @@ use mathlib.Core.Bool.{Bool, true, false, not}
 use borrow.Author.Tests.{le-leb, lt-leb, lt-ltb, le-ltb, eq-eqb, ne-eqb}
 use lib.ListN.{length, drop, getD}
 use Rattle.common.specs.Choice.{both}
-use Rattle.layout.proofs.Steps.{kept, broken}
+use Rattle.common.proofs.Tests.{kept, broken}
 use Rattle.row.specs.Rows.{isRow, isUnused}
 use Rattle.row.specs.declared.Row.{Row}
 use Rattle.ledger.specs.Ledgers.{held, rising, hasAlias, distinct, allUnused}

@@ -6,7 +6,7 @@ use mathlib.Core.Logic.{⊎-elim}
 use native.Mathlib.Omega.{arith}
 use borrow.Author.Needs.{needs}
 use lib.ListN.{length}
-use Rattle.layout.proofs.Steps.{kept, broken}
+use Rattle.common.proofs.Tests.{kept, broken}
 use Rattle.ledger.specs.Arrays.{changed}
 use Rattle.ledger.proofs.RunTurns.{Along, begins, within, stopped-turn, missed-turn, counted-turn, fits, inside, ends, same-long, not-one, no-room}
 use Rattle.ledger.proofs.Ledger.arrivals.Statement.{statement}

@@ -3,7 +3,7 @@ use mathlib.Core.Path.{_≡_, sym, _∙_}
 use borrow.Author.Needs.{needs}
 use borrow.Author.Tests.{eq-eqb}
 use lib.ListN.{length, length-map}
-use Rattle.layout.proofs.Steps.{kept, broken}
+use Rattle.common.proofs.Tests.{kept, broken}
 use Rattle.row.proofs.Checks.{fails, holds}
 use Rattle.ledger.specs.Ledgers.{isLedger}
 use Rattle.ledger.proofs.Facts.{few-used}
