@@ -8,7 +8,7 @@ use Rattle.common.specs.Choice.{both}
 use Rattle.common.proofs.Tests.{kept, broken}
 use Rattle.row.specs.Rows.{isRow, isUnused}
 use Rattle.row.specs.declared.Row.{Row}
-use Rattle.ledger.specs.Ledgers.{held, rising, hasAlias, distinct, allUnused}
+use Rattle.ledger.specs.Ledgers.{mostRows, held, rising, hasAlias, distinct, allUnused}
 use Rattle.ledger.specs.declared.Ledger.{Ledger}
 use Rattle.ledger.proofs.PartsOfLists.{rest-next, rest-end, held-next, held-end}
 
@@ -21,7 +21,7 @@ pub rises : (l : Ledger) → Rising l 0 0
 unfolding Rising
 rises l = refl
 
-module _ (l : Ledger) (low i : ℕ) (long : length (l .rows) ≡ 64) (few : l .used ≤ 64) (a : Rising l low i) where
+module _ (l : Ledger) (low i : ℕ) (long : length (l .rows) ≡ mostRows) (few : l .used ≤ mostRows) (a : Rising l low i) where
   module _ (d : Row) (h : i < l .used) where
     pub not-above : getD (l .rows) i d .id < low → false ≡ rising 0 (l .next) (held l)
     unfolding Rising rising
@@ -58,7 +58,7 @@ pub are-apart : (l : Ledger) → Apart l 0
 unfolding Apart
 are-apart l = refl
 
-module _ (l : Ledger) (i : ℕ) (long : length (l .rows) ≡ 64) (few : l .used ≤ 64) where
+module _ (l : Ledger) (i : ℕ) (long : length (l .rows) ≡ mostRows) (few : l .used ≤ mostRows) where
   pub begins : Apart l i → (d : Row) → i < l .used → Lone l (getD (l .rows) i d .alias) i (i + 1)
   unfolding Apart Lone distinct
   begins a d h = sym (rw (held-next l long few i d h)) ∙ a

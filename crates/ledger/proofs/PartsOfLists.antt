@@ -8,7 +8,7 @@ use native.Mathlib.Omega.{arith}
 use lib.ListN.{length, take, drop, getD, drop-of-length-le}
 use lib.Seq.{drop-cons, length-take-le, getD-take}
 use Rattle.row.specs.declared.Row.{Row}
-use Rattle.ledger.specs.Ledgers.{held}
+use Rattle.ledger.specs.Ledgers.{mostRows, held}
 use Rattle.ledger.specs.declared.Ledger.{Ledger}
 
 module _ {A : Type 0} (xs : List A) (i : ℕ) where
@@ -28,7 +28,7 @@ module _ {A : Type 0} (xs : List A) (n i : ℕ) (long : n ≤ length xs) where
   pub part-end : n ≤ i → drop i (take n xs) ≡ []
   part-end h = rest-end (take n xs) i (omega (arith, length-take-le n xs long))
 
-module _ (l : Ledger) (long : length (l .rows) ≡ 64) (few : l .used ≤ 64) where
+module _ (l : Ledger) (long : length (l .rows) ≡ mostRows) (few : l .used ≤ mostRows) where
   pub held-long : length (held l) ≡ l .used
   unfolding held
   held-long = length-take-le (l .used) (l .rows) (omega arith)
