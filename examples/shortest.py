@@ -20,7 +20,7 @@ moq.moq_control_rewrite.argtypes = [
 
 
 def shortest(message):
-    """The number that is answered, and behind a 0 the bytes used, the shortest form and the type."""
+    """The number that is answered, and with a 0 the bytes used, the shortest form and the type."""
     out = (ctypes.c_uint8 * max(1, len(message)))()
     info = (ctypes.c_uint64 * 3)()
     number = moq.moq_control_rewrite(message, len(message), out, len(out), info, 3)

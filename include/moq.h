@@ -20,11 +20,11 @@
    has a type and fields, and no Length: where it is cut it is 1 on a stream and 4 in a datagram.
 
    A number of reading is answered before any other. What is lent to be written is changed only where 0 is answered, or one of a ledger's
-   numbers that say so; and of that only so many bytes or values as the call says, from the front on. Every byte and value behind them
+   numbers that say so; and of that only as many bytes or values as the call says, from the front on. Every byte and value after them
    stays.
 
    A slice is a pointer and a count of elements. What the caller must see to, as the calls can't:
-     - a pointer points at so many elements, and isn't null even where the count is 0;
+     - a pointer points at that many elements, and isn't null even where the count is 0;
      - `info`, `numbers` and `run` are aligned as uint64_t;
      - what is lent to be written overlaps nothing else that is lent in the same call.
    No call keeps a pointer, allocates, or waits. Calls that are lent different memory may run at the same time. */
@@ -73,8 +73,8 @@ uint64_t moq_fetch_object_rewrite(const uint8_t *s, size_t s_len, uint8_t *out, 
 
    info[0]: the bytes written. A trace that is at fault has a text too, which says where. 7: info has no value, or out is too short. */
 
-/* The report, which has at most MOQ_LONGEST_REPORT bytes: a line for the session, one for the columns and one for each row, none
-   of them longer than MOQ_LONGEST_LINE. */
+/* The report, which has at most MOQ_LONGEST_REPORT bytes: a line for the session, one for the columns and one for each
+   row, none of them longer than MOQ_LONGEST_LINE. */
 #define MOQ_LONGEST_LINE 204
 #define MOQ_LONGEST_REPORT (MOQ_LONGEST_LINE * (2 + MOQ_ROWS))
 uint64_t moq_report(const uint8_t *trace, size_t trace_len, uint8_t *out, size_t out_len, uint64_t *info, size_t info_len);
@@ -84,7 +84,7 @@ uint64_t moq_answers(const uint8_t *trace, size_t trace_len, uint8_t *out, size_
 
 /* ---- ledgers: the subscriptions of a session in one direction
 
-   A ledger is MOQ_LEDGER_NUMBERS numbers, which the caller holds and lends as `numbers`; what stands behind them stays. The first
+   A ledger is MOQ_LEDGER_NUMBERS numbers, which the caller holds and lends as `numbers`; what stands after them stays. The first
    MOQ_OWN_NUMBERS are its own:
 
      0  part: 0 for the subscriber's end, 1 for the publisher's
@@ -118,7 +118,7 @@ uint64_t moq_answers(const uint8_t *trace, size_t trace_len, uint8_t *out, size_
     10  the session is closed already
     11  all rows are in use
     12  stale: no row has the ID, and it isn't above the highest
-    13  a rule is broken: by the own end, and nothing is done; or by the peer, and that closes the session
+    13  a rule is broken: by this end, and nothing is done; or by the peer, and that closes the session
     14  the numbers aren't a ledger's, or are too few
     15  a ledger can't start so
     16  the arrival is counted

@@ -58,9 +58,9 @@ impl Kind {
 
 /// What is answered to the bytes, as one line.
 ///
-/// For a reader: the number, and behind a 0 the bytes used and the shortest
+/// For a reader: the number, and with a 0 the bytes used and the shortest
 /// form in lower-case hexadecimal digits. For an integer: the number
-/// answered, and behind a 0 the integer and the bytes used. For a trace: the
+/// answered, and with a 0 the integer and the bytes used. For a trace: the
 /// text with ` / ` for each newline.
 pub fn answer(kind: Kind, bytes: &[u8]) -> String {
     match kind {

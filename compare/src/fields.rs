@@ -140,7 +140,7 @@ impl<'a> Fields<'a> {
         self.namespace_part(&mut track_bytes)
     }
 
-    /// A namespace and the name behind it.
+    /// A namespace and the name after it.
     pub fn track(&mut self) -> Result<Track<'a>, u8> {
         let mut track_bytes = 0;
         let namespace = self.namespace_part(&mut track_bytes)?;

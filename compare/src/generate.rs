@@ -57,7 +57,7 @@ impl Cases {
         }
     }
 
-    /// An integer of any form, at times cut or with bytes behind it.
+    /// An integer of any form, at times cut or with bytes after it.
     fn integer(&mut self) -> Vec<u8> {
         self.make.padded = true;
         let mut bytes = Vec::new();

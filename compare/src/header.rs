@@ -15,7 +15,7 @@ fn is_forbidden_status(object_status: u64) -> bool {
     !matches!(object_status, 0 | 1 | 3 | 4)
 }
 
-/// What both kinds of datagram begin with, behind their type (004, figures 29
+/// What both kinds of datagram begin with, after their type (004, figures 29
 /// and 30).
 #[derive(Debug, Clone, Copy, PartialEq, Eq)]
 pub struct ObjectDatagram<'a> {

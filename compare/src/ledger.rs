@@ -120,7 +120,7 @@ impl Row {
     }
 }
 
-/// One of 01's numbers, and behind a 13 the rule that is broken.
+/// One of 01's numbers, and with a 13 the rule that is broken.
 #[derive(Debug, Clone, Copy, PartialEq, Eq)]
 pub struct Answer {
     /// The number.
@@ -161,7 +161,7 @@ pub fn close_code(rule: u8) -> Option<u64> {
 /// A ledger of subscriptions.
 #[derive(Debug, Clone, PartialEq, Eq)]
 pub struct Ledger {
-    /// The own end's part.
+    /// This end's part.
     pub part: Part,
     /// How many rows may be in use, 1 to 64.
     pub capacity: u64,

@@ -2,7 +2,7 @@
 //! 01 (the scope and its rules) and 004 (the layouts and close codes) alone,
 //! save that `numbers` and `calls` follow `include/moq.h`.
 //!
-//! In the comments, a sentence behind `01:` or `004:` is the document's own.
+//! In the comments, a sentence after `01:` or `004:` is the document's own.
 
 #![forbid(unsafe_code)]
 #![warn(missing_docs)]

@@ -101,7 +101,7 @@ fn arrival(ledger: &mut Ledger, value: &[u8]) -> Option<(What, Answer)> {
     Some((What::Arrival, answer))
 }
 
-/// A field behind the first; none where it is a fault.
+/// A field after the first; none where it is a fault.
 #[inline]
 fn step(ledger: &mut Ledger, field: &Field<'_>) -> Option<(What, Answer)> {
     match field.tag {

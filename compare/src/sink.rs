@@ -18,7 +18,7 @@ pub trait Sink {
     fn bytes(&mut self, bytes: &[u8]);
     /// A namespace that no name follows.
     fn namespace(&mut self, namespace: &Namespace<'_>);
-    /// A namespace and the name behind it.
+    /// A namespace and the name after it.
     fn track(&mut self, track: &Track<'_>);
     /// Parameters.
     fn parameters(&mut self, parameters: &Parameters<'_>);

@@ -21,7 +21,7 @@ fn bytes(text: &str) -> Vec<u8> {
     hex::decode(text).expect("hexadecimal digits")
 }
 
-/// Numbers that begin so, and are 0 behind.
+/// Numbers that begin so, and are 0 after.
 fn beginning(first: &[u64]) -> [u64; COUNT] {
     let mut numbers = [0; COUNT];
     numbers[..first.len()].copy_from_slice(first);
@@ -51,7 +51,7 @@ fn names_in_c() {
     assert!(header.contains(&format!("#define MOQ_LONGEST_REPORT {whole}")));
 }
 
-/// The calls of 01's report, one by one, with the numbers behind each.
+/// The calls of 01's report, one by one, with the numbers after each.
 #[test]
 fn report_example() {
     let mut numbers = [u64::MAX; COUNT];
@@ -76,7 +76,7 @@ fn report_example() {
     let all = [&[0, 0, 64, 10, 4, 1][..], &row].concat();
     assert_eq!(numbers, beginning(&all));
 
-    // The same SUBSCRIBE again is the own end's, and nothing is done.
+    // The same SUBSCRIBE again is this end's, and nothing is done.
     assert_eq!(calls::take(&subscribe, &mut numbers, &mut info), 13);
     assert_eq!(info, [14, 2]);
     assert_eq!(numbers, beginning(&all));
@@ -194,7 +194,7 @@ fn damages() {
 }
 
 /// Puts a call to this implementation: its answer, the numbers, the values and
-/// the arrivals' answers behind it.
+/// the arrivals' answers after it.
 fn put(case: &LedgerCase) -> (u8, Vec<u64>, [u64; 2], Vec<u8>) {
     let (mut numbers, mut info) = (case.numbers.clone(), [99; 2]);
     let mut answers = Vec::new();

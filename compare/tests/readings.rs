@@ -269,7 +269,7 @@ fn blackboard_integers() {
     assert_eq!(integer::write(beyond, &mut []), Err(FORBIDDEN));
 }
 
-/// P6 to P10, and the two lines behind P12.
+/// P6 to P10, and the two lines after P12.
 #[test]
 fn blackboard_messages() {
     let input = bytes("17 01 05");

@@ -1,4 +1,4 @@
-//! quinn-proto's integers behind the calls that the proved code has.
+//! quinn-proto's integers, called as the proved code is.
 
 use quinn_proto::coding::Codec;
 use quinn_proto::VarInt;

@@ -43,7 +43,7 @@ pub fn message(make: &mut Make, bytes: &mut Vec<u8>) {
             flip(&mut make.random, bytes);
             flip(&mut make.random, bytes);
         }
-        // Bytes behind the message are no fault.
+        // Bytes after the message are no fault.
         4 => make.bytes(bytes, 3),
         5 => other_type(make, bytes),
         6 => great_length(make, bytes),
@@ -96,7 +96,7 @@ fn cut_body(make: &mut Make, bytes: &mut Vec<u8>) {
     *bytes = message::with_header(make, kind, &body);
 }
 
-/// A body with bytes behind its fields, or one byte changed.
+/// A body with bytes after its fields, or one byte changed.
 fn longer_body(make: &mut Make, bytes: &mut Vec<u8>) {
     let Some((kind, mut body)) = parts(bytes) else {
         return;

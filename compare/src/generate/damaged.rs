@@ -164,7 +164,7 @@ fn active_unknown(random: &mut Random, numbers: &mut [u64; COUNT]) -> Option<()>
     Some(())
 }
 
-/// A row behind those in use holds something that a row may hold; or the last
+/// A row after those in use holds something that a row may hold; or the last
 /// in use isn't counted as one.
 fn unused_holds(random: &mut Random, numbers: &mut [u64; COUNT]) -> Option<()> {
     let count = in_use(numbers);

@@ -394,7 +394,7 @@ fn other(part: Part) -> Part {
     }
 }
 
-/// The number, or the one before or behind it.
+/// The number, or the one before or after it.
 fn near(random: &mut Random, number: u64) -> u64 {
     random.one_of(&[number.saturating_sub(1), number, number + 1])
 }

@@ -104,7 +104,7 @@ impl Make {
         self.integer(out, number);
     }
 
-    /// Writes so many numbers.
+    /// Writes that many numbers.
     pub fn integers(&mut self, out: &mut Vec<u8>, count: usize) {
         for _ in 0..count {
             self.any_integer(out);
@@ -116,7 +116,7 @@ impl Make {
         out.push(self.random.number() as u8);
     }
 
-    /// Writes so many bytes.
+    /// Writes that many bytes.
     pub fn bytes(&mut self, out: &mut Vec<u8>, count: u64) {
         for _ in 0..count {
             self.byte(out);

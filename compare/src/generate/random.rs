@@ -32,7 +32,7 @@ impl Random {
         (self.number() >> 16) % bound
     }
 
-    /// True once in so many times.
+    /// True once in that many times.
     pub fn one_in(&mut self, times: u64) -> bool {
         self.below(times) == 0
     }

@@ -79,7 +79,7 @@ fn control(make: &mut Make, kind: u64, body: &[u8]) -> Value {
     (2, message::with_header(make, kind, body))
 }
 
-/// A message that holds an ID and, for ERROR and DONE, more behind it.
+/// A message that holds an ID and, for ERROR and DONE, more after it.
 pub(super) fn by_id(make: &mut Make, kind: u64, id: u64) -> Value {
     let mut body = Vec::new();
     make.integer(&mut body, id);

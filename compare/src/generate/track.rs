@@ -3,7 +3,7 @@
 use super::make::Make;
 
 /// Namespace fields and name. The first six are different tracks, although their
-/// bytes, one behind the other, are the same.
+/// bytes, one after the other, are the same.
 const SHARED: [(&[&str], &str); 8] = [
     (&["ab"], ""),
     (&["a"], "b"),

@@ -17,7 +17,7 @@ use Rattle.answers.proofs.FedAlike.{feed-alike}
 pub of-trace-once : (s before : List ℕ) {a b : Putting} {x y : List ℕ} → Leaves (putText (answersOf s) before) (toldPutting a) x → Leaves (putText (answersOf s) before) (toldPutting b) y → (a ≡ b) × (x ≡ y)
 of-trace-once s before l m = leaves-once l m
 
--- The progress behind the whole fields of a trace, and what is left, are those of its run.
+-- The progress after the whole fields of a trace, and what is left, are those of its run.
 pub answers-replay : (s : List ℕ) → _≡_ {A = Held Progress} (let h = feed addLine (record { soFar = withText begun []; rest = [] }) s in record { soFar = h .soFar .progress; rest = h .rest }) (fed begun s)
 unfolding fed step addLine
 answers-replay s = feed-alike addLine step (λ (t : SoFar). t .progress) told-step (record { soFar = withText begun []; rest = [] }) s

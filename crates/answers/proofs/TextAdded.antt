@@ -1,4 +1,4 @@
--- Text that is put behind text, or only counted. Assumes nothing.
+-- Text that is put after text, or only counted. Assumes nothing.
 use Prim.Native.Nat.{ℕ, _+_, _-_, _≤_, _<_}
 use mathlib.Core.Path.{_≡_, refl, sym, ap, _∙_}
 use mathlib.Core.List.{List, [], _∷_, _++_, append-assoc, append-nil}

@@ -1,4 +1,4 @@
--- The text that is left at an offset of a trace: the line of the field that stands there, and the text that is left behind it.
+-- The text that is left at an offset of a trace: the line of the field that stands there, and the text that is left after it.
 -- Assumes nothing.
 use Prim.Native.Nat.{ℕ, _+_, _-_, _≤_, _<_}
 use mathlib.Core.Path.{_≡_, refl, sym, ap, _∙_}
@@ -22,7 +22,7 @@ use Rattle.answers.proofs.FedAlike.{feed-alike}
 abbrev holding : SoFar → List ℕ → Held SoFar
 holding t rest = record { soFar = t; rest = rest }
 
--- the text that bytes come to behind a progress
+-- the text that bytes come to after a progress
 unfoldable pub leftText : Progress → List ℕ → List ℕ
 leftText p s = lastText (feed addLine (holding (withText p []) []) s)
 

@@ -23,7 +23,7 @@ use Rattle.answers.specs.declared.FieldLine.{FieldLine}
 
 -- ---- a line
 
--- behind a 13 stands its rule
+-- with a 13 stands its rule
 abbrev pub answerItems : Verdict → List Item
 answerItems said = Number (said .number) ∷ pick (eqb (said .rule) 0) [] (Rule (said .rule) ∷ [])
 

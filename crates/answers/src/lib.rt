@@ -8,7 +8,7 @@ use replay::Progress;
 use text::Line;
 pub use writing::of_trace;
 
-// A field that was taken: the line that tells what it was answered, the progress behind it, and where it ends. Where no
+// A field that was taken: the line that tells what it was answered, the progress after it, and where it ends. Where no
 // whole field stands, the line has no items, and nothing is used.
 pub struct FieldLine {
     pub line: Line,

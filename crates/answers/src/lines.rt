@@ -11,7 +11,7 @@ use text::Line;
 use text::Word;
 use trace::FieldRead;
 
-// The offset of its tag, what it is and the answer; behind a 13 its rule.
+// The offset of its tag, what it is and the answer; with a 13 its rule.
 fn answer_line(offset: u64, what: Item, number: u8, rule: u8) -> Line
     ensures { λ r. ⌜ r ≡ placed (offsetLine offset what (record { number = number; rule = rule })) ⌝ }
 {
@@ -86,7 +86,7 @@ fn fault_line(stage: Stage) -> Line
     }
 }
 
-// The trace ends here, and left bytes stand behind its last whole field: the line says where it is at fault. One that
+// The trace ends here, and left bytes stand after its last whole field: the line says where it is at fault. One that
 // isn't has a line of no items.
 pub fn tell_end(p: Progress, left: usize) -> Line
     ensures { λ r. ⌜ r ≡ placed (endItems p left) ⌝ }

@@ -9,7 +9,7 @@ use crate::lines::tell_end;
 use text::Line;
 use text::Putting;
 
-// A line behind at bytes of text, if both take room bytes at most. Where out has no room for it, it is only counted.
+// A line after at bytes of text, if both take room bytes at most. Where out has no room for it, it is only counted.
 fn add(out: &mut [u8], at: usize, line: Line, room: usize) -> Putting
     requires { ⌜ at ≤ room ⌝ }
     ensures { λ r. ⌜ Adds (lineOf (itemsOf line)) at room (now (out .entry)) (toldPutting r) (now (out .exit)) ⌝ }
@@ -26,7 +26,7 @@ fn add(out: &mut [u8], at: usize, line: Line, room: usize) -> Putting
     Putting::Done(end)
 }
 
-// The line of each field and the end's, one behind the other, if they take room bytes at most. Where out has no room,
+// The line of each field and the end's, one after the other, if they take room bytes at most. Where out has no room,
 // they are only counted.
 fn pass(s: &[u8], out: &mut [u8], room: usize) -> Putting
     ensures { λ r. ⌜ Adds (answersOf (now (s .entry))) 0 room (now (out .entry)) (toldPutting r) (now (out .exit)) ⌝ }

@@ -30,7 +30,7 @@ pub data Line : Type 0 where
   receives : List ℕ → Answer Typed → Line
   -- a control message whose parts point into bytes is written into a buffer, which then holds this
   sends : List ℕ → Message → List ℕ → Written → Line
-  -- a subscriber's ledger with so many rows and a maximum takes messages
+  -- a subscriber's ledger with that many rows and a maximum takes messages
   takes : ℕ → ℕ → List Message → List Verdict → Line
   -- a trace is reported
   reports : List ℕ → List ℕ → Line

@@ -12,7 +12,7 @@ module _ {A : Type 0} (all : ℕ) (unused : A) where
   unfolding upTo
   filled n xs h e = sym (rw (length-take-le n xs h, ← e) (take-append-drop n xs))
 
-  -- and so many as there were are found again
+  -- and as many as there were are found again
   pub taken-out : {B : Type 0} (into : A → B) (out : B → A) → ((x : A) → out (into x) ≡ x) → (xs : List A) → map out (take (length xs) (map into (upTo all unused xs))) ≡ xs
   unfolding upTo
   taken-out into out back xs = first xs (replicate (all - length xs) unused)

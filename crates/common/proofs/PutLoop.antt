@@ -1,4 +1,4 @@
--- A loop that puts one thing behind the other: what was put so far, and what is left to be put. Assumes nothing.
+-- A loop that puts one thing after the other: what was put so far, and what is left to be put. Assumes nothing.
 use Prim.Native.Nat.{ℕ, _+_, _≤_}
 use mathlib.Core.Path.{_≡_, refl, sym, ap, _∙_}
 use mathlib.Core.List.{List, [], _++_, append-assoc, append-nil}
@@ -40,7 +40,7 @@ module _ {all before out : List ℕ} {at : ℕ} {left : List ℕ} (g : Going all
       let e : g .done ≡ all = sym (append-nil (g .done)) ∙ ap (λ (y : List ℕ). g .done ++ y) (sym n) ∙ g .joins in
       rw (← e) (g .put)
 
-  -- what is left has room behind it
+  -- what is left has room after it
   pub left-fits : length left ≤ length (lent at out)
   left-fits = second-fits room (g .put)
 

@@ -1,4 +1,4 @@
--- What writers leave, one after the other: the second is lent what is left behind the first. Assumes nothing.
+-- What writers leave, one after the other: the second is lent what is left after the first. Assumes nothing.
 use Prim.Native.Nat.{ℕ, _+_, _-_, _≤_, _<_}
 use mathlib.Core.Path.{_≡_, refl, sym, ap, _∙_}
 use mathlib.Core.List.{List, [], _∷_, _++_, append-assoc}

@@ -1,4 +1,4 @@
--- Of each of a list, and one of a list; and so many places, of which the last are not used.
+-- Of each of a list, and one of a list; and a number of places, of which the last are not used.
 use Prim.Native.Nat.{ℕ, _-_}
 use mathlib.Core.Path.{_≡_}
 use mathlib.Core.List.{List, [], _∷_, _++_}
@@ -13,6 +13,6 @@ abbrev pub Among : {A : Type 0} → A → List A → Type 0
 Among x [] = ⊥
 Among x (y ∷ ys) = (y ≡ x) ⊎ Among x ys
 
--- up to so many; behind those that there are, one that stands for a place not used
+-- up to a number of places; after those that there are, one that stands for a place not used
 unfoldable pub upTo : {A : Type 0} → ℕ → A → List A → List A
 upTo n unused xs = xs ++ replicate (n - length xs) unused

@@ -39,7 +39,7 @@ was-written false isSized isShort bytes before h = absurd (apart h)
 
 -- ---- what will be
 
--- every check is passed, and the bytes are so many at most
+-- every check is passed, and the bytes are that many at most
 pub record Passes (isRight isSized isShort : Bool) (bytes : List ℕ) (most : ℕ) : Type 0 where
   pub is-right : isRight ≡ true
   pub is-sized : isSized ≡ true
@@ -70,7 +70,7 @@ module _ {isRight isSized isShort : Bool} {bytes : List ℕ} {most : ℕ} (p : P
   pub only-room : {k : ℕ} → writtenOf isRight isSized isShort bytes before .says ≡ refused k → k ≡ 7
   only-room {k} = either (λ a. a ≡ refused k → k ≡ 7) (λ e. absurd (apart (sym e))) (λ e. cc)
 
-  -- and where there is room for so many, it is written.
+  -- and where there is room for that many, it is written.
   pub written-then : most ≤ length before → (n : ℕ) × (writtenOf isRight isSized isShort bytes before .says ≡ wrote n)
   written-then enough =
       (length bytes, answer ∙ rw (le-leb (length bytes) (length before) (omega (arith, p .fits))))

@@ -53,7 +53,7 @@ module _ (s : List ℕ) (p : Span) (before : List ℕ) (h : (rightSpan s p ≡ t
   text-room = record { joins = text-is (lies s p (h .0)); fits = h .1 }
 
   module _ {used : ℕ} {after : List ℕ} (q : Put (encOf (size p)) before used after) where
-    -- behind the length there is room for the bytes
+    -- after the length there is room for the bytes
     pub bytes-fit : size p ≤ length (lent used after)
     bytes-fit =
         let l = lies s p (h .0) in

@@ -28,7 +28,7 @@ use Rattle.encode.specs.Entries.{encHead}
 use Rattle.encode.proofs.Copies.{copy-put}
 use Rattle.encode.proofs.EntryForms.{head-is}
 
--- so many entries from an offset on are there, and left to be put
+-- that many entries from an offset on are there, and left to be put
 pub record Entering (kind : Kind) (s all before out : List ℕ) (at here left : ℕ) : Type 0 where
   pub going : Going all before out at (encItems kind (entryValues kind left s here))
   pub run : Run kind left s here
@@ -62,7 +62,7 @@ module _ {kind : Kind} {s all before out : List ℕ} {at here left : ℕ} (g : E
 
 -- ---- a turn: the numbers in front of an entry, then its bytes
 
--- those of the entries behind it
+-- those of the entries after it
 abbrev others : Kind → List ℕ → ℕ → Entry → List ℕ
 others kind s left e = encItems kind (entryValues kind (left - 1) s (e .bytes .end))
 
@@ -96,7 +96,7 @@ module _ {kind : Kind} {s all before out : List ℕ} {at here left : ℕ} {e : E
     pub head-within : at + head ≤ length (given at out t)
     head-within = going-within headed (w .fits)
 
-    -- and there is room for the bytes behind them,
+    -- and there is room for the bytes after them,
     pub bytes-fit : size (e .bytes) ≤ length (lent (at + head) (given at out t))
     bytes-fit = rw (length-part s (e .bytes) (parts .within)) at (next-fits headed (w .fits) bytes-next)
 

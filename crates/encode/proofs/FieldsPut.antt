@@ -1,4 +1,4 @@
--- Fields that are put one behind the other: those that are left are right. Assumes nothing.
+-- Fields that are put one after the other: those that are left are right. Assumes nothing.
 use Prim.Native.Nat.{ℕ, _+_, _≤_, _<_}
 use mathlib.Core.Path.{_≡_, sym}
 use mathlib.Core.Bool.{true}
@@ -66,7 +66,7 @@ abbrev pub AllAsk : List ℕ → List Piece → ℕ → Type 0
 AllAsk s ps room = (rightAll s ps ≡ true) × (length (encodeAll s ps) ≤ room)
 
 module _ (s : List ℕ) (ps qs : List Piece) where
-  -- some, and behind them the others
+  -- some, and after them the others
   several : Next (encodeAll s ps) (encodeAll s qs) (encodeAll s (ps ++ qs))
   several = record { joins = encode-joined s ps qs }
 

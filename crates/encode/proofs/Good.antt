@@ -25,7 +25,7 @@ use Rattle.measure.proofs.Lists.{holds}
 
 -- ---- one field
 
--- right entries are good exactly where they are sized, beside a name of so many bytes;
+-- right entries are good exactly where they are sized, beside a name of that many bytes;
 list-good : (s : List ℕ) (kind : Kind) (l : Entries) (also : ℕ) → rightList s kind l ≡ true → goodList kind (contents s kind l) also ≡ sizedList s kind l also
 unfolding goodList sizedList
 list-good s kind l also h =

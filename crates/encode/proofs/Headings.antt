@@ -28,7 +28,7 @@ module _ (s front : List ℕ) (m : Middle) (back : List ℕ) where
       ∙ rw (a, e, b, d, numbers-judged [] s front room, numbers-judged [] s back room, measure-joined s (middlePieces m) (map Number back) room)
       (measure-joined s (map Number front) (middlePieces m ++ map Number back) room)
 
-  -- ---- and put one behind the other
+  -- ---- and put one after the other
 
   module _ (before : List ℕ) (h : AllAsk s (headed front m back) (length before)) where
     -- the numbers in front can be put,
@@ -56,7 +56,7 @@ module _ (s front : List ℕ) (m : Middle) (back : List ℕ) where
         pub middle-sum : i + j ≤ length before
         middle-sum = several-sum s (middlePieces m) (map Number back) front-filled (h .1) q
 
-        -- then those behind,
+        -- then those after,
         pub middle-within : i + j ≤ length (given i out t)
         middle-within = going-within (middle-filled .going) (h .1)
 

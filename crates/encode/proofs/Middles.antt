@@ -48,7 +48,7 @@ module _ (s : List ℕ) {m : Middle} where
     pub some-bytes-ask : {p : Span} → m ≡ SomeBytes p → (rightSpan s p ≡ true) × (length (encText (part s p)) ≤ room)
     some-bytes-ask {p} e = bytes-asks s (alone-asks s (Bytes p) (rw e at h)) refl
 
-    -- which stands behind a byte too
+    -- which stands after a byte too
     pub both-right : {b : ℕ} {p : Span} → m ≡ Both b p → rightSpan s p ≡ true
     unfolding rightAll right
     both-right {p = p} e = both-first (rightSpan s p) true (rw e at (h .0))

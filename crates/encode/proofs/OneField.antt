@@ -17,7 +17,7 @@ use Rattle.encode.specs.Writing.{putField}
 use Rattle.encode.proofs.Pieces.{Asks}
 use Rattle.encode.proofs.Written.{bare-forbidden, bare-oversize, bare-over, bare-taken, bare-done}
 
--- a field that takes so many bytes is right, and there is room for it
+-- a field that takes that many bytes is right, and there is room for it
 pub takes-asks : (s : List ℕ) (p : Piece) {room n : ℕ} {r : Measured} → toldMeasured r ≡ measuredOf s p room → r ≡ Takes n → Asks s p room
 unfolding measureOf
 takes-asks s p {room} said e =

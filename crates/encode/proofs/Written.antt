@@ -79,7 +79,7 @@ done {kind} {bytes = bytes} {before = before} r q =
 -- ---- what the judgement of the fields tells
 
 module _ (s : List ℕ) (ps : List Piece) (room : ℕ) {r : Measured} (said : r ≡ measureAll s ps room) where
-  -- they take so many bytes,
+  -- they take that many bytes,
   pub taken : {n : ℕ} → r ≡ Takes n → Taken (rightAll s ps) (sizedAll s ps) (length (encodeAll s ps)) room n
   unfolding measureAll
   taken e = judged-takes (rightAll s ps) (sizedAll s ps) (length (encodeAll s ps)) room (sym said ∙ e)

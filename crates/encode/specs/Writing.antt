@@ -39,7 +39,7 @@ frame kind body = encOf kind ++ (encOf (length body) ++ body)
 unfoldable pub bareOf : List ℕ → List Piece → List ℕ → Written
 bareOf s ps before = writtenOf (rightAll s ps) (sizedAll s ps) true (encodeAll s ps) before
 
--- A MESSAGE, whose body may take so many bytes
+-- A MESSAGE, whose body may take that many bytes
 unfoldable pub framedOf : ℕ → List ℕ → ℕ → List Piece → List ℕ → Written
 framedOf longest s kind ps before =
     let body = encodeAll s ps in

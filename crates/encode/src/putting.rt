@@ -1,4 +1,4 @@
-// The shortest form of a field is put at the front of what is lent. Each writer lends on what is left behind what it
+// The shortest form of a field is put at the front of what is lent. Each writer lends on what is left after what it
 // put.
 ghost use mathlib.Core.Path.{_≡_};
 ghost use mathlib.Core.Bool.{true};

@@ -1,4 +1,4 @@
-// All fields of a message, one behind the other. Each check is made over all of them before the next, and only then
+// All fields of a message, one after the other. Each check is made over all of them before the next, and only then
 // is a byte written.
 ghost use mathlib.Core.Path.{_≡_};
 ghost use mathlib.Core.Bool.{true};
@@ -18,7 +18,7 @@ use measure::Fields;
 use measure::Measured;
 use measure::places::piece_count;
 
-// Type and Length; behind them the body begins.
+// Type and Length; after them the body begins.
 fn put_front(out: &mut [u8], kind: u64, n: u64) -> usize
     requires { ⌜ (kind ≤ greatest) × (n ≤ greatest) ⌝ }
     requires { ⌜ length (encOf kind ++ encOf n) ≤ length (now out) ⌝ }
@@ -77,7 +77,7 @@ pub fn write_framed(out: &mut [u8], bytes: &[u8], f: Fields, longest: u32) -> Wr
             if out.len() < head + n {
                 return Writing::TooShort;
             }
-            // The part behind Type and Length is lent to the body.
+            // The part after Type and Length is lent to the body.
             let at = put_front(out, kind, n as u64);
             let c = put_all(&mut out[at..], bytes, f);
             Writing::Done(at + c)

@@ -54,7 +54,8 @@ takenBy r before info =
     onWhole r (refusing (number (told r)) before info)
     (λ m used. takenCall (takeOf (unpackOf before) m) used before info)
 
--- the one reading that `told r ≡ readOf s` names
+-- the one reading that `told r ≡ readOf s` names: there is one, and no other (message/proofs/OneReading.antt:
+-- `reading-is`, `reading-only`)
 unfoldable pub messageCall : List ℕ → List ℕ → List ℕ → Doing
 messageCall s before info = takenBy (readingOf s) before info
 

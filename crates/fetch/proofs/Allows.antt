@@ -38,7 +38,7 @@ module _ (x : TrackStatus) {a : Bool} (first : a ≡ isTrackStatus (x .status)) 
     unfolding allowed largest trackStatus
     object-is h k = rw (← first, not-false a known, ← second, not-false b h, test-alone (mayHold (x .status) (x .largest .object))) k
 
--- ---- FETCH: its order is judged, and nothing is forbidden behind it
+-- ---- FETCH: its order is judged, and nothing is forbidden after it
 
 range-any : (r : Range) (e : Entries) → allowed range (rangePieces r ++ Listing Parameters e ∷ []) ≡ true
 unfolding allowed place parameters standalone joining range

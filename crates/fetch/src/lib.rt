@@ -26,7 +26,8 @@ pub struct Standalone {
     pub end: Place,
 }
 
-// What joins a subscription: its ID, and where the fetch starts, as a group or so many groups before the subscription.
+// What joins a subscription: its ID, and where the fetch starts, as a group or as a number of groups before the
+// subscription.
 pub struct Joining {
     pub absolute: bool,
     pub id: u64,

@@ -103,7 +103,7 @@ module _ (s : List ℕ) (at : ℕ) {r : Reading} {n used : ℕ} (read : r ≡ Wh
   pub lead-read : (kind : Kind) → hasNumber kind ≡ true → leadAt kind s at ≡ whole n (at + used)
   lead-read kind h = rw (h, read-whole)
 
--- ---- the number that an entry begins with, and what stands behind it
+-- ---- the number that an entry begins with, and what stands after it
 
 module _ (s : List ℕ) (at : ℕ) where
   -- where it has none it is 0

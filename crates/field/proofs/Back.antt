@@ -30,7 +30,7 @@ pub record From (s : List ℕ) (at : ℕ) (xs rest : List ℕ) : Type 0 where
   pub within : at + length xs ≤ length s
   pub here : drop at s ≡ xs ++ rest
 
--- so it is behind whatever comes before
+-- so it is after whatever comes before
 pub from-start : (before xs rest : List ℕ) → From (before ++ (xs ++ rest)) (length before) xs rest
 from-start before xs rest =
     record {
@@ -189,7 +189,7 @@ items-back kind s (more {i = i} {is = is} h hs) f =
 
 -- ---- a count and as many entries
 
--- a list that can be written and is not over a size, with so many bytes of a name
+-- a list that can be written and is not over a size, with that many bytes of a name
 pub record ListFit (kind : Kind) (is : List EntryValue) (also : ℕ) : Type 0 where
   pub countable : length is ≤ greatest
   pub few-enough : few kind (length is) ≡ true

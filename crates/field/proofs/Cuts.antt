@@ -22,7 +22,7 @@ use Rattle.field.specs.declared.Kind.the-variants.{Namespace, Parameters
 use Rattle.field.proofs.Unjudged.{apart}
 use Rattle.field.proofs.Stable.{Stays, keeps-whole, number-stays, text-stays, entry-stays, entries-stays, list-stays}
 
--- ---- how many bytes decide a reading: with so many zeros behind, it is not cut
+-- ---- how many bytes decide a reading: with that many zeros after, it is not cut
 
 pub record Decided {A : Type 0} (f : List ℕ → Outcome A) (s : List ℕ) : Type 0 where
   pub more : ℕ
@@ -36,7 +36,7 @@ found-decided s = record { more = 0; decides = apart }
 pub refused-decided : {A : Type 0} {fault : Fault} → (fault ≡ Cut → ⊥) → (s : List ℕ) → Decided {A = A} (λ u. no fault) s
 refused-decided other s = record { more = 0; decides = λ h. other (cc) }
 
--- so many as are enough, whatever they are;
+-- as many as are enough, whatever they are;
 enough-decided : {A : Type 0} {f : List ℕ → Outcome A} (enough : ℕ) → ((u : List ℕ) → enough ≤ length u → f u ≡ no Cut → ⊥) → (s : List ℕ) → Decided f s
 enough-decided enough decides s =
     record { more = enough; decides = decides (s ++ replicate enough 0) (rw (length-append, length-replicate) (omega arith)) }
@@ -46,7 +46,7 @@ pub pick-decided : {A : Type 0} (t : Bool) {f g : List ℕ → Outcome A} {s : L
 pick-decided true d e = d
 pick-decided false d e = e
 
--- and for one thing after another, those of the first, and behind them those of the next
+-- and for one thing after another, those of the first, and after them those of the next
 pub then-decided : {A B : Type 0} {f : List ℕ → Outcome A} {g : A → ℕ → List ℕ → Outcome B} → ((s t : List ℕ) → Stays (f s) (f (s ++ t))) → ((s : List ℕ) → Decided f s) → ((a : A) (end : ℕ) (s : List ℕ) → Decided (g a end) s)
     → (s : List ℕ) → Decided (λ u. andThen (f u) λ a end. g a end u) s
 then-decided {A} {f = f} {g = g} stays first next s = go (f (s ++ replicate (first s .more) 0)) refl

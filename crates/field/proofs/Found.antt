@@ -91,7 +91,7 @@ pub record TextAt (most : ℕ) (s : List ℕ) (at : ℕ) (p : Span) (end : ℕ) 
   pub short : size p ≤ most
   pub within : p .end ≤ length s
 
--- a part that starts and has so many bytes
+-- a part that starts and has that many bytes
 abbrev pub span : ℕ → ℕ → Span
 span start n = record { start = start; end = start + n }
 

@@ -29,7 +29,7 @@ pub record Least (s : List ℕ) (at : ℕ) (xs : List ℕ) (end : ℕ) : Type 0 
 pub least-none : (s : List ℕ) (at : ℕ) → Least s at [] at
 least-none s at = record { fits = omega arith; is = λ o h. refl }
 
--- two things, one behind the other: a sum is least only where both are
+-- two things, one after the other: a sum is least only where both are
 pub least-then : {s : List ℕ} {at mid end : ℕ} {xs ys : List ℕ} → Least s at xs mid → Least s mid ys end → Least s at (xs ++ ys) end
 least-then {s} {at} {mid} {end} {xs} {ys} a b =
     let long = length-append xs ys in

@@ -27,7 +27,7 @@ use Rattle.field.proofs.Answers.{Lent, entry-whole}
 
 -- ---- what is left of a run
 
--- count entries more, when so many bytes are held, and so many taken by the shortest form so far
+-- count entries more, when that many bytes are held, and that many taken by the shortest form so far
 unfoldable pub walkFrom : Bool → Kind → ℕ → ℕ → ℕ → List ℕ → ℕ → Outcome Sums
 walkFrom sized kind count held taken s at =
     andThen (entriesAt sized kind count held s at) λ h end.

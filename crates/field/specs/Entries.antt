@@ -64,7 +64,7 @@ hasBytes Namespace = true
 hasBytes Parameters = true
 hasBytes Versions = false
 
--- how many of a track's bytes are left when so many are held. Where sizes are not judged, and for other entries, a
+-- how many of a track's bytes are left when that many are held. Where sizes are not judged, and for other entries, a
 -- length may be anything
 unfoldable pub mostOf : Bool → Kind → ℕ → ℕ
 mostOf true Namespace held = longestTrack - held
@@ -72,7 +72,7 @@ mostOf true Parameters held = greatest
 mostOf true Versions held = greatest
 mostOf false kind held = greatest
 
--- count entries, one after the other, when so many bytes are held: how many are held then, and where the last one ends
+-- count entries, one after the other, when that many bytes are held: how many are held then, and where the last ends
 unfoldable pub entriesAt : Bool → Kind → ℕ → ℕ → List ℕ → ℕ → Outcome ℕ
 entriesAt sized kind zero held s at = whole held at
 entriesAt sized kind (suc count) held s at =

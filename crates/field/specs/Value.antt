@@ -34,9 +34,10 @@ entryValue s e = record { number = e .number; bytes = part s (e .bytes) }
 -- count entries from an offset on, by content; none from where one is missing on
 unfoldable pub entryValues : Kind → ℕ → List ℕ → ℕ → List EntryValue
 entryValues kind zero s at = []
-entryValues kind (suc count) s at = onFound (entryAt kind greatest s at) [] (λ e end. entryValue s e ∷ entryValues kind count s end)
+entryValues kind (suc count) s at =
+    onFound (entryAt kind greatest s at) [] (λ e end. entryValue s e ∷ entryValues kind count s end)
 
--- the bytes that items hold
+-- the bytes that entries hold
 unfoldable pub total : List EntryValue → ℕ
 total [] = 0
 total (i ∷ is) = length (i .bytes) + total is
@@ -87,7 +88,7 @@ unfoldable pub encode : List Value → List ℕ
 encode [] = []
 encode (v ∷ vs) = encField v ++ encode vs
 
--- how many bytes an entry takes that has a number and holds so many bytes
+-- how many bytes an entry takes that has a number and holds that many bytes
 unfoldable pub itemSize : Kind → ℕ → ℕ → ℕ
 itemSize Namespace n held = length (encOf held) + held
 itemSize Parameters n held = length (encOf n) + (length (encOf held) + held)

@@ -51,7 +51,7 @@ pub fn read_bytes(s: &[u8], at: usize) -> BytesRead
     BytesRead::Whole(bytes)
 }
 
-// Whether 01's sizes let a list have so many entries.
+// Whether 01's sizes let a list have that many entries.
 pub fn is_few(kind: Kind, count: u64) -> bool
     ensures { λ r. ⌜ r ≡ few kind count ⌝ }
 {
@@ -97,7 +97,7 @@ pub fn read_list(s: &[u8], kind: Kind, at: usize) -> ListRead
     }
 }
 
-// A namespace and the name behind it, which share 4,096 bytes.
+// A namespace and the name after it, which share 4,096 bytes.
 pub fn read_track(s: &[u8], at: usize) -> TrackRead
     ensures { λ r. ⌜ toldTrack r ≡ fieldAt track (now (s .entry)) at ⌝ }
 {

@@ -84,7 +84,7 @@ fn has_bytes(kind: Kind) -> bool
     }
 }
 
-// How many bytes the next entry may hold when so many are held.
+// How many bytes the next entry may hold when that many are held.
 pub fn most(sized: bool, kind: Kind, held: usize) -> u64
     ensures { λ r. ⌜ r ≡ mostOf sized kind held ⌝ }
 {

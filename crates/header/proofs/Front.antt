@@ -1,4 +1,4 @@
--- A header behind its type: what each answer comes from, each way round; what follows changes none but a cut one. Assumes nothing.
+-- A header after its type: what each answer comes from, each way round; what follows changes none but a cut one. Assumes nothing.
 use Prim.Native.Nat.{ℕ}
 use mathlib.Core.Path.{_≡_, refl, sym, ap, _∙_}
 use mathlib.Core.List.{List, _++_}
@@ -54,7 +54,7 @@ module _ (cut : ℕ) (types : ℕ → InTable) (s : List ℕ) where
 
 -- ---- a whole header
 
--- its type, which names a layout, and its fields behind it
+-- its type, which names a layout, and its fields after it
 pub record HeadedAt (types : ℕ → InTable) (s : List ℕ) (t : Typed) (used : ℕ) : Type 0 where
   pub layout : Layout
   pub next : ℕ

@@ -1,4 +1,4 @@
--- A header behind its type: a law for each of its answers in turn, by what was told of the type and of the fields. Assumes nothing.
+-- A header after its type: a law for each of its answers in turn, by what was told of the type and of the fields. Assumes nothing.
 use Prim.Native.Nat.{ℕ}
 use mathlib.Core.Path.{_≡_, sym, ap, _∙_}
 use mathlib.Core.List.{List}

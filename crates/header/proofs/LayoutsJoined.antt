@@ -1,4 +1,4 @@
--- A layout with another behind it: what is read by the first, and then by the other. Assumes nothing.
+-- A layout with another after it: what is read by the first, and then by the other. Assumes nothing.
 use Prim.Native.Nat.{ℕ}
 use mathlib.Core.Path.{_≡_, refl}
 use mathlib.Core.List.{List, [], _∷_}
@@ -17,7 +17,7 @@ led-none (whole ps end) = refl
 led-none (no fault) = refl
 
 module _ (k : Layout) (s : List ℕ) where
-  -- what the other reads behind the fields of the first
+  -- what the other reads after the fields of the first
   abbrev after : Outcome (List Piece) → Outcome (List Piece)
   after o = andThen o (λ ps end. led ps (scan k s end))
 
@@ -30,7 +30,7 @@ module _ (k : Layout) (s : List ℕ) where
       go (no fault) = refl
   one-more p (no fault) = refl
 
-  -- so it is behind a field where it is behind what follows that
+  -- so it is after a field where it is after what follows that
   behind-field : (next more : ℕ → Layout) → ((n at : ℕ) → scan (more n) s at ≡ after (scan (next n) s at)) → (o : Outcome Piece) → andThen o (λ p end. andThen (scan (more (control p)) s end) (λ ps last. whole (p ∷ ps) last)) ≡ after (andThen o (λ p end. andThen (scan (next (control p)) s end) (λ ps last. whole (p ∷ ps) last)))
   behind-field next more h (whole p end) = rw (h (control p) end) (one-more p (scan (next (control p)) s end))
   behind-field next more h (no fault) = refl
@@ -44,7 +44,7 @@ module _ (k : Layout) (s : List ℕ) where
   behind-is (when false l m) at = behind-is m at
 
   module _ (l : Layout) (at : ℕ) where
-    -- Where the first is read whole, the other is read behind its fields;
+    -- Where the first is read whole, the other is read after its fields;
     pub behind-whole : {ps : List Piece} {end : ℕ} → scan l s at ≡ whole ps end → led ps (scan k s end) ≡ scan (behind l k) s at
     behind-whole h = rw (behind-is l at, h)
 

@@ -82,7 +82,7 @@ stream-heard stream.Unknown = refl
 
 -- ---- the headers of objects
 
--- a length alone, or a status behind it
+-- a length alone, or a status after it
 payloadIn : List Piece → Payload
 payloadIn [] = Length 0
 payloadIn (p ∷ []) = Length (control p)

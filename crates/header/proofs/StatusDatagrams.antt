@@ -54,7 +54,7 @@ module _ (s : List ℕ) (at : ℕ) where
     object-cut e = by-fields (behind-no status s objectDatagram at (sym said ∙ ap toldObject e)) refl
 
     module _ {d : ObjectDatagram} (read : r ≡ WholeObject d) where
-      -- or it is there, and the status is read behind it:
+      -- or it is there, and the status is read after it:
       behind-object : led (objectPieces d) (scan status s (d .extensions .end)) ≡ scan datagramStatus s at
       unfolding datagramStatus
       behind-object = behind-whole status s objectDatagram at (sym said ∙ ap toldObject read)

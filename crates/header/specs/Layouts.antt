@@ -9,7 +9,7 @@ use Rattle.layout.specs.Layout.{Layout, done, forbidden, field, when, place}
 use Rattle.layout.specs.Typed.{Typed}
 use Rattle.header.specs.Rules.{isObjectStatus}
 
--- a layout, and behind it another
+-- a layout, and after it another
 unfoldable pub behind : Layout → Layout → Layout
 behind done l = l
 behind forbidden l = forbidden

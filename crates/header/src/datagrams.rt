@@ -64,7 +64,7 @@ fn read_object(s: &[u8], at: usize) -> ObjectRead
     })
 }
 
-// A datagram that has a status, and nothing behind it.
+// A datagram that has a status, and nothing after it.
 fn read_status(s: &[u8], at: usize) -> DatagramRead
     ensures { λ r. ⌜ toldDatagram r ≡ endedDatagram (length (now (s .entry)))
         (answer 4 (typed («OBJECT_DATAGRAM_STATUS» .number) (scan datagramStatus (now (s .entry)) at))) ⌝ }

@@ -1,4 +1,4 @@
-// Data headers: section 9 of source document 004. An object comes in a datagram, or on a stream behind the stream's
+// Data headers: section 9 of source document 004. An object comes in a datagram, or on a stream after the stream's
 // header and its own. They are read here, and written by `header_writer`.
 pub mod arrivals;
 mod datagrams;
@@ -75,7 +75,7 @@ pub struct FetchObject {
 }
 
 // What reading a datagram answers: its header and the bytes it took; or that its type is unknown; that it is cut, or
-// goes on behind its status; that a value is forbidden.
+// goes on after its status; that a value is forbidden.
 pub enum DatagramRead {
     Whole(Datagram, usize),
     Unknown,

@@ -1,4 +1,4 @@
--- Fields behind what stands before them, their type or nothing: what is written of them reads back, and what was read is written
+-- Fields after what stands before them, their type or nothing: what is written of them reads back, and what was read is written
 -- again. For every layout. Assumes nothing.
 use Prim.Native.Nat.{ℕ, _+_, _≤_}
 use mathlib.Core.Path.{_≡_, refl, _∙_}
@@ -38,7 +38,7 @@ module _ (l : Layout) (front s : List ℕ) (ps : List Piece) (shape : Fits l s p
     unfolding headerWritten
     was = was-written (both (allowed l ps) (rightAll s ps)) true true (front ++ encodeAll s ps) before says
 
-    -- It is so many bytes,
+    -- It is that many bytes,
     pub count : n ≡ length (front ++ encodeAll s ps)
     count = was .used
 
@@ -48,7 +48,7 @@ module _ (l : Layout) (front s : List ℕ) (ps : List Piece) (shape : Fits l s p
         let bytes = front ++ encodeAll s ps in
         rw (count, was .holds) (take-append-seam bytes (drop (length bytes) before))
 
-    -- and whatever follows them, the fields are read back behind what stands before them.
+    -- and whatever follows them, the fields are read back after what stands before them.
     pub back : (rest : List ℕ) → ScanBack l ((front ++ encodeAll s ps) ++ rest) (length front) (map (mean s) ps)
     unfolding encodeAll
     back rest =

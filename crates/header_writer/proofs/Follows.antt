@@ -1,4 +1,4 @@
--- What follows a datagram's header: a payload, or nothing behind a status. Assumes nothing.
+-- What follows a datagram's header: a payload, or nothing after a status. Assumes nothing.
 use Prim.Native.Nat.{ℕ, _≤_}
 use mathlib.Core.Path.{_≡_, refl}
 use mathlib.Core.Bool.{false}

@@ -50,7 +50,7 @@ pub fetch-object-kept : Kept fetchObjectCodec
 unfolding fetchObjectOf fetchObjectWritten
 fetch-object-kept = bare-kept layouts.fetchObject fetchObjectPieces fetch-object-shape fetch-object-sized
 
--- ---- headers behind a type
+-- ---- headers after a type
 
 module _ {A : Type 0} (cut : ℕ) (types : ℕ → InTable) (said : A → Typed) (shape : (s : List ℕ) (a : A) → Shaped types s (said a)) (writable : (s : List ℕ) (a : A) → Writable s (said a)) where
   -- a reader that says whole where a header is read whole, and only bytes follow that may

@@ -1,4 +1,4 @@
--- What reader and writer owe each other: for a header behind its type, by what its types name, and for one without. Assumes nothing.
+-- What reader and writer owe each other: for a header after its type, by what its types name, and for one without. Assumes nothing.
 use Prim.Native.Nat.{ℕ, _+_, _≤_}
 use mathlib.Core.Path.{_≡_, refl, sym, ap, _∙_}
 use mathlib.Core.Bool.{true}
@@ -28,7 +28,7 @@ use Rattle.header_writer.proofs.Fields as fields
 
 -- ---- without a type
 
--- fields that are read whole, from so many bytes, and mean the same as others
+-- fields that are read whole, from that many bytes, and mean the same as others
 pub record FieldsBack (l : Layout) (after : List ℕ) (n : ℕ) (s : List ℕ) (ps : List Piece) : Type 0 where
   pub found : List Piece
   pub reads : scan l after 0 ≡ whole found n
@@ -42,7 +42,7 @@ bare-back l s ps shape sizes before rest says =
     rw (fields.stands l [] s ps shape before sizes says)
     (record { found = b .found; reads = b .reads ∙ ap (whole (b .found)) (omega (arith, count)); means = b .means })
 
--- ---- behind a type
+-- ---- after a type
 
 -- a type names one layout
 same-layout : {l m : Layout} {n : InTable} → n ≡ listed l → n ≡ listed m → l ≡ m
@@ -56,7 +56,7 @@ module _ (cut : ℕ) (types : ℕ → InTable) (s : List ℕ) {t : Typed} (shape
   abbrev pub written : Written
   written = headerWritten layout (encOf (t .type)) s (t .pieces) before
 
-  -- a header that is read whole, from so many bytes, and is like it
+  -- a header that is read whole, from that many bytes, and is like it
   pub record HeaderBack (after : List ℕ) (n : ℕ) : Type 0 where
     pub found : Typed
     pub reads : headedOf cut types after ≡ answered found n
@@ -80,14 +80,14 @@ module _ (cut : ℕ) (types : ℕ → InTable) (s : List ℕ) {t : Typed} (shape
         same = record { type = refl; values = b .means };
       })
 
-  -- its bytes are so many
+  -- its bytes are that many
   pub typed-count : Writable s t → {n : ℕ} → written .says ≡ wrote n → length (take n (written .holds)) ≡ n
   typed-count w says =
       ap length (fields.stands layout (encOf (t .type)) s (t .pieces) (shape .fits) before (w .1) says)
       ∙ sym (fields.count layout (encOf (t .type)) s (t .pieces) (shape .fits) before (w .1) says)
 
   module _ {used : ℕ} (read : headedOf cut types s ≡ answered t used) where
-    -- the fields of a header that was read, behind its type
+    -- the fields of a header that was read, after its type
     record Behind : Type 0 where
       at : ℕ
       found : scan layout s at ≡ whole (t .pieces) used

@@ -28,7 +28,7 @@ use Rattle.header.proofs.Front.{was-whole, parts}
 
 -- ---- one form
 
--- so many bytes stand at the front of a buffer
+-- that many bytes stand at the front of a buffer
 pub record Stands (w : Written) (bytes : List ℕ) (n : ℕ) : Type 0 where
   pub used : n ≡ length bytes
   pub there : take n (w .holds) ≡ bytes
@@ -56,7 +56,7 @@ shortest c f =
           ap (take used) is ∙ ap (λ (k : ℕ). take k (whole-of ++ drop used b)) size ∙ take-append-seam whole-of (drop used b) ∙ same ∙ sym (w .there);
     }
 
--- ---- fields behind what stands before them
+-- ---- fields after what stands before them
 
 -- what is written of them
 header-stands : (l : Layout) (front s : List ℕ) (ps : List Piece) (before : List ℕ) {n : ℕ} → headerWritten l front s ps before .says ≡ wrote n → Stands (headerWritten l front s ps before) (front ++ encodeAll s ps) n
@@ -79,7 +79,7 @@ bare-form l said =
       alike = λ s r a b e. encoded-alike s r a b (e .values);
     }
 
--- ---- a header behind its type
+-- ---- a header after its type
 
 pub typed-form : {A : Type 0} (cut : ℕ) (types : ℕ → InTable) (said : A → Typed) (takesMore : A → Bool) (readOf : List ℕ → Answer Typed) → ((s : List ℕ) (t : Typed) (used : ℕ) → readOf s ≡ answered t used → headedOf cut types s ≡ answered t used)
     → Form (record { told = said; typed = λ t. t; readOf = readOf; writeOf = λ s a before. headerWritten (layoutOf (types (said a .type))) (encOf (said a .type)) s (said a .pieces) before; takesMore = takesMore })

@@ -79,7 +79,7 @@ module _ (s before : List ℕ) {a : Bool} (l : Layout) (ps : List Piece) (judged
     unfolding headerWritten bareOf
     alone w = let g : allowed l ps ≡ true = sym judged ∙ not-false a h in rw g (rw sizes at w)
 
-    -- or behind a type, which is one number more
+    -- or after a type, which is one number more
     behind-type : (type : ℕ) → leb type greatest ≡ true → Leaves (bareOf s (Number type ∷ ps) before) said after → Leaves (headerWritten l (encOf type) s ps before) said after
     unfolding headerWritten bareOf rightAll right sizedAll sized encodeAll encode mean encField
     behind-type type small w = let g : allowed l ps ≡ true = sym judged ∙ not-false a h in rw g (rw (small, sizes) at w)

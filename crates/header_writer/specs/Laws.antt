@@ -18,7 +18,7 @@ pub record Codec (A B : Type 0) : Type 0 where
   pub writeOf : List ℕ → A → List ℕ → Written
   pub takesMore : A → Bool
 
--- a header is read whole, from so many bytes, and it is the same as another
+-- a header is read whole, from that many bytes, and it is the same as another
 pub record ReadsAs {A B : Type 0} (c : Codec A B) (s : List ℕ) (used : ℕ) (r : List ℕ) (a : A) : Type 0 where
   pub found : B
   pub reads : c .readOf s ≡ answered found used

@@ -17,12 +17,12 @@ use Rattle.header.specs.declared.StreamHeader.{StreamHeader}
 use Rattle.header.specs.declared.SubgroupObject.{SubgroupObject}
 use Rattle.header.specs.declared.FetchObject.{FetchObject}
 
--- fields over the bytes s, behind what stands before them, into a buffer: where their layout forbids none of them
+-- fields over the bytes s, after what stands before them, into a buffer: where their layout forbids none of them
 unfoldable pub headerWritten : Layout → List ℕ → List ℕ → List Piece → List ℕ → Written
 headerWritten l front s ps before =
     writtenOf (both (allowed l ps) (rightAll s ps)) true true (front ++ encodeAll s ps) before
 
--- a datagram, behind its type
+-- a datagram, after its type
 unfoldable pub datagramWritten : List ℕ → Datagram → List ℕ → Written
 datagramWritten s d before =
     let t = datagramTyped d in

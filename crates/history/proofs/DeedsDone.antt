@@ -47,7 +47,7 @@ alias-lone (r ∷ rs) e =
     let (fresh, more) = both-each (not (hasAlias (r .alias) rs)) (distinct rs) e in
     (alias-others (r .alias) rs (not-true (hasAlias (r .alias) rs) fresh), alias-lone rs more)
 
--- the first of rows that rise, and those behind it
+-- the first of rows that rise, and those after it
 rising-first : (low next : ℕ) (r : Row) (rs : List Row) → rising low next (r ∷ rs) ≡ true → (low ≤ r .id) × (rising (r .id + 1) next rs ≡ true)
 unfolding rising
 rising-first low next r rs e =

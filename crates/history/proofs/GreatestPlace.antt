@@ -31,7 +31,7 @@ record Foremost (g : Place) (ps : List Place) : Type 0 where
   among : Among g ps
   last : Each (λ p. before g p ≡ false) ps
 
--- what is not behind a place is not behind one after it
+-- what is not after a place is not after one after it
 each-after : (g h : Place) (ps : List Place) → before h g ≡ false → Each (λ p. before g p ≡ false) ps → Each (λ p. before h p ≡ false) ps
 each-after g h [] e all = tt
 each-after g h (p ∷ ps) e all = (not-before h g p e (all .0), each-after g h ps e (all .1))

@@ -8,7 +8,7 @@ use Rattle.common.proofs.Cases.{pick-by}
 use Rattle.common.specs.Choice.{pick, both}
 use Rattle.row.specs.Places.{small}
 use Rattle.row.specs.declared.Row.{Row}
-use Rattle.ledger.specs.Ledgers.{held, isLedger, isOpen}
+use Rattle.ledger.specs.Ledgers.{mostRows, held, isLedger, isOpen}
 use Rattle.ledger.specs.Answers.{Came, closingRule}
 use Rattle.ledger.specs.Steps.{startOf}
 use Rattle.ledger.specs.declared.Ledger.{Ledger}
@@ -74,7 +74,7 @@ record Starts (l : Ledger) : Type 0 where
 starting : (part : Part) (capacity maximum : ℕ) → Starts (startOf part capacity maximum .next)
 unfolding startOf held
 starting part capacity maximum =
-    pick-by (λ (c : Came). Starts (c .next)) (both (leb 1 capacity) (both (leb capacity 64) (small maximum)))
+    pick-by (λ (c : Came). Starts (c .next)) (both (leb 1 capacity) (both (leb capacity mostRows) (small maximum)))
     (λ _. record { rows = refl; next = refl; opened = refl }) (λ _. record { rows = refl; next = refl; opened = refl })
 
 told-from : (l : Ledger) (es : List Event) → Starts l → ShownBy l (logOf l es) (ledgerAfter l es)

@@ -16,7 +16,7 @@ use Rattle.history.specs.Orders.{EitherOrder}
 use Rattle.history.proofs.Keeping.{comes-keeps}
 
 module _ (l : Ledger) (w : isLedger l ≡ true) where
-  -- the views behind two events
+  -- the views after two events
   after-both : (e f : Event) → seenOf (comes (comes l e .next) f) ≡ viewStep (viewStep (viewOf l) e .next) f
   after-both e f =
       ledger-follows (comes l e .next) f (comes-keeps l e w) ∙ ap (λ (s : Seen). viewStep (s .next) f) (ledger-follows l e w)

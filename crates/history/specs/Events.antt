@@ -1,10 +1,10 @@
--- A history of a ledger, and the ledger behind it.
+-- A history of a ledger, and the ledger after it.
 use mathlib.Core.List.{List, [], _∷_}
 use Rattle.ledger.specs.Answers.{Verdict}
 use Rattle.ledger.specs.declared.Ledger.{Ledger}
 use Rattle.view.specs.Events.{Event, comes}
 
--- a history: events, the earliest first. The ledger behind it,
+-- a history: events, the earliest first. The ledger after it,
 unfoldable pub ledgerAfter : Ledger → List Event → Ledger
 ledgerAfter l [] = l
 ledgerAfter l (e ∷ es) = ledgerAfter (comes l e .next) es

@@ -33,7 +33,7 @@ maximumBy maximum (raised larger) = larger
 maximumBy maximum (counted a) = maximum
 maximumBy maximum nothing = maximum
 
--- the ledger behind a history, by what was told from the start on
+-- the ledger after a history, by what was told from the start on
 pub record ShownBy (start : Ledger) (ts : List Logged) (after : Ledger) : Type 0 where
   pub part : after .part ≡ start .part
   pub capacity : after .capacity ≡ start .capacity

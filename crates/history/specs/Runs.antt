@@ -12,7 +12,7 @@ use Rattle.history.specs.Events.{ledgerAfter, Logged, logOf}
 abbrev pub answerNumber : Logged → ℕ
 answerNumber t = t .says .number
 
--- a run leaves the ledger behind a history, and puts the number of each of its events into a buffer
+-- a run leaves the ledger after a history, and puts the number of each of its events into a buffer
 pub record Follows (l : Ledger) (es : List Event) (before : List ℕ) (r : Run) : Type 0 where
   pub next : r .next ≡ ledgerAfter l es
   pub holds : r .holds ≡ over (map answerNumber (logOf l es)) before

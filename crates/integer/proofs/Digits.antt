@@ -35,7 +35,7 @@ unfolding spell
 spell-from n [] = omega arith
 spell-from n (x ∷ xs) = rw (spell-from (n * 256 + x) xs, spell-from (0 * 256 + x) xs, pow-succ') (omega arith)
 
--- so many bytes spell less than this
+-- that many bytes spell less than this
 pub spell-fits : (n i : ℕ) {x : ℕ} → n < 256 ^ i → x < 256 → n * 256 + x < 256 ^ (i + 1)
 spell-fits n i h k = rw (add-one, pow-suc) (digits-lt h k)
 
@@ -108,7 +108,7 @@ module _ (s : List ℕ) (o : Octets s) where
   spelt-suc : (i : ℕ) → i < length s → spell 0 (take (suc i) s) ≡ spell 0 (take i s) * 256 + getD s i 0
   spelt-suc i h = rw (take-suc s i 0 h, spell-snoc)
 
-  -- so many bytes spell less than this,
+  -- that many bytes spell less than this,
   spelt-fits : (i : ℕ) → i ≤ length s → spell 0 (take i s) < 256 ^ i
   unfolding spell
   spelt-fits zero h = zero-lt-suc 0
@@ -122,7 +122,7 @@ module _ (s : List ℕ) (o : Octets s) where
       let m = spell 0 (take i s) in
       rw (spelt-suc i h, digits-div m (o i), digits-mod m (o i), spelt i (omega arith), take-suc s i 0 h)
 
-  -- whose first is what is left of the number when those behind it are taken off
+  -- whose first is what is left of the number when those after it are taken off
   pub spelt-first : (w : ℕ) → 0 < w → w ≤ length s → getD s 0 0 ≡ spell 0 (take w s) / 256 ^ (w - 1)
   spelt-first w some h =
       sym (getD-take w s 0 0 some) ∙ ap (λ (x : List ℕ). getD x 0 0) (sym (spelt w h)) ∙ head-bytesOf w (spell 0 (take w s)) some (spelt-fits w h)

@@ -61,7 +61,7 @@ module _ (edition : Edition) (sound : T (isEdition edition)) where
   pub some : {form : Form} → In form edition → 0 < form .bytes
   some i = omega (arith, facts i .longer)
 
-  -- its room is its share of the first byte, with all that the bytes behind hold
+  -- its room is its share of the first byte, with all that the bytes after hold
   pub split : {form : Form} → In form edition → roomOf form ≡ shareOf form * 256 ^ (form .bytes - 1)
   split {form} i =
       let k = form .bytes - 1 in

@@ -56,7 +56,7 @@ pub data In (form : Form) : Edition → Type 0 where
   here : {forms : Edition} → In form (form ∷ forms)
   there : {other : Form} {forms : Edition} → In form forms → In form (other ∷ forms)
 
--- of a form that stands anywhere behind another, whose first bytes ended at from
+-- of a form that stands anywhere after another, whose first bytes ended at from
 pub record Behind (from : ℕ) (before form : Form) : Type 0 where
   pub longer : before .bytes < form .bytes
   pub more : before .greatest < form .greatest

@@ -8,7 +8,7 @@ unfoldable pub spell : ℕ → List ℕ → ℕ
 spell n [] = n
 spell n (byte ∷ bytes) = spell (n * 256 + byte) bytes
 
--- the low so many bytes of a number
+-- the low bytes of a number, as many as are asked for
 unfoldable pub bytesOf : ℕ → ℕ → List ℕ
 bytesOf zero n = []
 bytesOf (suc width) n = bytesOf width (n / 256) ++ n % 256 ∷ []

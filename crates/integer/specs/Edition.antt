@@ -35,7 +35,7 @@ noForm = row 0 0 0 0
 abbrev pub roomOf : Form → ℕ
 roomOf form = 2 ^ form .bits
 
--- and those of its bits that the bytes behind the first don't take stand in the first: so many first bytes begin it
+-- and those of its bits that the bytes after the first don't take stand in the first: that many first bytes begin it
 abbrev pub shareOf : Form → ℕ
 shareOf form = 2 ^ (form .bits - 8 * (form .bytes - 1))
 
@@ -102,15 +102,15 @@ writeBy edition n before =
 
 -- ---- what a table must have, so that reader and writer agree
 
--- the first byte that begins a form: the leading bits, and 0 behind them
+-- the first byte that begins a form: the leading bits, and 0 after them
 abbrev pub leadOf : Form → ℕ
 leadOf form = form .tag * shareOf form
 
--- and the first byte behind those that do
+-- and the first byte after those that do
 abbrev pub leadEnd : Form → ℕ
 leadEnd form = leadOf form + shareOf form
 
--- A row's columns agree: its greatest number is the last that its bits hold, and they fill the bytes behind the first.
+-- A row's columns agree: its greatest number is the last that its bits hold, and they fill the bytes after the first.
 abbrev pub agree : Form → Bool
 agree form = both (eqb (suc (form .greatest)) (roomOf form)) (leb (8 * (form .bytes - 1)) (form .bits))
 

@@ -29,12 +29,12 @@ unfoldable pub wide : ℕ → ℕ
 unfolding begunBy
 wide first = begunBy rfc9000 first .bytes
 
--- a form of so many bytes holds the numbers below this
+-- a form of that many bytes holds the numbers below this
 unfoldable pub room : ℕ → ℕ
 unfolding ofBytes
 room width = roomOf (ofBytes rfc9000 width)
 
--- the top two bits of a form of so many bytes
+-- the top two bits of a form of that many bytes
 unfoldable pub tag : ℕ → ℕ
 unfolding ofBytes
 tag width = ofBytes rfc9000 width .tag

@@ -32,7 +32,7 @@ pub fn read_at(s: &[u8], at: usize) -> Reading
     read(&s[at..])
 }
 
-// The number that width bytes spell, less what the first two bits add to it: a form of so many bytes has room for the
+// The number that width bytes spell, less what the first two bits add to it: a form of that many bytes has room for the
 // numbers below room. Each half is spelled by itself, so that the compiler loads its bytes at once, and the first half
 // counts step times.
 fn gather(s: &[u8], width: usize, step: u64, room: u64) -> Reading

@@ -11,7 +11,7 @@ use Rattle.field.proofs.Cuts.{Decided, found-decided, refused-decided, pick-dec
 use Rattle.layout.specs.Layout.{Layout, done, forbidden, field, when, control, scan}
 use Rattle.layout.proofs.Stable.{stays}
 
--- how many bytes decide a reading by a layout: those of its first field, and behind them those of what follows it
+-- how many bytes decide a reading by a layout: those of its first field, and after them those of what follows it
 decided : (l : Layout) (at : ℕ) (s : List ℕ) → Decided (λ u. scan l u at) s
 unfolding scan
 decided done at s = found-decided s
@@ -22,7 +22,7 @@ decided (field form next) at s =
     s
 decided (when test l m) at s = pick-decided test (decided l at s) (decided m at s)
 
--- Whatever the bytes are, with so many zeros behind them a reading is not cut:
+-- Whatever the bytes are, with that many zeros after them a reading is not cut:
 pub zeros-decide : (l : Layout) (s : List ℕ) (at : ℕ) → (n : ℕ) × (scan l (s ++ replicate n 0) at ≡ no Cut → ⊥)
 zeros-decide l s at = let d = decided l at s in (d .more, d .decides)
 

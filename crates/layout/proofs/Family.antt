@@ -24,7 +24,7 @@ module _ (type : ℕ) {s : List ℕ} {k : Layout} {at : ℕ} where
   pub typed-on : {o : Outcome Typed} {ps : List Piece} {l : Layout} {end : ℕ} → o ≡ typed type (led ps (scan l s end)) → To s k at ps l end → o ≡ typed type (scan k s at)
   typed-on h w = h ∙ ap (typed type) (is-on w)
 
-  -- and behind fields that were handed to it the same
+  -- and after fields that were handed to it the same
   module _ (first : List Piece) where
     pub behind-no : {fault : Fault} → Stops s k at fault → no fault ≡ typed type (led first (scan k s at))
     behind-no w = ap (typed type) (led-no first w)

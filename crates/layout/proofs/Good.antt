@@ -56,7 +56,7 @@ good-items sized kind (suc count) held s at h =
 
 -- ---- a list
 
--- its size is judged with so many bytes of a name beside it;
+-- its size is judged with that many bytes of a name beside it;
 
 good-list : (kind : Kind) (s : List ℕ) (at also : ℕ) {l : Listed} {end : ℕ} → listAt kind s at ≡ whole l end → within kind (l .held + also) ≡ true → goodList kind (contents s kind (l .entries)) also ≡ true
 unfolding goodList

@@ -5,7 +5,6 @@ use mathlib.Core.Path.{_≡_, refl, sym, ap, _∙_}
 use mathlib.Core.List.{List, [], _∷_, _++_, append-nil, append-assoc}
 use mathlib.Core.Bool.{Bool, true, false}
 use Rattle.common.proofs.Tests.{tests}
-pub use Rattle.common.proofs.Tests.{kept, broken}
 use Rattle.field.specs.Outcome.{Outcome, whole, no, andThen}
 use Rattle.integer.specs.Integer.{greatest}
 use Rattle.field.specs.Entries.{numberAt, textAt}
@@ -65,7 +64,7 @@ pub data To (s : List ℕ) : Layout → ℕ → List Piece → Layout → ℕ �
   yes : {t : Bool} {k m : Layout} {at : ℕ} {ps : List Piece} {l : Layout} {end : ℕ} → t ≡ true → To s k at ps l end → To s (when t k m) at ps l end
   else : {t : Bool} {k m : Layout} {at : ℕ} {ps : List Piece} {l : Layout} {end : ℕ} → t ≡ false → To s m at ps l end → To s (when t k m) at ps l end
 
--- what is read after them is read behind them
+-- what is read after them is read after them
 pub is-on : {s : List ℕ} {k : Layout} {at : ℕ} {ps : List Piece} {l : Layout} {end : ℕ} → To s k at ps l end → led ps (scan l s end) ≡ scan k s at
 unfolding scan
 is-on {s} {l} {end} there = led-none (scan l s end)

@@ -4,7 +4,7 @@ use mathlib.Core.List.{List, _++_}
 use Rattle.field.specs.Outcome.{Outcome, whole, no}
 use Rattle.field.specs.declared.Piece.{Piece}
 
--- fields, behind others that were read before them
+-- fields, after others that were read before them
 abbrev pub led : List Piece → Outcome (List Piece) → Outcome (List Piece)
 led first (whole ps end) = whole (first ++ ps) end
 led first (no fault) = no fault

@@ -7,6 +7,7 @@ use native.Mathlib.Omega.{arith}
 use lib.ListN.{length, take, getD, set, length-set, length-map, List·getD-map}
 use lib.Seq.{take-all, take-suc, take-suc-set}
 use Rattle.row.specs.declared.Row.{Row}
+use Rattle.ledger.specs.Ledgers.{mostRows}
 use Rattle.ledger.specs.Steps.{aliasOf}
 use Rattle.ledger.specs.Arrays.{find}
 use Rattle.ledger.specs.Runs.{itself}
@@ -23,12 +24,12 @@ find-map n from (r ∷ rs) = rw (find-map n (from + 1) rs)
 
 -- the first i of the names are those of the rows
 pub record Named (rs : List Row) (names : List ℕ) (i : ℕ) : Type 0 where
-  pub to : i ≤ 64
-  pub long : length names ≡ 64
+  pub to : i ≤ mostRows
+  pub long : length names ≡ mostRows
   pub so-far : take i names ≡ map aliasOf (take i rs)
 
-module _ (rs : List Row) (names : List ℕ) (i : ℕ) (k : length rs ≡ 64) (n : Named rs names i) where
-  pub named-next : (d : Row) → i < 64 → Named rs (set names i (getD rs i d .alias)) (i + 1)
+module _ (rs : List Row) (names : List ℕ) (i : ℕ) (k : length rs ≡ mostRows) (n : Named rs names i) where
+  pub named-next : (d : Row) → i < mostRows → Named rs (set names i (getD rs i d .alias)) (i + 1)
   named-next d h =
       record {
         to = omega arith;
@@ -38,6 +39,6 @@ module _ (rs : List Row) (names : List ℕ) (i : ℕ) (k : length rs ≡ 64) (n 
             (sym (rw (take-suc (map aliasOf rs) i (d .alias) (rw length-map (omega arith)), List·getD-map aliasOf rs i d)));
       }
 
-  pub all-named : 64 ≤ i → names ≡ map aliasOf rs
+  pub all-named : mostRows ≤ i → names ≡ map aliasOf rs
   all-named h =
       sym (take-all i names (omega (arith, n .long))) ∙ n .so-far ∙ ap (map aliasOf) (take-all i rs (omega arith))

@@ -5,10 +5,10 @@ use mathlib.Core.Bool.{Bool, true, false, not}
 use borrow.Author.Tests.{le-leb, lt-leb, lt-ltb, le-ltb, eq-eqb, ne-eqb}
 use lib.ListN.{length, drop, getD}
 use Rattle.common.specs.Choice.{both}
-use Rattle.layout.proofs.Steps.{kept, broken}
+use Rattle.common.proofs.Tests.{kept, broken}
 use Rattle.row.specs.Rows.{isRow, isUnused}
 use Rattle.row.specs.declared.Row.{Row}
-use Rattle.ledger.specs.Ledgers.{held, rising, hasAlias, distinct, allUnused}
+use Rattle.ledger.specs.Ledgers.{mostRows, held, rising, hasAlias, distinct, allUnused}
 use Rattle.ledger.specs.declared.Ledger.{Ledger}
 use Rattle.ledger.proofs.PartsOfLists.{rest-next, rest-end, held-next, held-end}
 
@@ -21,7 +21,7 @@ pub rises : (l : Ledger) → Rising l 0 0
 unfolding Rising
 rises l = refl
 
-module _ (l : Ledger) (low i : ℕ) (long : length (l .rows) ≡ 64) (few : l .used ≤ 64) (a : Rising l low i) where
+module _ (l : Ledger) (low i : ℕ) (long : length (l .rows) ≡ mostRows) (few : l .used ≤ mostRows) (a : Rising l low i) where
   module _ (d : Row) (h : i < l .used) where
     pub not-above : getD (l .rows) i d .id < low → false ≡ rising 0 (l .next) (held l)
     unfolding Rising rising
@@ -50,7 +50,7 @@ module _ (l : Ledger) (low i : ℕ) (long : length (l .rows) ≡ 64) (few : l .u
 pub Apart : Ledger → ℕ → Type 0
 Apart l i = distinct (drop i (held l)) ≡ distinct (held l)
 
--- the i-th alias isn't held by the rows behind it, as far as the j-th
+-- the i-th alias isn't held by the rows after it, as far as the j-th
 pub Lone : Ledger → ℕ → ℕ → ℕ → Type 0
 Lone l alias i j = both (not (hasAlias alias (drop j (held l)))) (distinct (drop (i + 1) (held l))) ≡ distinct (held l)
 
@@ -58,7 +58,7 @@ pub are-apart : (l : Ledger) → Apart l 0
 unfolding Apart
 are-apart l = refl
 
-module _ (l : Ledger) (i : ℕ) (long : length (l .rows) ≡ 64) (few : l .used ≤ 64) where
+module _ (l : Ledger) (i : ℕ) (long : length (l .rows) ≡ mostRows) (few : l .used ≤ mostRows) where
   pub begins : Apart l i → (d : Row) → i < l .used → Lone l (getD (l .rows) i d .alias) i (i + 1)
   unfolding Apart Lone distinct
   begins a d h = sym (rw (held-next l long few i d h)) ∙ a

@@ -9,13 +9,13 @@ use lib.ListN.{length, drop}
 use Rattle.common.proofs.Tests.{both-first, both-second}
 use Rattle.integer.specs.Integer.{greatest}
 use Rattle.row.specs.Places.{small}
-use Rattle.ledger.specs.Ledgers.{held, rising, distinct, allUnused, bounded, isLedger}
+use Rattle.ledger.specs.Ledgers.{mostRows, held, rising, distinct, allUnused, bounded, isLedger}
 use Rattle.ledger.specs.declared.Ledger.{Ledger}
 
 -- the numbers beside the rows
 pub record Bounds (capacity used maximum next : ℕ) : Type 0 where
   pub some : 1 ≤ capacity
-  pub few : capacity ≤ 64
+  pub few : capacity ≤ mostRows
   pub room : used ≤ capacity
   pub least : small maximum ≡ true
   pub most : next ≤ greatest + 1
@@ -27,7 +27,7 @@ pub bounds : (l : Ledger) → bounded l ≡ true → Within l
 unfolding bounded
 bounds l e =
     let t₁ = leb 1 (l .capacity) in
-    let t₂ = leb (l .capacity) 64 in
+    let t₂ = leb (l .capacity) mostRows in
     let t₃ = leb (l .used) (l .capacity) in
     let t₄ = small (l .maximum) in
     let e₁ = both-second t₁ _ e in
@@ -35,7 +35,7 @@ bounds l e =
     let e₃ = both-second t₃ _ e₂ in
     record {
       some = leb-true 1 (l .capacity) (both-first t₁ _ e);
-      few = leb-true (l .capacity) 64 (both-first t₂ _ e₁);
+      few = leb-true (l .capacity) mostRows (both-first t₂ _ e₁);
       room = leb-true (l .used) (l .capacity) (both-first t₃ _ e₂);
       least = both-first t₄ _ e₃;
       most = leb-true (l .next) (greatest + 1) (both-second t₄ _ e₃);
@@ -45,11 +45,11 @@ pub bounded-by : (l : Ledger) → Within l → bounded l ≡ true
 unfolding bounded
 bounded-by l b =
     rw
-    (le-leb 1 (l .capacity) (b .some), le-leb (l .capacity) 64 (b .few), le-leb (l .used) (l .capacity) (b .room), b .least, le-leb (l .next) (greatest + 1) (b .most))
+    (le-leb 1 (l .capacity) (b .some), le-leb (l .capacity) mostRows (b .few), le-leb (l .used) (l .capacity) (b .room), b .least, le-leb (l .next) (greatest + 1) (b .most))
 
 -- a ledger, by its parts
 pub record IsLedger (l : Ledger) : Type 0 where
-  pub long : length (l .rows) ≡ 64
+  pub long : length (l .rows) ≡ mostRows
   pub within : Within l
   pub rises : rising 0 (l .next) (held l) ≡ true
   pub apart : distinct (held l) ≡ true
@@ -58,7 +58,7 @@ pub record IsLedger (l : Ledger) : Type 0 where
 pub parts : (l : Ledger) → isLedger l ≡ true → IsLedger l
 unfolding isLedger
 parts l e =
-    let t₁ = eqb (length (l .rows)) 64 in
+    let t₁ = eqb (length (l .rows)) mostRows in
     let t₂ = bounded l in
     let t₃ = rising 0 (l .next) (held l) in
     let t₄ = distinct (held l) in
@@ -66,7 +66,7 @@ parts l e =
     let e₂ = both-second t₂ _ e₁ in
     let e₃ = both-second t₃ _ e₂ in
     record {
-      long = eqb-true (length (l .rows)) 64 (both-first t₁ _ e);
+      long = eqb-true (length (l .rows)) mostRows (both-first t₁ _ e);
       within = bounds l (both-first t₂ _ e₁);
       rises = both-first t₃ _ e₂;
       apart = both-first t₄ _ e₃;
@@ -75,11 +75,11 @@ parts l e =
 
 pub whole : (l : Ledger) → IsLedger l → isLedger l ≡ true
 unfolding isLedger
-whole l w = rw (eq-eqb (length (l .rows)) 64 (w .long), bounded-by l (w .within), w .rises, w .apart, w .rest)
+whole l w = rw (eq-eqb (length (l .rows)) mostRows (w .long), bounded-by l (w .within), w .rises, w .apart, w .rest)
 
 -- so there are no more rows in use than places
-pub few-used : (l : Ledger) → bounded l ≡ true → l .used ≤ 64
+pub few-used : (l : Ledger) → bounded l ≡ true → l .used ≤ mostRows
 few-used l e = let b = bounds l e in omega (arith, b .few, b .room)
 
-pub ledger-used : (l : Ledger) → isLedger l ≡ true → l .used ≤ 64
+pub ledger-used : (l : Ledger) → isLedger l ≡ true → l .used ≤ mostRows
 ledger-used l e = let b = parts l e .within in omega (arith, b .few, b .room)

@@ -1,4 +1,4 @@
--- The rows in use behind a step, by key and not by place: a row changed, added last, or taken out. Assumes nothing.
+-- The rows in use after a step, by key and not by place: a row changed, added last, or taken out. Assumes nothing.
 use Prim.Native.Nat.{ℕ, zero, suc, _+_, _-_, _≤_, _<_}
 use mathlib.Core.Path.{_≡_, refl, sym, ap, _∙_}
 use mathlib.Core.List.{List, [], _∷_, _++_}
@@ -26,7 +26,7 @@ module _ {A : Type 0} where
   take-gone (suc k) (x ∷ xs) ys zero h l = take-append-le (suc k) xs ys (omega arith)
   take-gone (suc k) (x ∷ xs) ys (suc i) h l = ap (λ (t : List A). x ∷ t) (take-gone k xs ys i (omega arith) (omega arith))
 
-  -- and those behind them
+  -- and those after them
   pub drop-gone : (k : ℕ) (xs ys : List A) (i : ℕ) → i ≤ k → k < length xs → drop k (take i xs ++ (drop (suc i) xs ++ ys)) ≡ drop (suc k) xs ++ ys
   drop-gone k [] ys i h l = absurd (omega arith)
   drop-gone zero (x ∷ xs) ys zero h l = refl

@@ -228,7 +228,7 @@ module _ (l : Ledger) (w : isLedger l ≡ true) where
 
 -- ---- a start
 
-empty-is : (part : Part) (capacity maximum : ℕ) → 1 ≤ capacity → capacity ≤ 64 → small maximum ≡ true → isLedger (emptyLedger part capacity maximum) ≡ true
+empty-is : (part : Part) (capacity maximum : ℕ) → 1 ≤ capacity → capacity ≤ mostRows → small maximum ≡ true → isLedger (emptyLedger part capacity maximum) ≡ true
 unfolding held rising distinct allUnused isUnused isPending isKnown isNowhere
 empty-is part capacity maximum some few s =
     whole _ (record {
@@ -243,17 +243,17 @@ empty-is part capacity maximum some few s =
 pub starts : (part : Part) (capacity maximum : ℕ) → startOf part capacity maximum .says ≡ noRule 8 → isLedger (startOf part capacity maximum .next) ≡ true
 unfolding startOf
 starts part capacity maximum =
-    let t = both (leb 1 capacity) (both (leb capacity 64) (small maximum)) in
+    let t = both (leb 1 capacity) (both (leb capacity mostRows) (small maximum)) in
     pick-by (λ (c : Came). c .says ≡ noRule 8 → isLedger (c .next) ≡ true) t
     (λ e _.
     let e₁ = both-second (leb 1 capacity) _ e in
-    empty-is part capacity maximum (leb-true 1 capacity (both-first (leb 1 capacity) _ e)) (leb-true capacity 64 (both-first (leb capacity 64) _ e₁)) (both-second (leb capacity 64) _ e₁))
+    empty-is part capacity maximum (leb-true 1 capacity (both-first (leb 1 capacity) _ e)) (leb-true capacity mostRows (both-first (leb capacity mostRows) _ e₁)) (both-second (leb capacity mostRows) _ e₁))
     (λ _ e. absurd (let n : _≡_ {A = ℕ} 15 8 = ap (λ (s : Verdict). s .number) e in omega arith))
 
 pub no-start : (part : Part) (capacity maximum : ℕ) → startOf part capacity maximum .says ≡ noRule 15 → isLedger (startOf part capacity maximum .next) ≡ false
 unfolding startOf isLedger bounded
 no-start part capacity maximum =
-    let t = both (leb 1 capacity) (both (leb capacity 64) (small maximum)) in
+    let t = both (leb 1 capacity) (both (leb capacity mostRows) (small maximum)) in
     pick-by (λ (c : Came). c .says ≡ noRule 15 → isLedger (c .next) ≡ false) t
     (λ _ e. absurd (let n : _≡_ {A = ℕ} 8 15 = ap (λ (s : Verdict). s .number) e in omega arith))
     (λ _ _. refl)

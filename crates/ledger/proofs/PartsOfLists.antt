@@ -8,7 +8,7 @@ use native.Mathlib.Omega.{arith}
 use lib.ListN.{length, take, drop, getD, drop-of-length-le}
 use lib.Seq.{drop-cons, length-take-le, getD-take}
 use Rattle.row.specs.declared.Row.{Row}
-use Rattle.ledger.specs.Ledgers.{held}
+use Rattle.ledger.specs.Ledgers.{mostRows, held}
 use Rattle.ledger.specs.declared.Ledger.{Ledger}
 
 module _ {A : Type 0} (xs : List A) (i : ℕ) where
@@ -18,17 +18,17 @@ module _ {A : Type 0} (xs : List A) (i : ℕ) where
   pub rest-end : length xs ≤ i → drop i xs ≡ []
   rest-end h = drop-of-length-le xs {i = i} h
 
--- the i-th of the first n, and those behind it
+-- the i-th of the first n, and those after it
 module _ {A : Type 0} (xs : List A) (n i : ℕ) (long : n ≤ length xs) where
   pub part-next : (d : A) → i < n → drop i (take n xs) ≡ getD xs i d ∷ drop (i + 1) (take n xs)
   part-next d h =
       rest-next (take n xs) i d (omega (arith, length-take-le n xs long)) ∙ rw (getD-take n xs i d h)
 
-  -- behind the last there are none
+  -- after the last there are none
   pub part-end : n ≤ i → drop i (take n xs) ≡ []
   part-end h = rest-end (take n xs) i (omega (arith, length-take-le n xs long))
 
-module _ (l : Ledger) (long : length (l .rows) ≡ 64) (few : l .used ≤ 64) where
+module _ (l : Ledger) (long : length (l .rows) ≡ mostRows) (few : l .used ≤ mostRows) where
   pub held-long : length (held l) ≡ l .used
   unfolding held
   held-long = length-take-le (l .used) (l .rows) (omega arith)

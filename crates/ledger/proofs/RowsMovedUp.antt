@@ -8,6 +8,7 @@ use lib.ListN.{length, take, drop, getD, set, length-append, length-take, length
 use lib.Seq.{take-all, take-at, take-suc, set-at, append-snoc, getD-drop, getD-append-add, length-take-le}
 use Rattle.row.specs.Rows.{unusedRow}
 use Rattle.row.specs.declared.Row.{Row}
+use Rattle.ledger.specs.Ledgers.{mostRows}
 use Rattle.ledger.specs.Arrays.{withRows, freed}
 use Rattle.ledger.specs.declared.Ledger.{Ledger}
 use Rattle.ledger.proofs.PartsOfLists.{rest-next, rest-end}
@@ -64,33 +65,37 @@ module _ {A : Type 0} (xs : List A) (i n : ℕ) (len : length xs ≡ n + 1) (ins
 
 -- ---- the rows of a ledger
 
+-- the last place for a row
+abbrev pub lastRow : ℕ
+lastRow = mostRows - 1
+
 pub record Moving (l : Ledger) (at : ℕ) (next : Ledger) (i : ℕ) : Type 0 where
   pub from : at ≤ i
-  pub to : i ≤ 63
+  pub to : i ≤ lastRow
   pub is : next ≡ withRows l (shifted (l .rows) at i) (l .used) (l .next)
 
-module _ (l : Ledger) (at : ℕ) (long : length (l .rows) ≡ 64) (h : at < 64) where
+module _ (l : Ledger) (at : ℕ) (long : length (l .rows) ≡ mostRows) (h : at < mostRows) where
   pub moves : Moving l at l at
   moves =
       record {
         from = omega arith;
         to = omega arith;
-        is = ap (λ (rs : List Row). withRows l rs (l .used) (l .next)) (shift-start (l .rows) at 63 long (omega arith));
+        is = ap (λ (rs : List Row). withRows l rs (l .used) (l .next)) (shift-start (l .rows) at lastRow long (omega arith));
       }
 
   module _ {next : Ledger} {i : ℕ} (m : Moving l at next i) where
-    pub moves-on : (d : Row) → i < 63 → Moving l at (withRows next (set (next .rows) i (getD (l .rows) (i + 1) d)) (next .used) (next .next)) (i + 1)
+    pub moves-on : (d : Row) → i < lastRow → Moving l at (withRows next (set (next .rows) i (getD (l .rows) (i + 1) d)) (next .used) (next .next)) (i + 1)
     moves-on d j =
         record {
           from = omega (arith, m .from);
           to = omega arith;
           is =
               rw (m .is)
-              (ap (λ (rs : List Row). withRows l rs (l .used) (l .next)) (shift-next (l .rows) at 63 long (omega arith) d i (m .from) j));
+              (ap (λ (rs : List Row). withRows l rs (l .used) (l .next)) (shift-next (l .rows) at lastRow long (omega arith) d i (m .from) j));
         }
 
-    pub moved : (used : ℕ) → 63 ≤ i → used ≡ l .used - 1 → withRows next (set (next .rows) 63 unusedRow) used (next .next) ≡ freed l at
+    pub moved : (used : ℕ) → lastRow ≤ i → used ≡ l .used - 1 → withRows next (set (next .rows) lastRow unusedRow) used (next .next) ≡ freed l at
     unfolding freed
     moved used j u =
-        let end : i ≡ 63 = omega (arith, m .to) in
-        rw (m .is, end, u) (ap (λ (rs : List Row). withRows l rs (l .used - 1) (l .next)) (shift-end (l .rows) at 63 long (omega arith) unusedRow unusedRow))
+        let end : i ≡ lastRow = omega (arith, m .to) in
+        rw (m .is, end, u) (ap (λ (rs : List Row). withRows l rs (l .used - 1) (l .next)) (shift-end (l .rows) at lastRow long (omega arith) unusedRow unusedRow))

@@ -17,7 +17,7 @@ use Rattle.row.specs.Rows.{unusedRow, arriveOf, arrivedNumber, leftBy, toldArri
 use Rattle.row.specs.declared.Row.{Row}
 use Rattle.row.specs.declared.Arriving.{Arriving}
 use Rattle.row.proofs.Keeping.{after, after-alias}
-use Rattle.ledger.specs.Ledgers.{held, isLedger, isOpen}
+use Rattle.ledger.specs.Ledgers.{mostRows, held, isLedger, isOpen}
 use Rattle.ledger.specs.Answers.{Came, noRule, same, stops, gateOf, gated}
 use Rattle.ledger.specs.Views.{viewOf, cameOf}
 use Rattle.ledger.specs.Steps.{aliasOf, arrivalStep, arrivalOf, smallArrival}
@@ -173,10 +173,10 @@ module _ {start : Ledger} {run before names : List ℕ} {opened : Bool} {used : 
 
       module _ (z : n ≡ 0) where
         -- the names in use fit
-        pub fits : (used ≤ 64) × (used ≤ length names)
+        pub fits : (used ≤ mostRows) × (used ≤ length names)
         fits =
             let few = ledger-used l (g .is) in
-            let long : length names ≡ 64 = ap length (g .named) ∙ length-map (l .rows) aliasOf ∙ parts l (g .is) .long in
+            let long : length names ≡ mostRows = ap length (g .named) ∙ length-map (l .rows) aliasOf ∙ parts l (g .is) .long in
             (omega (arith, g .uses), omega (arith, g .uses))
 
         module _ {f : Found} (found : f ≡ find itself (getD run (3 * k) 0) 0 (take used names)) where
@@ -195,13 +195,13 @@ module _ {start : Ledger} {run before names : List ℕ} {opened : Bool} {used : 
           missed-turn e = taken-turn (no-alias l (g .is) (arrivalAt run (3 * k)) by-alias e)
 
           module _ {i : ℕ} (at : f ≡ At i) where
-            pub inside : i < 64
+            pub inside : i < mostRows
             inside = omega (arith, found-used aliasOf (getD run (3 * k) 0) l by-alias at, ledger-used l (g .is))
 
             pub counted-turn : (w : Arriving) {r : Row} {m : ℕ} → toldArriving w (rowAt l i) ≡ arriveOf (rowAt l i) (arrivalAt run (3 * k) .place) → r ≡ leftBy w (rowAt l i) → m ≡ arrivedNumber w → Along start run before names opened used (set answers k m) (changed l i r) (k + 1)
             counted-turn w came left number = taken-turn (rw (left, number) (answered l (g .is) (arrivalAt run (3 * k)) by-alias at {v = w} came {u = w} refl))
 
-  -- behind the last
+  -- after the last
   module _ {count : ℕ} (e : count ≡ length run / 3) (all : count ≤ k) (to : k ≤ count) where
     over-all : arrivalsIn (drop (3 * k) run) ≡ []
     over-all =
@@ -249,7 +249,7 @@ no-room l run before valid e h =
     let short = lt-leb (length (arrivalsIn run)) (length before) (omega (arith, thirds run)) in
     record { says = rw (valid, short); next = rw (valid, short); holds = rw (valid, short) }
 
--- where there is room, the ledger behind a run is that behind its arrivals, also of what is no ledger
+-- where there is room, the ledger after a run is that after its arrivals, also of what is no ledger
 pub run-behind : (l : Ledger) (run before : List ℕ) → length (arrivalsIn run) ≤ length before → runOf l run before .next ≡ afterArrivals l (arrivalsIn run)
 unfolding runOf
 run-behind l run before room = go (isLedger l) refl

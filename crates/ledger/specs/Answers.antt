@@ -42,7 +42,7 @@ closeCode R5 = 0x3
 closeCode R6 = 0x3
 closeCode R7 = 0x3
 
--- ---- 01's number of an answer, and the rule that stands behind a 13 (0 behind another)
+-- ---- 01's number of an answer, and the rule that comes with a 13 (0 with any other)
 
 pub record Verdict : Type 0 where
   pub number : ℕ

@@ -27,7 +27,7 @@ arrivalsIn (alias ∷ group ∷ object ∷ rest) =
 abbrev pub itself : ℕ → ℕ
 itself n = n
 
--- the ledger behind them,
+-- the ledger after them,
 unfoldable pub afterArrivals : Ledger → List Arrival → Ledger
 afterArrivals l [] = l
 afterArrivals l (a ∷ rest) = afterArrivals (arrivalOf l a .next) rest
@@ -37,7 +37,7 @@ unfoldable pub answerNumbers : Ledger → List Arrival → List ℕ
 answerNumbers l [] = []
 answerNumbers l (a ∷ rest) = arrivalOf l a .says .number ∷ answerNumbers (arrivalOf l a .next) rest
 
--- what a run does: what is said, the ledger behind it, and what the buffer for the numbers then holds
+-- what a run does: what is said, the ledger after it, and what the buffer for the numbers then holds
 pub record Run : Type 0 where
   pub says : Answer Nothing
   pub next : Ledger

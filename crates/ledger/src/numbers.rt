@@ -4,7 +4,7 @@ ghost use Rattle.ledger.specs.Answers.{ruleNumber, toldAnswer};
 use crate::Answer;
 use crate::Rule;
 
-// Document 01's number of an answer, and the rule that stands behind a 13 (0 behind another).
+// Document 01's number of an answer, and the rule that comes with a 13 (0 with any other).
 pub fn number(answer: Answer) -> u8
     ensures { λ r. ⌜ r ≡ toldAnswer answer .number ⌝ }
 {

@@ -137,7 +137,7 @@ numbers-again ns h =
 pub named : (l : Ledger) → length (l .rows) ≡ mostRows → ledgerNamed (numbersOf l) ≡ l
 named l places = rw append-nil at (named-before l places [])
 
--- ---- what is kept behind a call that left the ledger as it was
+-- ---- what is kept after a call that left the ledger as it was
 
 -- the first numbers of a list, put over it
 over-itself : (n : ℕ) (ns : List ℕ) → over (take n ns) ns ≡ ns

@@ -11,7 +11,7 @@ use Rattle.ledger.specs.Ledgers.{mostRows}
 use Rattle.ledger_numbers.specs.Numbers.{ownNumbers, rowNumbers}
 use Rattle.ledger_numbers.specs.Naming.{rowNamed, rowsNamed}
 
--- one more row is behind the others
+-- one more row is after the others
 pub rows-snoc : (i : ℕ) (ns : List ℕ) (at : ℕ) → rowsNamed (suc i) ns at ≡ rowsNamed i ns at ++ (rowNamed ns (at + rowNumbers * i) ∷ [])
 unfolding rowsNamed
 rows-snoc zero ns at = let e : at + 0 ≡ at = omega arith in rw e

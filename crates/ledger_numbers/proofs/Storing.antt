@@ -1,4 +1,4 @@
--- The numbers of rows and of a ledger, stored one by one, each thing behind the other. Assumes nothing.
+-- The numbers of rows and of a ledger, stored one by one, one after the other. Assumes nothing.
 use Prim.Native.Nat.{ℕ, _+_, _*_, _≤_, _<_}
 use mathlib.Core.Path.{_≡_, refl, ap, _∙_}
 use mathlib.Core.List.{List, [], _∷_}
@@ -69,7 +69,7 @@ module _ (rs : List Row) (i : ℕ) where
   unfolding numbersOfRows
   row-next d h = record { joins = rw (drop-cons rs i d h, add-one i) }
 
-  -- and behind the last they end
+  -- and after the last they end
   pub rows-end : length rs ≤ i → numbersOfRows (drop i rs) ≡ []
   unfolding numbersOfRows
   rows-end h = rw (drop-of-length-le rs {i = i} h)
@@ -93,7 +93,7 @@ module _ (l : Ledger) {p s : ℕ} (e : p ≡ partNumber (l .part)) (f : s ≡ cl
   front-put : Put front before ownNumbers (sets before 0 front)
   front-put = stored front before (omega (arith, length-append front (numbersOfRows (l .rows)), ap length (front-room .joins)))
 
-  -- there is room for the rows behind them,
+  -- there is room for the rows after them,
   pub rows-fit : length (numbersOfRows (l .rows)) ≤ length (lent ownNumbers (sets before 0 front))
   rows-fit = second-fits front-room front-put
 

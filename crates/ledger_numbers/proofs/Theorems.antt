@@ -16,7 +16,7 @@ module _ (l : Ledger) (places : length (l .rows) ≡ mostRows) where
   pub named-again : ledgerNamed (numbersOf l) ≡ l
   named-again = again.named l places
 
-  -- and so a ledger that is packed is unpacked as the same, whatever stands behind its numbers.
+  -- and so a ledger that is packed is unpacked as the same, whatever stands after its numbers.
   pub unpacked-again : (rest : List ℕ) → unpackOf (numbersOf l ++ rest) ≡ l
   unpacked-again = again.unpacked l places
 

@@ -1,4 +1,4 @@
--- The ledger that numbers name, and what is left of them behind a call.
+-- The ledger that numbers name, and what is left of them after a call.
 use Prim.Native.Nat.{ℕ, zero, suc, _+_}
 use mathlib.Core.Bool.{Bool, true, false}
 use mathlib.Core.List.{List, [], _∷_}
@@ -50,7 +50,7 @@ rowNamed ns at = record {
   count = getD ns (at + 10) 0;
 }
 
--- so many rows from an offset on
+-- that many rows from an offset on
 unfoldable pub rowsNamed : ℕ → List ℕ → ℕ → List Row
 rowsNamed zero ns at = []
 rowsNamed (suc more) ns at = rowNamed ns at ∷ rowsNamed more ns (at + rowNumbers)
@@ -92,7 +92,7 @@ noLedger = emptyLedger Subscriber 0 0
 unfoldable pub unpackOf : List ℕ → Ledger
 unpackOf ns = pick (areSame (numbersOf (ledgerNamed ns)) (take ledgerNumbers ns)) (ledgerNamed ns) noLedger
 
--- the numbers behind a call that left this ledger: they stay where it is none, or there is no room for it
+-- the numbers after a call that left this ledger: they stay where it is none, or there is no room for it
 unfoldable pub keptIn : List ℕ → Ledger → List ℕ
 keptIn before next =
     pick (eqb (next .capacity) 0) before

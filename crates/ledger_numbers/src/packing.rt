@@ -32,7 +32,7 @@ fn session_number(session: Session) -> u64
     }
 }
 
-// The rows, each behind the other.
+// The rows, one after the other.
 fn put_rows(out: &mut [u64], l: Ledger) -> usize
     requires { ⌜ length (numbersOfRows (l .rows)) ≤ length (now out) ⌝ }
     ensures { λ r. ⌜ Put (numbersOfRows (l .rows)) (now (out .entry)) r (now (out .exit)) ⌝ }

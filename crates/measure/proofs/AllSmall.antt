@@ -55,7 +55,7 @@ module _ (f : Fields) (i : ℕ) (l : length (f .at) ≡ mostPieces) (a : Left f 
   unfolding Left smallAll
   one-small {b} d h e n = sym (rw (from-next f i l d h, ← e, not-false b n)) ∙ a
 
-  -- behind the last, none was too great
+  -- after the last, none was too great
   pub none-great : pieceCount (f .used) ≤ i → true ≡ smallAll (fieldsOf f)
   unfolding Left smallAll
   none-great h = sym (rw (from-last f i l h)) ∙ a

@@ -1,4 +1,4 @@
--- Entries that are there, so many from an offset on. Assumes nothing.
+-- Entries that are there, a number of them from an offset on. Assumes nothing.
 use Prim.Native.Nat.{ℕ, zero, suc, _+_, _-_, _<_}
 use mathlib.Core.Path.{_≡_, refl}
 use mathlib.Core.Bool.{false}
@@ -16,7 +16,7 @@ use Rattle.field.specs.declared.Fault.{Fault}
 use Rattle.field.specs.declared.Kind.{Kind}
 use Rattle.field.proofs.Shortest.{run-at}
 
--- entries that were found, when so many bytes were held before them
+-- entries that were found, when that many bytes were held before them
 pub record Run (kind : Kind) (count : ℕ) (s : List ℕ) (at : ℕ) : Type 0 where
   pub earlier : ℕ
   pub held : ℕ

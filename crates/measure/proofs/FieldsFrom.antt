@@ -15,7 +15,7 @@ use Rattle.measure.specs.Fields.{mostPieces, slot, fieldsOf, pieceCount}
 use Rattle.measure.specs.declared.Slot.{Slot}
 use Rattle.measure.specs.declared.Fields.{Fields}
 
--- so many fields, by those from the i-th on: the i-th and those behind it, and behind the last none
+-- that many fields, by those from the i-th on: the i-th and those after it, and after the last none
 pub record Row (from : ℕ → List Piece) (count : ℕ) (field : ℕ → Piece) : Type 0 where
   pub next : (i : ℕ) → i < count → from i ≡ field i ∷ from (i + 1)
   pub last : (i : ℕ) → count ≤ i → from i ≡ []
@@ -48,14 +48,14 @@ unfolding fieldsFrom fieldsOf
 from-first f = refl
 
 module _ (f : Fields) (i : ℕ) (l : length (f .at) ≡ mostPieces) where
-  -- the i-th, and those behind it
+  -- the i-th, and those after it
   pub from-next : (d : Slot) → i < pieceCount (f .used) → fieldsFrom f i ≡ slot (getD (f .at) i d) ∷ fieldsFrom f (i + 1)
   unfolding fieldsFrom
   from-next d h =
       let t = count-most (f .used) in
       rw (add-one i, drop-cons (take (f .used) (f .at)) i d (omega (arith, count-is f l)), getD-take (f .used) (f .at) i d (omega arith))
 
-  -- behind the last there are none
+  -- after the last there are none
   pub from-last : pieceCount (f .used) ≤ i → fieldsFrom f i ≡ []
   unfolding fieldsFrom
   from-last h = rw (drop-of-length-le (take (f .used) (f .at)) {i = i} (omega (arith, count-is f l)))

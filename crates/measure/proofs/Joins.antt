@@ -27,7 +27,7 @@ module _ (s : List ℕ) where
   sized-joined [] qs = refl
   sized-joined (p ∷ ps) qs = ap (both (sized s p)) (sized-joined ps qs) ∙ sym (both-joined (sized s p) (sizedAll s ps) (sizedAll s qs))
 
-  -- and written one behind the other,
+  -- and written one after the other,
   pub encode-joined : (ps qs : List Piece) → encodeAll s (ps ++ qs) ≡ encodeAll s ps ++ encodeAll s qs
   unfolding encodeAll encode
   encode-joined [] qs = refl

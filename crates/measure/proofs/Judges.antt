@@ -10,7 +10,7 @@ use Rattle.measure.specs.Judging.{fit, judged, joined}
 use Rattle.measure.specs.declared.Measured.{Measured}
 use Rattle.measure.specs.declared.Measured.the-variants.{Takes, TooLong, Oversize, Forbidden}
 
--- ---- so many bytes, of the room there is
+-- ---- that many bytes, of the room there is
 
 -- they fit
 pub fit-within : (n room : ℕ) → n ≤ room → Takes n ≡ fit n room
@@ -44,7 +44,7 @@ pub judged-fit : {isRight isSized : Bool} {m n : ℕ} (room : ℕ) → isRight �
 unfolding judged
 judged-fit room e f g = rw (e, f, g)
 
--- what takes so many bytes is right and sized, and is no longer than the room
+-- what takes that many bytes is right and sized, and is no longer than the room
 pub record Taken (isRight isSized : Bool) (n room m : ℕ) : Type 0 where
   pub is-right : isRight ≡ true
   pub is-sized : isSized ≡ true

@@ -58,7 +58,7 @@ pub text-is : {s : List ℕ} {p : Span} → Lies s p → encOf (size p) ++ part 
 unfolding encText
 text-is {s} {p} l = rw (length-part s p (l .within))
 
--- so many
+-- that many
 text-length : {s : List ℕ} {p : Span} → Lies s p → sizeOf (size p) + size p ≡ length (encText (part s p))
 text-length {s} {p} l =
     omega (arith, length-enc (size p), length-part s p (l .within), length-append (encOf (size p)) (part s p), ap length (text-is l))

@@ -58,7 +58,7 @@ sized s (Tracked t) = sizedList s Namespace (t .namespace) (size (t .name))
 
 -- ---- the judgement
 
--- so many bytes, of the room there is
+-- that many bytes, of the room there is
 unfoldable pub fit : ℕ → ℕ → Measured
 fit n room = pick (leb n room) (Takes n) TooLong
 

@@ -32,7 +32,7 @@ measureAll s ps room = judged (rightAll s ps) (sizedAll s ps) (length (encodeAll
 
 -- ---- in 01's numbers
 
--- 5, 6 and then 7, for what takes so many bytes, of the room there is for it
+-- 5, 6 and then 7, for what takes that many bytes, of the room there is for it
 abbrev pub measuredBy : Bool → Bool → ℕ → ℕ → Answer Nothing
 measuredBy isRight isSized n room =
     guard isRight (refused 5) (guard isSized (refused 6) (guard (leb n room) (refused 7) (wrote n)))

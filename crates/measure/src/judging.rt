@@ -53,7 +53,7 @@ pub fn join(a: Measured, b: Measured, room: usize) -> Measured
     }
 }
 
-// Whether 01's sizes let entries hold so many bytes, and a name so many more.
+// Whether 01's sizes let entries hold that many bytes, and a name that many more.
 fn is_within(kind: Kind, held: usize, also: usize) -> bool
     ensures { λ r. ⌜ r ≡ within kind (held + also) ⌝ }
 {

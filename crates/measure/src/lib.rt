@@ -13,7 +13,7 @@ pub use judging::join;
 pub use judging::measure;
 pub use small::are_small;
 
-// How a field, or several, is judged against the bytes it may take: it takes so many; or more than it may; or it is
+// How a field, or several, is judged against the bytes it may take: it takes that many; or more than it may; or it is
 // over a size; or it holds what can't be written.
 pub enum Measured {
     Takes(usize),
@@ -37,7 +37,7 @@ pub struct Fields {
     pub kind: u64,
 }
 
-// What stands between the numbers of a header: nothing, a byte, a part of the bytes behind its length, or both.
+// What stands between the numbers of a header: nothing, a byte, a part of the bytes after its length, or both.
 pub enum Middle {
     Nothing,
     Byte(u8),

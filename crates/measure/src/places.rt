@@ -1,4 +1,4 @@
-// So many fields in their places. A place that is not used holds the number 0.
+// That many fields in their places. A place that is not used holds the number 0.
 ghost use mathlib.Core.Path.{_≡_};
 ghost use mathlib.Core.List.{[], _∷_};
 ghost use Prim.Native.Nat.{_≤_, _-_};
@@ -10,7 +10,7 @@ use crate::MOST_PIECES;
 use crate::Slot;
 use field::Piece;
 
-// The first of seven fields, so many as are used.
+// The first of seven fields, as many as are used.
 fn of(
     kind: u64,
     used: usize,

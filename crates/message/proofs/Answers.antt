@@ -62,7 +62,7 @@ module _ (s : List ℕ) (at : ℕ) {r : NumberRead} (said : toldNumber r ≡ fie
     pub number-ends : end ≤ length s
     number-ends = number-at s at (number-is read) .within
 
-    -- and where there are as many bytes behind it as it says, a slice up to their end has them all
+    -- and where there are as many bytes after it as it says, a slice up to their end has them all
     pub body-there : n ≤ length s - end → end + n ≡ length (take (end + n) s)
     body-there room = sym (length-take-le (end + n) s (omega (arith, number-ends)))
 

@@ -31,7 +31,7 @@ module _ {limit : ℕ} (s : List ℕ) {t : Typed} {used : ℕ} where
       let length-ends = number-at s (h .next) (h .length-at) .after in
       (omega (arith, w .ends), w .present)
 
-  -- and its parts lie behind the Type and the Length that are there
+  -- and its parts lie after the Type and the Length that are there
   pub inside : {next size at : ℕ} → numberAt s 0 ≡ whole (t .type) next → numberAt s next ≡ whole size at → WholeAt limit s t used → Inside at used (t .pieces)
   inside {next} {at = at} e f w =
       let mid : next ≡ w .head .next = cc in

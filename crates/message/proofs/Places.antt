@@ -23,7 +23,7 @@ use Rattle.message.specs.declared.Message.the-variants.{Fetch}
 
 -- ---- any part
 
--- a reference into the same block, so many bytes further on, with the bytes that stand there
+-- a reference into the same block, that many bytes further on, with the bytes that stand there
 pub is-part : {s r : RefT (List ℕ)} {p q : Span} → q ≡ p → r .ptr .0 ≡ s .ptr .0 → r .ptr .1 ≡ p .start + s .ptr .1 → r .now ≡ part (s .now) p → PartOf s r q
 is-part e block further bytes = rw e (record { block = block; place = omega arith; content = bytes })
 

@@ -42,7 +42,7 @@ record ReadBack (s : List ℕ) (type : ℕ) (vs : List Value) (used : ℕ) : Typ
   is-whole : WholeAt longestBody s (record { type = type; pieces = found }) used
   means : map (mean s) found ≡ vs
 
--- so do those that a type permits, in their shortest form behind Type and Length, whatever follows
+-- so do those that a type permits, in their shortest form after Type and Length, whatever follows
 frame-back : (type : ℕ) (vs : List Value) (rest : List ℕ) → known type ≡ true → type ≤ greatest → length (encode vs) ≤ longestBody → permitted (layoutOf type) vs ≡ true
     → ReadBack (frame type (encode vs) ++ rest) type vs (length (frame type (encode vs)))
 unfolding frame

@@ -66,7 +66,7 @@ module _ (s : List ℕ) where
   decided = enough.decided longestBody s
 
   module _ {t : Typed} {used : ℕ} where
-    -- 3. A whole message is its Type, its Length, and a body of so many bytes, which its fields fill; those are the
+    -- 3. A whole message is its Type, its Length, and a body of that many bytes, which its fields fill; those are the
     -- bytes used.
     pub framed : readOf s ≡ answered t used → WholeAt longestBody s t used
     framed = front.parts longestBody s
@@ -84,7 +84,7 @@ module _ (s : List ℕ) where
     pub used-there : readOf s ≡ answered t used → (2 ≤ used) × (used ≤ length s)
     used-there h = fields.used-there s (front.parts longestBody s h)
 
-    -- every part that was found lies within them, behind Type and Length.
+    -- every part that was found lies within them, after Type and Length.
     pub inside : {next size at : ℕ} → numberAt s 0 ≡ whole (t .type) next → numberAt s next ≡ whole size at
         → readOf s ≡ answered t used → Inside at used (t .pieces)
     inside e f h = fields.inside s e f (front.parts longestBody s h)

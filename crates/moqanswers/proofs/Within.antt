@@ -29,7 +29,7 @@ short-ends room n e = absurd (let z : _≡_ {A = ℕ} 0 1 = cc in omega arith)
 pub put-ends : (text before : List ℕ) (r : Putting) {after : List ℕ} → Leaves (putText text before) (toldPutting r) after → Ends r (length before)
 put-ends text before r w n e = put-within text before r w e
 
--- also behind others
+-- also after others
 module _ (text before : List ℕ) (at : ℕ) (r : Putting) {t : List ℕ} (k : at ≤ length before) (w : Leaves (putText text (lent at before)) (toldPutting r) t) where
   module _ {n : ℕ} (e : r ≡ Done n) where
     pub behind-fits : at + n ≤ length before

@@ -1,4 +1,4 @@
--- Where text ends in a buffer of so many bytes.
+-- Where text ends in a buffer of that many bytes.
 use Prim.Native.Nat.{ℕ, _≤_}
 use mathlib.Core.Path.{_≡_}
 use Rattle.text.specs.declared.Putting.{Putting}

@@ -10,7 +10,7 @@ use replay::Progress;
 use text::Line;
 use text::Putting;
 
-// How far some bytes were told of: the progress behind their whole fields, how many bytes those took, and whether all
+// How far some bytes were told of: the progress after their whole fields, how many bytes those took, and whether all
 // lines were written.
 struct Printed {
     progress: Progress,
@@ -43,7 +43,7 @@ fn main() {
     }
 }
 
-// One read into buffer, behind what is left of the bytes before; what is then left of the bytes goes to its front.
+// One read into buffer, after what is left of the bytes before; what is then left of the bytes goes to its front.
 fn turn(p: Progress, buffer: &mut [u8], left: usize) -> Turned
     requires { ⌜ left ≤ length (now buffer) ⌝ }
     ensures { λ r. ⌜ r .left ≤ length (now (buffer .entry)) ⌝ }
@@ -120,7 +120,7 @@ fn print_fields(p: Progress, s: &[u8]) -> Printed
     }
 }
 
-// A line behind at bytes of text. Where it has no room there, those are written, and it goes to the front.
+// A line after at bytes of text. Where it has no room there, those are written, and it goes to the front.
 fn print_line(out: &mut [u8], at: usize, line: Line) -> Putting
     requires { ⌜ at ≤ length (now out) ⌝ }
     ensures { λ r. ⌜ Ends r (length (now (out .entry))) ⌝ }

@@ -36,7 +36,7 @@ fn main() {
     }
 }
 
-// One read into buffer, behind what is left of the bytes before. It answers how many came, or less than 0 where it
+// One read into buffer, after what is left of the bytes before. It answers how many came, or less than 0 where it
 // failed.
 fn read_behind(buffer: &mut [u8], left: usize) -> isize
     requires { ⌜ left ≤ length (now buffer) ⌝ }

@@ -124,7 +124,7 @@ module _ {s : List ℕ} {at : ℕ} {f : Field} (w : Stands s at f) where
   unfolding step
   step-is p = ap (λ (x : Stepping). x .next) (stepped-is p)
 
-  -- and what is behind it is fed on
+  -- and what is after it is fed on
   pub one-field : (p : Progress) → fed p (drop at s) ≡ fed (stepOf p eventAt (f .end - at) .next) (drop (f .end) s)
   unfolding fed
   one-field p =

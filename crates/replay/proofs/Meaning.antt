@@ -39,7 +39,7 @@ module _ (value : List ℕ) {r : NumberRead} (said : toldNumber r ≡ fieldAt in
     unfolding startedBy
     start-over k = rw (number-there value 1 h said, ne-eqb end (length value) k)
 
-    -- behind a part there is a maximum
+    -- after a part there is a maximum
     pub start-part : 0 < length value
     start-part =
         let w = number-at value 1 (number-there value 1 h said) in

@@ -30,7 +30,7 @@ fed-cuts p s t =
     ∙ ap (λ (x : Held Progress). feed step x t) (sym (fed-none step (h .soFar) (h .rest) (rest-none p s)))
     ∙ sym (feed-cut step (holding (h .soFar) []) (h .rest) t)
 
--- pieces, one after the other, each behind what is left of those before
+-- pieces, one after the other, each after what is left of those before
 pub fedPieces : Progress → List ℕ → List (List ℕ) → Held Progress
 fedPieces p left [] = holding p left
 fedPieces p left (piece ∷ pieces) =
@@ -104,6 +104,6 @@ ledgers =
     (λ p s e w. w)
     (λ p s h e behind w. behind (step-keeps p (take (fieldSize s) s) w))
 
--- Behind every trace there is a ledger.
+-- After every trace there is a ledger.
 pub run-ledger : (s : List ℕ) → isLedger (fed begun s .soFar .ledger) ≡ true
 run-ledger s = ledgers begun s begun-is

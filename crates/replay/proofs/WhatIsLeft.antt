@@ -1,4 +1,4 @@
--- What is left behind the whole fields of bytes, and how it is moved to a buffer's front. Assumes nothing.
+-- What is left after the whole fields of bytes, and how it is moved to a buffer's front. Assumes nothing.
 use Prim.Native.Nat.{ℕ, suc, _+_, _-_, _≤_, _<_}
 use mathlib.Core.Path.{_≡_, refl, sym, ap, _∙_}
 use mathlib.Core.Bool.{Bool, true, false}

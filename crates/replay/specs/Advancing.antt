@@ -1,4 +1,4 @@
--- A trace that is read into a buffer, piece by piece: each piece goes behind what is left of the bytes before.
+-- A trace that is read into a buffer, piece by piece: each piece goes after what is left of the bytes before.
 use Prim.Native.Nat.{ℕ}
 use mathlib.Core.Path.{_≡_}
 use mathlib.Core.List.{List}
@@ -10,13 +10,13 @@ use Rattle.replay.specs.Progressing.{fed}
 use Rattle.replay.specs.declared.Progress.{Progress}
 use Rattle.replay.specs.declared.Advanced.{Advanced}
 
--- what a call does: the progress behind the whole fields, how many bytes are left, and what the buffer then holds
+-- what a call does: the progress after the whole fields, how many bytes are left, and what the buffer then holds
 pub record Onward : Type 0 where
   pub progress : Progress
   pub left : ℕ
   pub holds : List ℕ
 
--- the whole fields of the first bytes are taken; what is left goes to the front, and every byte behind it stays
+-- the whole fields of the first bytes are taken; what is left goes to the front, and every byte after it stays
 unfoldable pub advanceOf : Progress → List ℕ → ℕ → Onward
 advanceOf p before filled =
     let h = fed p (take filled before) in
@@ -27,7 +27,7 @@ pub record Advances (w : Onward) (r : Advanced) (after : List ℕ) : Type 0 wher
   pub left : r .left ≡ w .left
   pub holds : after ≡ w .holds
 
--- the bytes from one offset on, up to another, at the front, and every byte behind them as it was
+-- the bytes from one offset on, up to another, at the front, and every byte after them as it was
 unfoldable pub keptOf : List ℕ → ℕ → ℕ → List ℕ
 keptOf before from end = over (drop from (take end before)) before
 

@@ -26,7 +26,7 @@ isRunning stage = onFault stage (λ at. false) true
 unfoldable pub arrivalIn : List ℕ → Field → Event
 arrivalIn s f = guard (eqb (f .tag) 3) Fault (arrivedBy (take (f .end - f .start) (drop (f .start) s)))
 
--- arrivals from an offset on: feeding them all is feeding what is behind them to the ledger behind them
+-- arrivals from an offset on: feeding them all is feeding what is after them to the ledger after them
 pub record Gathers (s : List ℕ) (at : ℕ) (g : Gathered) (before after : List ℕ) : Type 0 where
   pub same-room : length after ≡ length before
   pub fits : 3 * g .count ≤ length before

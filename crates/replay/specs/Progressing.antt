@@ -44,7 +44,7 @@ firstFault Empty offset = Faulty offset
 firstFault Running offset = Faulty offset
 firstFault (Faulty at) offset = Faulty at
 
--- what is said to an event, and the ledger and the stage behind it
+-- what is said to an event, and the ledger and the stage after it
 pub record Hearing : Type 0 where
   pub says : Verdict
   pub ledger : Ledger
@@ -122,11 +122,11 @@ toldHeard h = record { says = record { number = h .number; rule = h .rule }; led
 abbrev pub toldStep : Stepped → Stepping
 toldStep s = record { event = s .event; says = record { number = s .number; rule = s .rule }; next = s .progress }
 
--- the progress behind the whole fields, and how many bytes those took
+-- the progress after the whole fields, and how many bytes those took
 unfoldable pub fedOf : Progress → List ℕ → Fed
 fedOf p s = let h = fed p s in record { progress = h .soFar; used = length s - length (h .rest) }
 
--- arrivals that are taken together, whose fields have so many bytes
+-- arrivals that are taken together, whose fields have that many bytes
 unfoldable pub arrivedAll : Progress → List ℕ → ℕ → Progress
 arrivedAll p run size =
     record { ledger = afterArrivals (p .ledger) (arrivalsIn run); stage = p .stage; offset = offsetOf (p .offset) size }

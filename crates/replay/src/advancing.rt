@@ -1,4 +1,4 @@
-// A trace is read into a buffer, behind what is left of the bytes before.
+// A trace is read into a buffer, after what is left of the bytes before.
 ghost use mathlib.Core.Path.{_≡_};
 ghost use mathlib.Core.List.{_++_};
 ghost use Prim.Native.Nat.{_+_, _≤_};
@@ -42,7 +42,7 @@ fn at_most(n: usize, most: usize) -> usize
     most
 }
 
-// So many bytes from an offset on go to the front.
+// That many bytes from an offset on go to the front.
 fn move_front(buffer: &mut [u8], from: usize, count: usize)
     requires { ⌜ from + count ≤ length (now buffer) ⌝ }
     ensures { λ r. ⌜ now (buffer .exit) ≡ take count (drop from (now (buffer .entry)))

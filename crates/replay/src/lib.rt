@@ -37,7 +37,7 @@ pub struct Progress {
     pub offset: u64,
 }
 
-// What a ledger said to an event, in document 01's number and rule, and the ledger and the stage behind it.
+// What a ledger said to an event, in document 01's number and rule, and the ledger and the stage after it.
 struct Heard {
     number: u8,
     rule: u8,
@@ -45,7 +45,7 @@ struct Heard {
     stage: Stage,
 }
 
-// What an event came to: what it was taken for, what was said to it, and the progress behind it.
+// What an event came to: what it was taken for, what was said to it, and the progress after it.
 pub struct Stepped {
     pub event: Event,
     pub number: u8,
@@ -53,13 +53,13 @@ pub struct Stepped {
     pub progress: Progress,
 }
 
-// The progress behind all whole fields of some bytes, and how many bytes those took.
+// The progress after all whole fields of some bytes, and how many bytes those took.
 pub struct Fed {
     pub progress: Progress,
     pub used: usize,
 }
 
-// The progress behind all whole fields of a buffer's first bytes, and how many bytes are left at its front.
+// The progress after all whole fields of a buffer's first bytes, and how many bytes are left at its front.
 pub struct Advanced {
     pub progress: Progress,
     pub left: usize,

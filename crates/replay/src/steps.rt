@@ -47,7 +47,7 @@ impl Progress {
         }
     }
 
-    // The trace ends here, and left bytes stand behind its last whole field.
+    // The trace ends here, and left bytes stand after its last whole field.
     pub fn finish(self, left: usize) -> Progress
         ensures { λ r. ⌜ r ≡ finishOf self left ⌝ }
     {
@@ -61,7 +61,7 @@ impl Progress {
     }
 }
 
-// A start is due first, and once; anything else behind it.
+// A start is due first, and once; anything else after it.
 fn due(stage: Stage, e: Event) -> Event
     ensures { λ r. ⌜ r ≡ dueOf stage e ⌝ }
 {

@@ -1,4 +1,4 @@
--- The session's line, the columns and the rows, each into what is left behind the one before. Assumes nothing.
+-- The session's line, the columns and the rows, each into what is left after the one before. Assumes nothing.
 use Prim.Native.Nat.{ℕ, _+_, _≤_}
 use mathlib.Core.Path.{_≡_, refl, sym}
 use mathlib.Core.List.{List, _++_, append-assoc}
@@ -41,7 +41,7 @@ module _ (l : Ledger) (before : List ℕ) (fits : length (ledgerText l) ≤ leng
       pub session-ends : n ≤ length after
       session-ends = ends-within front-room first
 
-      -- the columns behind it,
+      -- the columns after it,
       module _ {other : Line} (are : other ≡ placed columnsLine) where
         pub columns-fit : length (lineOf (itemsOf other)) ≤ length (lent n after)
         columns-fit = rw (items-placed _ are) (second-fits front-room first)
@@ -59,7 +59,7 @@ module _ (l : Ledger) (before : List ℕ) (fits : length (ledgerText l) ≤ leng
           pub front-ends : n + m ≤ length (given n after t)
           front-ends = ends-within all-room front
 
-          -- and the rows behind both
+          -- and the rows after both
           pub rows-fit : length (rowsText (held l)) ≤ length (lent (n + m) (given n after t))
           rows-fit = second-fits all-room front
 

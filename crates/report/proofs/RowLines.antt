@@ -1,4 +1,4 @@
--- The rows of a ledger, one line behind the other, and how long a report can be. Assumes nothing.
+-- The rows of a ledger, one line after the other, and how long a report can be. Assumes nothing.
 use Prim.Native.Nat.{ℕ, _+_, _*_, _≤_, _<_, min}
 use mathlib.Core.Path.{_≡_, refl, sym, ap, _∙_}
 use mathlib.Core.List.{List, [], _∷_, _++_}
@@ -61,7 +61,7 @@ module _ (l : Ledger) (places : length (l .rows) ≡ mostRows) where
           joins = rw (items-placed _ f, drop-cons (take (l .used) (l .rows)) i d (omega (arith, held-count)), add-one i, getD-take (l .used) (l .rows) i d (omega arith));
         }
 
-    -- and behind the last it ends
+    -- and after the last it ends
     pub rows-end : n ≤ i → rowsText (drop i (held l)) ≡ []
     unfolding rowsText
     rows-end h = rw (drop-of-length-le (held l) {i = i} (omega (arith, held-count)))

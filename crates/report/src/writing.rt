@@ -108,7 +108,7 @@ fn write_ledger(out: &mut [u8], l: Ledger) -> Putting
     Putting::Done(put_ledger(out, l))
 }
 
-// The report of a trace that was fed, with left bytes behind its last whole field; 7 where out is too short, and then
+// The report of a trace that was fed, with left bytes after its last whole field; 7 where out is too short, and then
 // nothing is written.
 pub fn of_progress(p: Progress, left: usize, out: &mut [u8]) -> Putting
     ensures { λ r. ⌜ Leaves (putText (textOf (finishOf p left)) (now (out .entry))) (toldPutting r)

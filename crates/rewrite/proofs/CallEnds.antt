@@ -40,7 +40,7 @@ module _ {A : Type 0} {read : Answer A} (form : A → List ℕ) (type : A → �
   unfolding putting
   short e h = rw (e, lt-leb 3 (length info) h) (record { says = refl; leaves = refl; tells = refl })
 
--- what the writer said and left, of so many bytes used, and what was then answered and told
+-- what the writer said and left, of that many bytes used, and what was then answered and told
 pub record Ends (w : Written) (used type : ℕ) (info : List ℕ) (n : ℕ) (after told : List ℕ) : Type 0 where
   pub said : Answer Nothing
   pub leaves : Leaves w said after

@@ -2,7 +2,7 @@
 use mathlib.Core.Path.{_≡_, refl, ap, _∙_}
 use mathlib.Core.Bool.{Bool, true, false, not}
 use Rattle.field.specs.declared.Place.{Place}
-use Rattle.layout.proofs.Steps.{kept, broken}
+use Rattle.common.proofs.Tests.{kept, broken}
 use Rattle.row.specs.Ranges.{inRange}
 use Rattle.row.specs.Rows.{isPending, replying, countedRow, arriveOf, toldArriving}
 use Rattle.row.specs.declared.State.the-variants.{Pending, Active}

@@ -28,7 +28,7 @@ pub pending-is : (id alias : ℕ) (range : Range) → small id ≡ true → smal
 unfolding isRow countAgrees suits
 pending-is id alias range i a s = rw (i, a, s)
 
--- ---- the row behind an arrival
+-- ---- the row after an arrival
 
 unfoldable pub after : Place → Row → Row
 after place r = arriveOf r place .row
@@ -90,7 +90,7 @@ after-is place r s w =
     after-by (λ (x : Row). isRow x ≡ true) place r w
     (λ e. row-whole (countedRow r place) (counted-is place r s (row-parts r w) e))
 
--- ---- the row behind a SUBSCRIBE_OK
+-- ---- the row after a SUBSCRIBE_OK
 
 unfoldable pub opened : Content → Row → Row
 opened content r = openOf r content .row

@@ -90,7 +90,7 @@ countedRow r place = record {
   count = risen (r .count);
 }
 
--- what is answered at a row: 01's number, the rule behind a 13 (0 behind another), and the row that is left
+-- what is answered at a row: 01's number, the rule that comes with a 13 (0 with any other), and the row that is left
 pub record AtRow : Type 0 where
   pub number : ℕ
   pub rule : ℕ
@@ -141,7 +141,7 @@ arrivedNumber Waiting = 19
 arrivedNumber Outside = 17
 arrivedNumber (Counted next) = 16
 
--- the row behind an arrival
+-- the row after an arrival
 abbrev pub leftBy : Arriving → Row → Row
 leftBy Waiting r = r
 leftBy Outside r = r

@@ -33,7 +33,7 @@ module _ (x : Subscribe) {a : Bool} (first : a ≡ askable (x .order)) where
   unfolding allowed delivery subscribe
   order-no h = rw (← first, not-true a h)
 
-  -- an order that may, and the filter behind it,
+  -- an order that may, and the filter after it,
   pub filter-is : {b : Bool} {f : Filter} → not a ≡ false → x .filter ≡ f → b ≡ allowed filter (filterPieces f ++ Listing Parameters (x .parameters) ∷ []) → b ≡ allowed subscribe (subscribePieces x)
   unfolding allowed delivery subscribe
   filter-is h e k = rw (← first, not-false a h, e) k
@@ -43,7 +43,7 @@ module _ (x : Subscribe) {a : Bool} (first : a ≡ askable (x .order)) where
   unfolding allowed place parameters ending filter
   range-is {start = start} {endGroup = endGroup} h e k = filter-is h e (k ∙ sym (test-alone (endsAfter (start .group) endGroup)))
 
--- ---- SUBSCRIBE_OK: its order is judged, and nothing is forbidden behind it
+-- ---- SUBSCRIBE_OK: its order is judged, and nothing is forbidden after it
 
 content-any : (c : Content) (e : Entries) → allowed content (contentPieces c ++ Listing Parameters e ∷ []) ≡ true
 unfolding allowed place parameters content

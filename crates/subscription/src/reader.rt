@@ -94,7 +94,7 @@ fn read_subscribe(s: &[u8], at: usize) -> Answer
     }
 }
 
-// The priority and the group order, behind the names.
+// The priority and the group order, after the names.
 fn read_delivery(s: &[u8], at: usize, id: u64, alias: u64, track: Track) -> Answer
     ensures { λ r. ⌜ told r ≡ typed (SUBSCRIBE .number) (led (Number id ∷ Number alias ∷ Tracked track ∷ [])
         (scan delivery (now (s .entry)) at)) ⌝ }

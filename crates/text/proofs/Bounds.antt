@@ -45,7 +45,7 @@ word-bound Start = lit≤ tt
 word-bound Malformed = lit≤ tt
 word-bound Arrival = lit≤ tt
 
--- every name of a table takes so many bytes at most
+-- every name of a table takes that many bytes at most
 areWithin : ℕ → List TypeRow → Bool
 areWithin n [] = true
 areWithin n (row ∷ rows) = pick (leb (length (letters (row .name))) n) (areWithin n rows) false

@@ -1,4 +1,4 @@
--- A loop that counts one thing behind the other: what was counted so far, and what is left to be counted. Assumes nothing.
+-- A loop that counts one thing after the other: what was counted so far, and what is left to be counted. Assumes nothing.
 use Prim.Native.Nat.{ℕ, _+_, _≤_}
 use mathlib.Core.Path.{_≡_, ap}
 use mathlib.Core.List.{List, []}
@@ -6,7 +6,7 @@ use native.Mathlib.Omega.{arith}
 use lib.ListN.{length, length-append}
 use Rattle.common.proofs.PutLoop.{Next}
 
--- all is so many bytes, and then what is left
+-- all is that many bytes, and then what is left
 pub record Counted (all : List ℕ) (sum : ℕ) (left : List ℕ) : Type 0 where
   pub whole : sum + length left ≡ length all
 

@@ -34,7 +34,7 @@ more-digits : (k n : ℕ) → 10 ≤ n → length (decimalIn (suc k) n) ≡ leng
 unfolding decimalIn
 more-digits k n h = rw (le-ltb n 10 h, length-append)
 
--- The loop that counts: so many were counted, one more for what is left than it has digits behind its first; and there are still enough.
+-- The loop that counts: that many were counted, one more for what is left than it has digits after its first; and there are still enough.
 pub record Counting (n count left : ℕ) : Type 0 where
   pub more : ℕ
   pub enough : left < 10 ^ suc more
@@ -65,13 +65,13 @@ module _ {n count left : ℕ} (c : Counting n count left) (h : 10 ≤ left) wher
 pub counting-end : {n count left : ℕ} → Counting n count left → left < 10 → count ≡ length (decimalOf n)
 counting-end {left = left} c h = omega (arith, c .all, one-digit (c .more) left h)
 
--- ---- so many digits of a number, as they are put: the last one first
+-- ---- that many digits of a number, as they are put: the last one first
 
 unfoldable pub lastOf : ℕ → ℕ → List ℕ
 lastOf zero n = []
 lastOf (suc k) n = lastOf k (n / 10) ++ (48 + n % 10) ∷ []
 
--- a number's digits are so many
+-- a number's digits are that many
 decimal-last : (k n : ℕ) → decimalIn k n ≡ lastOf (length (decimalIn k n)) n
 unfolding decimalIn lastOf
 decimal-last zero n = refl

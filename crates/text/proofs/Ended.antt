@@ -1,4 +1,4 @@
--- An item and what stands behind it, as they are put. Assumes nothing.
+-- An item and what stands after it, as they are put. Assumes nothing.
 use Prim.Native.Nat.{ℕ, suc, _+_, _≤_, _<_}
 use mathlib.Core.Path.{_≡_, refl, sym, ap, _∙_}
 use mathlib.Core.Bool.{Bool}
@@ -67,7 +67,7 @@ module _ {item : Item} where
       pub rule-length : length (given 1 (set before 0 82) t) ≡ length before
       rule-length = put-length rule-put h
 
--- ---- and what stands behind it
+-- ---- and what stands after it
 
 module _ {x before after : List ℕ} {used : ℕ} (b : ℕ) (p : Put x before used after) (h : length (x ++ b ∷ []) ≤ length before) where
   -- there is room for one byte more,
@@ -76,7 +76,7 @@ module _ {x before after : List ℕ} {used : ℕ} (b : ℕ) (p : Put x before us
       let k : length x ≤ length before = omega (arith, length-append x (b ∷ [])) in
       omega (arith, p .count, length-append x (b ∷ []), put-length p k)
 
-  -- which is put behind by one store
+  -- which is put after by one store
   byte-behind : Put (x ++ b ∷ []) before (used + 1) (set after used b)
   byte-behind =
       let k : length x < length before = omega (arith, length-append x (b ∷ [])) in

@@ -1,4 +1,4 @@
--- The items of a line, one behind the other. Assumes nothing.
+-- The items of a line, one after the other. Assumes nothing.
 use Prim.Native.Nat.{ℕ, _+_, _≤_, _<_, min}
 use mathlib.Core.Path.{_≡_, refl, sym, ap, _∙_}
 use mathlib.Core.Bool.{Bool, true, false}
@@ -18,7 +18,7 @@ use Rattle.text.specs.declared.Item.{Item}
 use Rattle.text.specs.declared.Slot.{Slot}
 use Rattle.text.specs.declared.Line.{Line}
 
--- one byte stands behind an item
+-- one byte stands after an item
 pub ended-size : (item : Item) (last : Bool) {k : ℕ} → k ≡ length (itemOf item) → k + 1 ≡ length (endedOf item last)
 unfolding endedOf
 ended-size item last e = omega (arith, length-append (itemOf item) (pick last 10 32 ∷ []))
@@ -31,7 +31,7 @@ one-behind : (items : List Item) (d : Item) (i : ℕ) → i < length items → i
 unfolding isNone
 one-behind items d i h = rw (drop-cons items i d h)
 
--- there is none behind the last, and one behind another
+-- there is none after the last, and one after another
 last-is : (items : List Item) (d : Item) (i : ℕ) → i < length items → isNone (drop (i + 1) items) ≡ eqb (i + 1) (length items)
 last-is items d i h =
     let k : i + 1 ≤ length items = omega arith in
@@ -47,7 +47,7 @@ items-count line l = length-map (take (line .used) (line .at)) slot ∙ length-t
 
 module _ (line : Line) (l : length (line .at) ≡ mostItems) {n : ℕ} (e : n ≡ min (line .used) mostItems) (i : ℕ) where
   module _ (d : Slot) (h : i < n) where
-    -- the i-th, and those behind it
+    -- the i-th, and those after it
     item-next : drop i (itemsOf line) ≡ slot (getD (line .at) i d) ∷ drop (i + 1) (itemsOf line)
     unfolding itemsOf
     item-next =
@@ -60,7 +60,7 @@ module _ (line : Line) (l : length (line .at) ≡ mostItems) {n : ℕ} (e : n �
     line-next =
         record { joins = rw (item-next, last-is (itemsOf line) (slot d) i (omega (arith, items-count line l)), items-count line l, e) }
 
-  -- and behind the last it ends
+  -- and after the last it ends
   pub line-end : n ≤ i → lineOf (drop i (itemsOf line)) ≡ []
   unfolding lineOf
   line-end h = rw (drop-of-length-le (itemsOf line) {i = i} (omega (arith, items-count line l)))

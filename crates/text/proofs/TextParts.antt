@@ -17,7 +17,7 @@ standing start end {all} a b e =
     record { lies = record { rises = leb-true start end a; within = leb-true end (length all) b }; is = e }
 
 module _ {all word : List ℕ} {start end : ℕ} (s : Stands all word start end) where
-  -- it has so many letters,
+  -- it has that many letters,
   pub stands-length : end - start ≡ length word
   stands-length =
       let fits : end - start ≤ length (drop start all) = omega (arith, length-drop start all, s .lies .rises, s .lies .within) in

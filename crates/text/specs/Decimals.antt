@@ -4,7 +4,7 @@ use mathlib.Core.List.{List, [], _∷_, _++_}
 use lib.Dec.{ltb}
 use Rattle.common.specs.Choice.{pick}
 
--- a number in decimal digits, if so many are enough for it: one below ten is its digit, another is its tenth part and
+-- a number in decimal digits, if that many are enough for it: one below ten is its digit, another is its tenth part and
 -- then its last digit
 unfoldable pub decimalIn : ℕ → ℕ → List ℕ
 decimalIn zero n = []

@@ -26,7 +26,7 @@ itemOf (Word word) = wordOf word
 itemOf (Rule n) = letters "R" ++ decimalOf n
 itemOf (Name type) = nameOf type
 
--- and what stands behind it: a newline behind the last of a line, a space behind another
+-- and what stands after it: a newline after the last of a line, a space after any other
 unfoldable pub endedOf : Item → Bool → List ℕ
 endedOf item last = itemOf item ++ pick last 10 32 ∷ []
 

@@ -16,7 +16,7 @@ unfoldable pub inOneText : List (List ℕ) → List ℕ
 inOneText [] = []
 inOneText (text ∷ texts) = text ++ inOneText texts
 
--- all of them, one behind the other
+-- all of them, one after the other
 unfoldable pub wordsText : List ℕ
 wordsText = inOneText (map wordOf words)
 

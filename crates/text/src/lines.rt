@@ -23,7 +23,7 @@ use crate::words::word_part;
 
 // ---- the items of a line
 
-// The first of six items, so many as are used.
+// The first of six items, as many as are used.
 fn of(used: usize, a: Item, b: Item, c: Item, d: Item, e: Item, f: Item) -> Line
     requires { ⌜ (used ≤ mostItems) × (drop used (a ∷ b ∷ c ∷ d ∷ e ∷ f ∷ []) ≡ replicate (mostItems - used)
         (Number 0)) ⌝ }
@@ -110,7 +110,7 @@ fn item_count(used: usize) -> usize
     if used < MOST_ITEMS { used } else { MOST_ITEMS }
 }
 
-// How many bytes a line takes: each item, and one behind it.
+// How many bytes a line takes: each item, and one after it.
 pub fn measure(line: Line) -> usize
     ensures { λ r. ⌜ r ≡ length (lineOf (itemsOf line)) ⌝ }
 {
@@ -145,7 +145,7 @@ fn put_item(out: &mut [u8], item: Item) -> usize
     }
 }
 
-// An item, and what stands behind it: a newline behind the last, a space behind another.
+// An item, and what stands after it: a newline after the last, a space after any other.
 fn put_ended(out: &mut [u8], item: Item, last: bool) -> usize
     requires { ⌜ length (endedOf item last) ≤ length (now out) ⌝ }
     ensures { λ r. ⌜ Put (endedOf item last) (now (out .entry)) r (now (out .exit)) ⌝ }

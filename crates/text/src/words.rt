@@ -1,5 +1,5 @@
 // Words, and the names of control messages, put at the front of what is lent. Each kind has one text, in which they
-// stand one behind the other.
+// stand one after the other.
 ghost use mathlib.Core.Path.{_≡_};
 ghost use Prim.Native.Nat.{_≤_, _-_};
 ghost use lib.ListN.{length};

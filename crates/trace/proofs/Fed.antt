@@ -112,7 +112,7 @@ module _ {A : Type 0} (step : A → List ℕ → A) where
       ∙ feed-part a s (length s) (omega arith) (λ k h. not-yet s k h (λ three. omega (arith, cut-short s e (omega arith))))
       ∙ ap (holding a) all
 
-  -- Where one does, it is a step, and what is behind it is fed on.
+  -- Where one does, it is a step, and what is after it is fed on.
   pub fed-field : (a : A) (s : List ℕ) → isWhole s ≡ true → feed step (holding a []) s ≡ feed step (holding (step a (take (fieldSize s) s)) []) (drop (fieldSize s) s)
   fed-field a s e = go (fieldSize s) refl
     where
@@ -127,7 +127,7 @@ module _ {A : Type 0} (step : A → List ℕ → A) where
   -- ---- what holds of bytes however many fields they have
 
   -- It holds of what is fed where it holds of bytes with no field at their front, and of bytes with one as soon as it holds of what
-  -- is behind that.
+  -- is after that.
   module _
       (P : A → List ℕ → Held A → Type 0)
       (none : (a : A) (s : List ℕ) → isWhole s ≡ false → P a s (holding a s))

@@ -42,9 +42,9 @@ no-fault fields l at offset text h =
     let f = stays fields l at offset text in
     absurd (let z : _≡_ {A = ℕ} 0 1 = cc in omega arith)
 
--- ---- behind a start
+-- ---- after a start
 
--- the line of what a field is, and those behind it
+-- the line of what a field is, and those after it
 abbrev linesBy : ℕ → FieldEvent → ℕ → List (List ℕ) → List Verdict → List ℕ
 linesBy offset e size fields says =
     lineOf (lineBy offset e (headD says (noRule 0))) ++ linesOf (offsetOf offset size) fields (tail says)

@@ -30,7 +30,7 @@ pub answers-of-a-history : (s : List ℕ) → Faultless s
     → answersOf s ≡ linesOf 0 (traceFields s) (noRule 8 ∷ map verdictIn (logOf (startIn s) (historyOf s)))
 answers-of-a-history = answers-follow
 
--- 4. Its report shows the ledger behind that history.
+-- 4. Its report shows the ledger after that history.
 pub report-of-a-history : (s : List ℕ) → Faultless s → reportOf s ≡ ledgerText (ledgerAfter (startIn s) (historyOf s))
 unfolding reportOf textOf
 report-of-a-history s h = rw (h, replay-follows s h)

@@ -39,7 +39,7 @@ Faultless s = replayOf s .stage ≡ Running
 
 -- ---- the start, and what happens then
 
--- "Tag 1, first and once": the ledger behind the first field
+-- "Tag 1, first and once": the ledger after the first field
 abbrev pub startBy : List (List ℕ) → Ledger
 startBy [] = begun .ledger
 startBy (field ∷ fields) = heardOf begun (eventIn field) .ledger

@@ -75,7 +75,7 @@ beyond-the-last {type} h = unknown-by (leb 0x42) refl (le-leb 0x42 type h)
 
 -- ---- a number that was compared with others
 
--- one behind the other, and is none of them
+-- one after the other, and is none of them
 abbrev pub Missed : Type 0 → List ℕ → ℕ → Type 0
 Missed N [] type = N
 Missed N (n ∷ ns) type = Missed (N × (type ≡ n → ⊥)) ns type

@@ -44,7 +44,7 @@ fetchCancel = field integer λ id. done
 unfoldable pub trackStatusRequest : Layout
 trackStatusRequest = field track λ _. done
 
--- Largest Group ID, Largest Object ID, behind a status
+-- Largest Group ID, Largest Object ID, after a status
 unfoldable pub largest : ℕ → Layout
 largest status =
     field integer λ group.

@@ -12,7 +12,7 @@ unfoldable pub subscribeUpdate : Layout
 subscribeUpdate =
     field integer λ id. place λ startGroup startObject. field integer λ endGroup. field byte λ priority. parameters
 
--- EndGroup, behind a start
+-- EndGroup, after a start
 unfoldable pub ending : ℕ → Layout
 ending startGroup = field integer λ endGroup. when (endsAfter startGroup endGroup) parameters forbidden
 

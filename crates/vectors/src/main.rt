@@ -122,7 +122,7 @@ fn say_bytes(out: &[u8], count: usize) {
     }
 }
 
-// The number, and behind a 0 the bytes used and those written.
+// The number, and with a 0 the bytes used and those written.
 fn say_rewritten(number: u8, info: [u64; 3], out: &[u8]) {
     say_number(number as u64);
     if number == 0 {

@@ -39,7 +39,7 @@ turned-about : {v : View} {e f : Event} → SeenInEitherOrder v e f → SeenInEi
 turned-about x = record { next = sym (x .next); first = x .second; second = x .first }
 
 module _ (v : View) (e f : Event) where
-  -- in any view, and says the same behind the other
+  -- in any view, and says the same after the other
   stays-either : ((w : View) → viewStep w e .next ≡ w) → viewStep (viewStep v f .next) e .says ≡ viewStep v e .says → SeenInEitherOrder v e f
   stays-either stays says =
       record {
@@ -63,7 +63,7 @@ module _ (v : View) (e f : Event) where
         second = ap (λ (w : View). viewStep w f .says) a;
       }
 
--- so it is enough to look behind the guards
+-- so it is enough to look after the guards
 guarded : (v : View) (e f : Event) → (isSound e ≡ true → isSound f ≡ true → isOpen (v .standing .session) ≡ true → SeenInEitherOrder v e f) → SeenInEitherOrder v e f
 guarded v e f behind = go (isSound e) refl (isSound f) refl (isOpen (v .standing .session)) refl
   where
@@ -214,7 +214,7 @@ module _ {m : Message} (x : NotKept m) where
       (pick-by (λ (c : Seen). c .says ≡ noRule (pick (isSound (message m)) 9 5)) (isSound (message m))
       (λ s. ap (λ (c : Seen). c .says) (not-kept x v) ∙ rw s) (λ s. rw s))
 
-  -- so it may change places with any event behind which the session is open
+  -- so it may change places with any event after which the session is open
   nine-either : (v : View) (f : Event) → isOpen (viewStep v f .next .standing .session) ≡ true → SeenInEitherOrder v (message m) f
   nine-either v f o =
       stays-either v (message m) f nine-stays (nine-says (viewStep v f .next) o ∙ sym (nine-says v (open-before v f o)))

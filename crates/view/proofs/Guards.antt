@@ -21,7 +21,7 @@ module _ (v : View) (e : Event) where
   unfolding viewStep
   closed-stays o = rw o (pick-by (λ (c : Seen). c .next ≡ v) (isSound e) (λ _. refl) (λ _. refl))
 
-  -- what is open behind an event was open before it
+  -- what is open after an event was open before it
   pub open-before : isOpen (viewStep v e .next .standing .session) ≡ true → isOpen (v .standing .session) ≡ true
   open-before after-it = go (isOpen (v .standing .session)) refl
     where

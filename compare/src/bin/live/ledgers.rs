@@ -9,7 +9,7 @@ use second::numbers::{EACH, FIRST};
 use crate::compare::{BYTE, VALUE};
 use crate::ours;
 
-/// What is lent to be written: what is in it before a call, and then behind it.
+/// What is lent to be written: what is in it before a call, and then after it.
 #[derive(Clone)]
 struct Lent {
     numbers: Vec<u64>,
@@ -34,7 +34,7 @@ pub fn difference(case: &LedgerCase) -> Option<String> {
     rooms.find_map(|(info, answers)| with(case, info, answers))
 }
 
-/// One call with room for so many values and so many answers.
+/// One call with room for that many values and that many answers.
 fn with(case: &LedgerCase, info: usize, answers: usize) -> Option<String> {
     let mut left = Lent {
         numbers: case.numbers.clone(),

@@ -26,7 +26,7 @@ impl Run {
         }
     }
 
-    /// The case that so many came before.
+    /// The case that comes after that many others.
     pub fn case(&mut self, at: u64) {
         let (kind, found) = if at % 4 == 3 {
             let case = self.ledgers.next_case();

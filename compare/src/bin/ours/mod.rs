@@ -1,15 +1,15 @@
 //! The proved code, through its C interface (`include/moq.h`): a slice is a
 //! pointer and a count. `speed` times some of these functions as they stand;
-//! behind them are calls that take slices.
+//! after them are calls that take slices.
 
 #![allow(dead_code)] // Each program calls a part of it.
 
-/// An integer read from the front of bytes: answers 01's number, and behind a 0
+/// An integer read from the front of bytes: answers 01's number, and with a 0
 /// the number and the bytes used in `info`.
 pub type Read =
     unsafe extern "C" fn(s: *const u8, s_len: usize, info: *mut u64, info_len: usize) -> u64;
 
-/// A number written at the front of `out`: answers 01's number, and behind a 0
+/// A number written at the front of `out`: answers 01's number, and with a 0
 /// the bytes used in `info`.
 pub type Write = unsafe extern "C" fn(
     n: u64,
@@ -21,7 +21,7 @@ pub type Write = unsafe extern "C" fn(
 
 /// A message or header read from the front of `s` and written again in its
 /// shortest form at the front of `out`, or the text of a trace: answers 01's
-/// number, and behind a 0 tells in `info` what `include/moq.h` says.
+/// number, and with a 0 tells in `info` what `include/moq.h` says.
 pub type Rewrite = unsafe extern "C" fn(
     s: *const u8,
     s_len: usize,

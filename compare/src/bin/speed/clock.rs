@@ -26,7 +26,7 @@ pub fn compare<T: PartialEq>(
     compare_times(name, count, PASSES, ours, theirs);
 }
 
-/// The same, in so many passes: fewer where each takes long.
+/// The same, in that many passes: fewer where each takes long.
 pub fn compare_times<T: PartialEq>(
     name: &str,
     count: usize,

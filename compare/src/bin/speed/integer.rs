@@ -47,7 +47,7 @@ fn numbers(sizes: &[usize]) -> Vec<u64> {
         .collect()
 }
 
-/// The least and the greatest number whose shortest form has so many bytes.
+/// The least and the greatest number whose shortest form has that many bytes.
 fn bounds(size: usize) -> (u64, u64) {
     match size {
         1 => (0, 63),

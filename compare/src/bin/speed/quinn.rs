@@ -1,6 +1,6 @@
 //! The algorithm of quinn-proto's variable-length integers, written anew over
 //! slices. Reading takes the first byte, clears the two bits that give the
-//! width, copies the other bytes behind it, and takes the whole as a number of
+//! width, copies the other bytes after it, and takes the whole as a number of
 //! that width. Writing goes by the number's range, and stores a number of the
 //! width with the two bits set.
 

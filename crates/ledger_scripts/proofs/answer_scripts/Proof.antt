@@ -16,7 +16,7 @@ Inv-loop text word₀ numbers₀ held₀ l₀ i₀ word numbers held l i = (held
 abbrev μ-loop : tie.MeasureT-loop
 μ-loop text word₀ numbers₀ held₀ l₀ i₀ word numbers held l i = length text - i
 
--- behind a call nothing is held of the next; a character of a call keeps the places as many as they are
+-- after a call nothing is held of the next; a character of a call keeps the places as many as they are
 loop-again : tie.Need-loop-again Inv-loop μ-loop
 loop-again c = ⊎-elim (λ w. rw (w .4, w .5, w .6) (search needs)) (λ w. rw (w .6, w .7, w .8) (search needs)) (c .match .came)
 

@@ -1,4 +1,4 @@
--- `read` meets its contract: a namespace, and what its kind asks for behind it. Assumes nothing.
+-- `read` meets its contract: a namespace, and what its kind asks for after it. Assumes nothing.
 use borrow.Author.Needs.{needs}
 use Rattle.layout.proofs.Family.{typed-no, typed-on}
 use Rattle.layout.proofs.Steps.{stopping, going}

@@ -1,4 +1,4 @@
--- `write_header` meets its contract: its parts are judged, and only then put one behind the other. Assumes nothing.
+-- `write_header` meets its contract: its parts are judged, and only then put one after the other. Assumes nothing.
 use mathlib.Core.Path.{_≡_}
 use native.Mathlib.Omega.{arith}
 use borrow.Author.Needs.{needs}
@@ -27,7 +27,7 @@ said a =
 abbrev judged : tie.After-enum-told4 → tie.After-join2
 judged a = a .before .before
 
--- and where they take so many bytes, can be put
+-- and where they take that many bytes, can be put
 ready : (a : tie.After-enum-told4) → AllAsk (start (judged a) .args .bytes .now) (headed (start (judged a) .args .front .now) (start (judged a) .args .middle) (start (judged a) .args .back .now)) (length (start (judged a) .args .out .now))
 ready a = let t = taken _ _ _ (said (judged a)) (a .enum-told4 .given .1) in (t .is-right, t .fits)
 

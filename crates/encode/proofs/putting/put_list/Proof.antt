@@ -1,4 +1,4 @@
--- `put_list` meets its contract: a count, and behind it the entries. Assumes nothing.
+-- `put_list` meets its contract: a count, and after it the entries. Assumes nothing.
 use native.Mathlib.Omega.{arith}
 use borrow.Author.Needs.{needs}
 use Rattle.common.proofs.Puts.{first-fits, ends-within, second-fits, both-fit, put-both}

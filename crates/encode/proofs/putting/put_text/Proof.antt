@@ -1,4 +1,4 @@
--- `put_text` meets its contract: a length, and behind it the bytes. Assumes nothing.
+-- `put_text` meets its contract: a length, and after it the bytes. Assumes nothing.
 use native.Mathlib.Omega.{arith}
 use borrow.Author.Needs.{needs}
 use Rattle.common.proofs.Puts.{first-fits, ends-within}

@@ -1,4 +1,4 @@
--- `put_front` meets its contract: one number, and behind it the other. Assumes nothing.
+-- `put_front` meets its contract: one number, and after it the other. Assumes nothing.
 use mathlib.Core.Path.{refl}
 use mathlib.Core.List.{_++_}
 use native.Mathlib.Omega.{arith}

@@ -1,5 +1,5 @@
 -- `write_framed` meets its contract: the body is judged against its longest, then the whole against the output, and only then
--- are type, length and body put one behind the other. What was found judges the fields before the i-th. Assumes nothing.
+-- are type, length and body put one after the other. What was found judges the fields before the i-th. Assumes nothing.
 use Prim.Native.Nat.{_-_, _≤_}
 use mathlib.Core.Path.{_≡_, sym, _∙_}
 use native.Mathlib.Omega.{arith}

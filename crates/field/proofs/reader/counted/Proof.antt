@@ -1,4 +1,4 @@
--- `counted` meets its contract: a count, judged, and the entries behind it. Assumes nothing.
+-- `counted` meets its contract: a count, judged, and the entries after it. Assumes nothing.
 use borrow.Author.Needs.{needs}
 use Rattle.field.proofs.Answers.{read-fits}
 use Rattle.field.proofs.Lists.{list-cut, list-over, list-no, list-whole}

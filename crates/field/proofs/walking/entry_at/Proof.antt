@@ -1,4 +1,4 @@
--- `entry_at` meets its contract: the number that the entry begins with, and what stands behind it. Assumes nothing.
+-- `entry_at` meets its contract: the number that the entry begins with, and what stands after it. Assumes nothing.
 use mathlib.Core.Path.{_≡_, sym, ap, _∙_}
 use mathlib.Core.Logic.{⊎-elim}
 use borrow.Author.Needs.{needs}
@@ -20,7 +20,7 @@ lead c =
     (λ w. rw (w .1, w .2) (lead-none (a .s .now) (a .at) (a .kind) (sym (c .before .has-number .ensures) ∙ w .0 .left)))
     (c .if1 .came)
 
--- behind it a length and bytes
+-- after it a length and bytes
 behind : (c : tie.Else2) {o : Outcome Entry} → o ≡ numberedAt (c .before .before .if1 .number) (c .before .before .before .before .before .args .most) (c .before .before .before .before .before .args .s .now) (c .before .before .if1 .next) → o ≡ entryAt (c .before .before .before .before .before .args .kind) (c .before .before .before .before .before .args .most) (c .before .before .before .before .before .args .s .now) (c .before .before .before .before .before .args .at)
 behind c e =
     let a = c .before .before .before .before .before .args in

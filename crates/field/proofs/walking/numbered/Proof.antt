@@ -1,4 +1,4 @@
--- `numbered` meets its contract: a length, judged, and the bytes behind it. Assumes nothing.
+-- `numbered` meets its contract: a length, judged, and the bytes after it. Assumes nothing.
 use borrow.Author.Needs.{needs}
 use Rattle.field.proofs.Answers.{read-within, read-fits, numbered-cut, numbered-over, numbered-missing, numbered-fits, numbered-whole}
 use Rattle.field.proofs.walking.numbered.Statement.{statement}

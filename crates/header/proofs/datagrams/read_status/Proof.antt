@@ -1,4 +1,4 @@
--- `read_status` meets its contract: what stands before the status, the status, and nothing behind it. Assumes nothing.
+-- `read_status` meets its contract: what stands before the status, the status, and nothing after it. Assumes nothing.
 use borrow.Author.Needs.{needs}
 use Rattle.layout.proofs.Steps.{stopping}
 use Rattle.header.specs.Layouts.{status}

@@ -6,7 +6,8 @@ use mathlib.Core.Logic.{⊎-elim}
 use native.Mathlib.Omega.{arith}
 use borrow.Author.Needs.{needs}
 use lib.ListN.{length}
-use Rattle.layout.proofs.Steps.{kept, broken}
+use Rattle.common.proofs.Tests.{kept, broken}
+use Rattle.ledger.specs.Ledgers.{mostRows}
 use Rattle.ledger.specs.Arrays.{changed}
 use Rattle.ledger.proofs.RunTurns.{Along, begins, within, stopped-turn, missed-turn, counted-turn, fits, inside, ends, same-long, not-one, no-room}
 use Rattle.ledger.proofs.Ledger.arrivals.Statement.{statement}
@@ -24,7 +25,7 @@ there : (c : tie.In-loop Inv-loop μ-loop) → 3 * c .before .loop .k + 2 < leng
 there c = within _ _ (omega arith)
 
 -- where a row is found, it is one of the ledger's
-spotted : (c : tie.After-known-told Inv-loop μ-loop) → c .before .i .given .0 .0 < 64
+spotted : (c : tie.After-known-told Inv-loop μ-loop) → c .before .i .given .0 .0 < mostRows
 spotted c = inside (c .before .before .before .before .before .before .before .before .before .before .before .loop .inv .3) (there (c .before .before .before .before .before .before .before .before .before .before)) (omega arith) (c .before .before .before .before .before .before .first .ensures) (c .before .before .before .before .before .if3 .taken) (c .before .before .before .find-name .ensures) (c .before .i .given .1)
 
 loop-again : tie.Need-loop-again Inv-loop μ-loop

@@ -4,6 +4,7 @@ use mathlib.Core.Path.{_≡_, sym, _∙_}
 use native.Mathlib.Omega.{arith}
 use borrow.Author.Needs.{needs}
 use lib.ListN.{length, length-map}
+use Rattle.ledger.specs.Ledgers.{mostRows}
 use Rattle.ledger.proofs.Checking.{Apart, Lone, are-apart, begins, all-apart, held-twice, held-once, is-apart}
 use Rattle.ledger.proofs.checks.are_distinct.Statement.{statement}
 use Rattle.ledger.proofs.checks.are_distinct.Tie as tie
@@ -21,7 +22,7 @@ abbrev μ-rows : tie.MeasureT-rows
 μ-rows l used i₀ i = used - i
 
 -- there are 64 places
-places : (a : tie.Start Inv-later μ-later Inv-rows μ-rows) → length (a .args .t1 .rows) ≡ 64
+places : (a : tie.Start Inv-later μ-later Inv-rows μ-rows) → length (a .args .t1 .rows) ≡ mostRows
 places a = sym (length-map (a .args .t1 .rows) _) ∙ a .good .0 .1 .1 .0 .1 .0 .1
 
 pub are-distinct-spec : {M : Type 1} → statement M

@@ -3,15 +3,15 @@ use mathlib.Core.Path.{_≡_, sym, _∙_}
 use borrow.Author.Needs.{needs}
 use borrow.Author.Tests.{eq-eqb}
 use lib.ListN.{length, length-map}
-use Rattle.layout.proofs.Steps.{kept, broken}
+use Rattle.common.proofs.Tests.{kept, broken}
 use Rattle.row.proofs.Checks.{fails, holds}
-use Rattle.ledger.specs.Ledgers.{isLedger}
+use Rattle.ledger.specs.Ledgers.{mostRows, isLedger}
 use Rattle.ledger.proofs.Facts.{few-used}
 use Rattle.ledger.proofs.checks.is_ledger.Statement.{statement}
 use Rattle.ledger.proofs.checks.is_ledger.Tie as tie
 
 -- there are 64 places
-places : (a : tie.Start) → length (a .args .l .rows) ≡ 64
+places : (a : tie.Start) → length (a .args .l .rows) ≡ mostRows
 places a = sym (length-map (a .args .l .rows) _) ∙ a .good .0 .1 .1 .0 .1 .0 .1
 
 pub is-ledger-spec : {M : Type 1} → statement M

@@ -4,6 +4,7 @@ use mathlib.Core.Path.{_≡_, sym, _∙_}
 use native.Mathlib.Omega.{arith}
 use borrow.Author.Needs.{needs}
 use lib.ListN.{length, length-map}
+use Rattle.ledger.specs.Ledgers.{mostRows}
 use Rattle.ledger.proofs.Checking.{Unused, are-unused, is-used, unused-on, all-unused}
 use Rattle.ledger.proofs.checks.is_rest_unused.Statement.{statement}
 use Rattle.ledger.proofs.checks.is_rest_unused.Tie as tie
@@ -12,10 +13,10 @@ abbrev Inv-loop : tie.InvT-loop
 Inv-loop l i₀ i = Unused l i
 
 abbrev μ-loop : tie.MeasureT-loop
-μ-loop l i₀ i = 64 - i
+μ-loop l i₀ i = mostRows - i
 
 -- there are 64 places
-places : (a : tie.Start Inv-loop μ-loop) → length (a .args .t1 .rows) ≡ 64
+places : (a : tie.Start Inv-loop μ-loop) → length (a .args .t1 .rows) ≡ mostRows
 places a = sym (length-map (a .args .t1 .rows) _) ∙ a .good .0 .1 .1 .0 .1 .0 .1
 
 pub is-rest-unused-spec : {M : Type 1} → statement M

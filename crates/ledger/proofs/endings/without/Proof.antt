@@ -4,7 +4,8 @@ use mathlib.Core.Path.{_≡_, sym, refl, _∙_}
 use native.Mathlib.Omega.{arith}
 use borrow.Author.Needs.{needs}
 use lib.ListN.{length, length-map}
-use Rattle.ledger.proofs.RowsMovedUp.{Moving, moves, moves-on, moved}
+use Rattle.ledger.specs.Ledgers.{mostRows}
+use Rattle.ledger.proofs.RowsMovedUp.{lastRow, Moving, moves, moves-on, moved}
 use Rattle.ledger.proofs.endings.without.Statement.{statement}
 use Rattle.ledger.proofs.endings.without.Tie as tie
 
@@ -12,10 +13,10 @@ abbrev Inv-loop : tie.InvT-loop
 Inv-loop at l next₀ i₀ next i = Moving l at next i
 
 abbrev μ-loop : tie.MeasureT-loop
-μ-loop at l next₀ i₀ next i = 63 - i
+μ-loop at l next₀ i₀ next i = lastRow - i
 
 -- there are 64 places
-places : (a : tie.Start Inv-loop μ-loop) → length (a .args .t1 .rows) ≡ 64
+places : (a : tie.Start Inv-loop μ-loop) → length (a .args .t1 .rows) ≡ mostRows
 places a = sym (length-map (a .args .t1 .rows) _) ∙ a .good .0 .1 .1 .0 .1 .0 .1
 
 pub without-spec : {M : Type 1} → statement M

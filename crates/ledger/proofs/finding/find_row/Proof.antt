@@ -4,7 +4,7 @@ use mathlib.Core.Path.{_≡_, sym, _∙_}
 use native.Mathlib.Omega.{arith}
 use borrow.Author.Needs.{needs}
 use lib.ListN.{length, length-map}
-use Rattle.ledger.specs.Ledgers.{held}
+use Rattle.ledger.specs.Ledgers.{mostRows, held}
 use Rattle.ledger.specs.Arrays.{keyOf}
 use Rattle.ledger.proofs.Looking.{Looking, looks, is-here, not-here, nowhere}
 use Rattle.ledger.proofs.finding.find_row.Statement.{statement}
@@ -17,7 +17,7 @@ abbrev μ-loop : tie.MeasureT-loop
 μ-loop key n l used i₀ i = used - i
 
 -- there are 64 places
-places : (a : tie.Start Inv-loop μ-loop) → length (a .args .t1 .rows) ≡ 64
+places : (a : tie.Start Inv-loop μ-loop) → length (a .args .t1 .rows) ≡ mostRows
 places a = sym (length-map (a .args .t1 .rows) _) ∙ a .good .0 .1 .1 .0 .1 .0 .1
 
 pub find-row-spec : {M : Type 1} → statement M

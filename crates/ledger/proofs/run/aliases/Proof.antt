@@ -4,6 +4,7 @@ use mathlib.Core.Path.{_≡_, refl, sym, _∙_}
 use native.Mathlib.Omega.{arith}
 use borrow.Author.Needs.{needs}
 use lib.ListN.{length, length-map}
+use Rattle.ledger.specs.Ledgers.{mostRows}
 use Rattle.ledger.proofs.AliasesFound.{Named, named-next, all-named}
 use Rattle.ledger.proofs.run.aliases.Statement.{statement}
 use Rattle.ledger.proofs.run.aliases.Tie as tie
@@ -12,10 +13,10 @@ abbrev Inv-loop : tie.InvT-loop
 Inv-loop l names₀ i₀ names i = Named (l .rows) names i
 
 abbrev μ-loop : tie.MeasureT-loop
-μ-loop l names₀ i₀ names i = 64 - i
+μ-loop l names₀ i₀ names i = mostRows - i
 
 -- there are 64 places
-places : (a : tie.Start Inv-loop μ-loop) → length (a .args .t1 .rows) ≡ 64
+places : (a : tie.Start Inv-loop μ-loop) → length (a .args .t1 .rows) ≡ mostRows
 places a = sym (length-map (a .args .t1 .rows) _) ∙ a .good .0 .1 .1 .0 .1 .0 .1
 
 pub aliases-spec : {M : Type 1} → statement M

@@ -1,4 +1,4 @@
--- `put_ledger` meets its contract: its own numbers are stored, one by one, and the rows are put behind them. Assumes nothing.
+-- `put_ledger` meets its contract: its own numbers are stored, one by one, and the rows are put after them. Assumes nothing.
 use native.Mathlib.Omega.{arith}
 use borrow.Author.Needs.{needs}
 use lib.ListN.{length-set}

@@ -1,4 +1,4 @@
--- `move_front` meets its contract: the bytes so far stand at the front, and every byte behind them is as it was. Assumes nothing.
+-- `move_front` meets its contract: the bytes so far stand at the front, and every byte after them is as it was. Assumes nothing.
 use Prim.Native.Nat.{ℕ, _-_, _≤_}
 use mathlib.Core.Path.{_≡_, refl, ap, _∙_}
 use mathlib.Core.List.{_++_}

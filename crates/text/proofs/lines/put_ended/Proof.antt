@@ -1,4 +1,4 @@
--- `put_ended` meets its contract: one more byte behind the item. Assumes nothing.
+-- `put_ended` meets its contract: one more byte after the item. Assumes nothing.
 use mathlib.Core.Path.{_≡_}
 use mathlib.Core.Logic.{⊎-elim}
 use native.Mathlib.Omega.{arith}
