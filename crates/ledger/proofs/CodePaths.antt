@@ -27,7 +27,7 @@ use Rattle.ledger.specs.Ledgers.{held, hasAlias, isLedger}
 use Rattle.ledger.specs.Answers.{Came, ruleNumber, noRule, same, done, isOwn, gated}
 use Rattle.ledger.specs.Keys.{gone, now}
 use Rattle.ledger.specs.Views.{standingOf, viewOf, cameOf}
-use Rattle.ledger.specs.Steps.{idOf, aliasOf, newRow, Reply, answer, broken, RowStep, replied, unchanged, withHighest, noRow, breaksR6, okAt, endAt, arriveAt, byId, subscribeStep, maximumStep, arrivalStep, messageStep, takeOf}
+use Rattle.ledger.specs.Steps.{idOf, aliasOf, newRow, answer, broken, RowStep, replied, unchanged, withHighest, noRow, breaksR6, okAt, endAt, arriveAt, byId, subscribeStep, maximumStep, arrivalStep, messageStep, takeOf}
 use Rattle.ledger.specs.Arrays.{find, rowAt, changed, added, freed}
 use Rattle.ledger.specs.declared.Part.{Part}
 use Rattle.ledger.specs.declared.Part.the-variants.{Subscriber, Publisher}

@@ -1,7 +1,7 @@
 -- What the code stores in the array, as what a step makes of the view. Assumes nothing.
-use Prim.Native.Nat.{ℕ, suc, _+_, _-_, _≤_, _<_}
-use mathlib.Core.Path.{_≡_, refl, sym, ap, _∙_}
-use mathlib.Core.Bool.{Bool, true, false}
+use Prim.Native.Nat.{ℕ, suc, _+_, _-_, _<_}
+use mathlib.Core.Path.{_≡_, sym, ap, _∙_}
+use mathlib.Core.Bool.{Bool, true}
 use mathlib.Core.List.{List, [], _∷_, _++_}
 use native.Mathlib.Omega.{arith}
 use lib.ListN.{length, take, drop, length-set, length-append, length-take, length-drop}
@@ -9,12 +9,11 @@ use lib.Seq.{drop-set-lt}
 use Rattle.row.specs.Rows.{unusedRow}
 use Rattle.row.specs.declared.Row.{Row}
 use Rattle.ledger.specs.Ledgers.{mostRows, held, allUnused}
-use Rattle.ledger.specs.Answers.{Came, noRule, done}
-use Rattle.ledger.specs.Keys.{Looked, one, look, onLooked, Change, gone, now, turn}
-use Rattle.ledger.specs.Views.{View, Seen, standingOf, viewOf, cameOf, seenOf}
-use Rattle.ledger.specs.Steps.{Reply, answer, broken, verdictBy, standingAfter, replied, RowStep, byKey, withHighest}
-use Rattle.ledger.specs.Arrays.{rowAt, withRows, changed, added, freed}
-use Rattle.ledger.specs.declared.Rule.{Rule}
+use Rattle.ledger.specs.Answers.{noRule, done}
+use Rattle.ledger.specs.Keys.{Looked, one, look, onLooked, gone, now, turn}
+use Rattle.ledger.specs.Views.{Seen, standingOf, viewOf, cameOf, seenOf}
+use Rattle.ledger.specs.Steps.{Reply, answer, verdictBy, standingAfter, replied, RowStep, byKey, withHighest}
+use Rattle.ledger.specs.Arrays.{rowAt, changed, added, freed}
 use Rattle.ledger.specs.declared.Ledger.{Ledger}
 use Rattle.ledger.proofs.PartsOfLists.{rest-next}
 use Rattle.ledger.proofs.Finds.{HasNone, IsFirst, first-used}

@@ -1,12 +1,12 @@
 -- What every call leaves is a ledger, where it was handed one; and a start that is done gives one. Assumes nothing.
-use Prim.Native.Nat.{ℕ, zero, suc, _+_, _-_, _≤_}
+use Prim.Native.Nat.{ℕ, zero, suc, _-_, _≤_}
 use mathlib.Core.Path.{_≡_, refl, ap, _∙_}
 use mathlib.Core.Bool.{Bool, true, false}
-use mathlib.Core.List.{List, [], _∷_, _++_}
+use mathlib.Core.List.{List, [], _∷_}
 use native.Mathlib.Omega.{arith}
 use borrow.Author.Tests.{leb-false, ltb-false, eqb-true, leb-true}
 use lib.Dec.{leb, ltb, eqb}
-use lib.ListN.{length, take, drop, replicate, length-append, length-replicate, drop-of-length-le}
+use lib.ListN.{length, drop, replicate, length-append, length-replicate, drop-of-length-le}
 use lib.Seq.{take-append-le, drop-append-le, take-all}
 use Rattle.common.specs.Lists.{upTo}
 use Rattle.common.proofs.Cases.{pick-by}
@@ -23,16 +23,16 @@ use Rattle.message.specs.declared.Message.{Message}
 use Rattle.message.specs.declared.Message.the-variants.{Subscription, Fetch, Announce, Session}
 use Rattle.row.specs.Places.{small, smallPlace}
 use Rattle.row.specs.Ranges.{askedOf, isKnown}
-use Rattle.row.specs.Rows.{unusedRow, isRow, mayEnd, isUnused, isPending, isNowhere}
+use Rattle.row.specs.Rows.{unusedRow, mayEnd, isUnused, isPending, isNowhere}
 use Rattle.row.specs.declared.Row.{Row}
 use Rattle.row.specs.declared.Ending.{Ending}
 use Rattle.row.specs.declared.Ending.the-variants.{SubscribeError as Erring, SubscribeDone as Ended, Unsubscribe as Leaving}
 use Rattle.row.proofs.Keeping.{after, after-id, after-alias, after-is, opened, opened-id, opened-alias, opened-is, pending-is, smallContent}
 use Rattle.ledger.specs.Ledgers.{mostRows, held, rising, hasAlias, distinct, allUnused, bounded, isLedger, emptyLedger}
 use Rattle.ledger.specs.Answers.{Came, Verdict, noRule, isOwn, gateOf, gated}
-use Rattle.ledger.specs.Keys.{Change, gone, now, look, onLooked, turn}
+use Rattle.ledger.specs.Keys.{Change, look, onLooked, turn}
 use Rattle.ledger.specs.Views.{Standing, View, Seen, viewOf, ledgerOf, cameOf, seenOf}
-use Rattle.ledger.specs.Steps.{startOf, idOf, aliasOf, newRow, Reply, answer, broken, standingAfter, replied, withHighest, withMaximum, RowStep, byKey, noRow, breaksR6, okAt, endAt, arriveAt, subscribeStep, maximumStep, subscriptionStep, messageStep, malformedStep, arrivalStep, smallArrival, takeOf, malformedOf, arrivalOf}
+use Rattle.ledger.specs.Steps.{startOf, idOf, aliasOf, newRow, Reply, answer, broken, standingAfter, replied, RowStep, byKey, noRow, okAt, endAt, arriveAt, subscribeStep, maximumStep, subscriptionStep, messageStep, malformedStep, arrivalStep, smallArrival, takeOf, malformedOf, arrivalOf}
 use Rattle.ledger.specs.declared.Part.{Part}
 use Rattle.ledger.specs.declared.Part.the-variants.{Subscriber, Publisher}
 use Rattle.ledger.specs.declared.Rule.the-variants.{R1, R2, R3, R4, R7}

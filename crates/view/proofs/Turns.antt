@@ -1,13 +1,11 @@
--- The laws of `look` and `turn`, over any element: what they depend on, and that two turns may change places. Assumes nothing.
+-- Two turns of a list, over any element: they may change places. Assumes nothing.
 use Prim.Native.Nat.{ℕ}
 use mathlib.Core.Path.{_≡_, refl, sym, ap, _∙_}
 use mathlib.Core.Bool.{Bool, true, false}
 use mathlib.Core.List.{List, [], _∷_}
 use borrow.Author.Tests.{eqb-true, ne-eqb}
 use lib.Dec.{eqb}
-use lib.ListN.{getD}
 use Rattle.common.specs.Choice.{pick}
-use Rattle.ledger.proofs.Finds.{HasNone, end, other, IsFirst, here, later}
 use Rattle.ledger.proofs.Keyed.{Known}
 use Rattle.ledger.specs.Keys.{Looked, none, one, look, onLooked, Change, gone, now, instead, turn}
 
