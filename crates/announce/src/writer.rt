@@ -27,16 +27,16 @@ pub fn number(m: AnnounceMessage) -> u64
 pub fn fields(m: AnnounceMessage) -> Fields
     ensures { λ r. ⌜ r ≡ placed (typedOf m) ⌝ }
 {
-    let kind = number(m);
+    let number = number(m);
     match m {
         AnnounceMessage::Named(_, namespace) => {
-            places::of1(kind, Piece::List(Kind::Namespace, namespace))
+            places::of1(number, Piece::List(Kind::Namespace, namespace))
         }
         AnnounceMessage::Asked(_, x) => {
             let namespace = x.namespace;
             let parameters = x.parameters;
             places::of2(
-                kind,
+                number,
                 Piece::List(Kind::Namespace, namespace),
                 Piece::List(Kind::Parameters, parameters),
             )
@@ -46,7 +46,7 @@ pub fn fields(m: AnnounceMessage) -> Fields
             let failure = x.failure;
             let reason = failure.reason;
             places::of3(
-                kind,
+                number,
                 Piece::List(Kind::Namespace, namespace),
                 Piece::Number(failure.code),
                 Piece::Bytes(reason),

@@ -19,12 +19,12 @@ use measure::Measured;
 use measure::places::piece_count;
 
 // Type and Length; after them the body begins.
-fn put_front(out: &mut [u8], kind: u64, n: u64) -> usize
-    requires { ⌜ (kind ≤ greatest) × (n ≤ greatest) ⌝ }
-    requires { ⌜ length (encOf kind ++ encOf n) ≤ length (now out) ⌝ }
-    ensures { λ r. ⌜ Put (encOf kind ++ encOf n) (now (out .entry)) r (now (out .exit)) ⌝ }
+fn put_front(out: &mut [u8], number: u64, n: u64) -> usize
+    requires { ⌜ (number ≤ greatest) × (n ≤ greatest) ⌝ }
+    requires { ⌜ length (encOf number ++ encOf n) ≤ length (now out) ⌝ }
+    ensures { λ r. ⌜ Put (encOf number ++ encOf n) (now (out .entry)) r (now (out .exit)) ⌝ }
 {
-    let a = put_number(out, kind);
+    let a = put_number(out, number);
     let b = put_number(&mut out[a..], n);
     a + b
 }
@@ -51,11 +51,11 @@ fn put_all(out: &mut [u8], bytes: &[u8], f: Fields) -> usize
 // A message: its type, the length of its body, and the body, which may take longest bytes. 5, 6, 3 and 7 in this order;
 // a refusal writes nothing. (The fields are judged here, since they would be copied where they are handed on.)
 pub fn write_framed(out: &mut [u8], bytes: &[u8], f: Fields, longest: u32) -> Writing
-    ensures { λ r. ⌜ Leaves (framedOf longest (now (bytes .entry)) (f .kind) (fieldsOf f) (now (out .entry)))
+    ensures { λ r. ⌜ Leaves (framedOf longest (now (bytes .entry)) (f .number) (fieldsOf f) (now (out .entry)))
         (toldWriting r) (now (out .exit)) ⌝ }
 {
-    let kind = f.kind;
-    if kind > integer::GREATEST {
+    let number = f.number;
+    if number > integer::GREATEST {
         return Writing::Forbidden;
     }
     let room = longest as usize;
@@ -73,12 +73,12 @@ pub fn write_framed(out: &mut [u8], bytes: &[u8], f: Fields, longest: u32) -> Wr
         Measured::Oversize => Writing::Oversize,
         Measured::TooLong => Writing::TooLong,
         Measured::Takes(n) => {
-            let head = integer::size(kind) + integer::size(n as u64);
+            let head = integer::size(number) + integer::size(n as u64);
             if out.len() < head + n {
                 return Writing::TooShort;
             }
             // The part after Type and Length is lent to the body.
-            let at = put_front(out, kind, n as u64);
+            let at = put_front(out, number, n as u64);
             let c = put_all(&mut out[at..], bytes, f);
             Writing::Done(at + c)
         }

@@ -33,14 +33,14 @@ pub fn number(m: FetchMessage) -> u64
 pub fn fields(m: FetchMessage) -> Fields
     ensures { λ r. ⌜ r ≡ placed (typedOf m) ⌝ }
 {
-    let kind = number(m);
+    let number = number(m);
     match m {
-        FetchMessage::Fetch(x) => fetch_fields(kind, x),
+        FetchMessage::Fetch(x) => fetch_fields(number, x),
         FetchMessage::FetchOk(x) => {
             let largest = x.largest;
             let parameters = x.parameters;
             places::of6(
-                kind,
+                number,
                 Piece::Number(x.id),
                 Piece::Byte(x.order),
                 Piece::Byte(x.end_of_track),
@@ -53,20 +53,20 @@ pub fn fields(m: FetchMessage) -> Fields
             let failure = x.failure;
             let reason = failure.reason;
             places::of3(
-                kind,
+                number,
                 Piece::Number(x.id),
                 Piece::Number(failure.code),
                 Piece::Bytes(reason),
             )
         }
-        FetchMessage::FetchCancel(id) => places::of1(kind, Piece::Number(id)),
-        FetchMessage::TrackStatusRequest(t) => places::of1(kind, Piece::Track(t)),
-        FetchMessage::TrackStatus(x) => status_fields(kind, x),
+        FetchMessage::FetchCancel(id) => places::of1(number, Piece::Number(id)),
+        FetchMessage::TrackStatusRequest(t) => places::of1(number, Piece::Track(t)),
+        FetchMessage::TrackStatus(x) => status_fields(number, x),
     }
 }
 
-fn fetch_fields(kind: u64, x: Fetch) -> Fields
-    ensures { λ r. ⌜ r ≡ placed (record { type = kind; pieces = fetchPieces x }) ⌝ }
+fn fetch_fields(number: u64, x: Fetch) -> Fields
+    ensures { λ r. ⌜ r ≡ placed (record { type = number; pieces = fetchPieces x }) ⌝ }
 {
     let id = Piece::Number(x.id);
     let priority = Piece::Byte(x.priority);
@@ -80,7 +80,7 @@ fn fetch_fields(kind: u64, x: Fetch) -> Fields
             let start = r.start;
             let end = r.end;
             places::of10(
-                kind,
+                number,
                 id,
                 priority,
                 order,
@@ -97,18 +97,18 @@ fn fetch_fields(kind: u64, x: Fetch) -> Fields
             let joining = Piece::Number(joining_type(j.absolute));
             let joined = Piece::Number(j.id);
             let start = Piece::Number(j.start);
-            places::of7(kind, id, priority, order, joining, joined, start, last)
+            places::of7(number, id, priority, order, joining, joined, start, last)
         }
     }
 }
 
-fn status_fields(kind: u64, x: TrackStatus) -> Fields
-    ensures { λ r. ⌜ r ≡ placed (record { type = kind; pieces = statusPieces x }) ⌝ }
+fn status_fields(number: u64, x: TrackStatus) -> Fields
+    ensures { λ r. ⌜ r ≡ placed (record { type = number; pieces = statusPieces x }) ⌝ }
 {
     let track = x.track;
     let largest = x.largest;
     places::of4(
-        kind,
+        number,
         Piece::Track(track),
         Piece::Number(x.status),
         Piece::Number(largest.group),

@@ -12,11 +12,11 @@ use Rattle.measure.specs.Fields.{mostPieces, slot, inSlot, placed, field
 use Rattle.measure.specs.declared.Fields.{Fields}
 
 -- those that fill the first places are placed,
-pub fields-filled : (kind used : ℕ) (ps : List Piece) → used ≤ length ps → drop used ps ≡ replicate (mostPieces - used) (Number 0) → _≡_ {A = Fields} (record { at = map inSlot ps; used = used; kind = kind }) (placed (record { type = kind; pieces = take used ps }))
+pub fields-filled : (number used : ℕ) (ps : List Piece) → used ≤ length ps → drop used ps ≡ replicate (mostPieces - used) (Number 0) → _≡_ {A = Fields} (record { at = map inSlot ps; used = used; number = number }) (placed (record { type = number; pieces = take used ps }))
 unfolding placed
-fields-filled kind used ps h e =
+fields-filled number used ps h e =
     let count = sym (length-take-le used ps h) in
-    λ i. record { at = map inSlot (filled mostPieces (Number 0) used ps h e i); used = count i; kind = kind }
+    λ i. record { at = map inSlot (filled mostPieces (Number 0) used ps h e i); used = count i; number = number }
 
 -- and fields that are placed are found again
 pub fields-placed : (t : Typed) → fieldsOf (placed t) ≡ t .pieces

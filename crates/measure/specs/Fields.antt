@@ -28,7 +28,7 @@ mostPieces = 10
 -- A MESSAGE'S FIELDS, each in its place; a place that is not used holds the number 0
 unfoldable pub placed : Typed → Fields
 placed t =
-    record { at = map inSlot (upTo mostPieces (Number 0) (t .pieces)); used = length (t .pieces); kind = t .type }
+    record { at = map inSlot (upTo mostPieces (Number 0) (t .pieces)); used = length (t .pieces); number = t .type }
 
 -- and back: those that are used
 unfoldable pub fieldsOf : Fields → List Piece

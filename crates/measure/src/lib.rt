@@ -34,7 +34,7 @@ pub const MOST_PIECES: usize = 10;
 pub struct Fields {
     pub at: [Slot; MOST_PIECES],
     pub used: usize,
-    pub kind: u64,
+    pub number: u64,
 }
 
 // What stands between the numbers of a header: nothing, a byte, a part of the bytes after its length, or both.

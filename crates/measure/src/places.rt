@@ -12,7 +12,7 @@ use field::Piece;
 
 // The first of seven fields, as many as are used.
 fn of(
-    kind: u64,
+    number: u64,
     used: usize,
     a: Piece,
     b: Piece,
@@ -25,7 +25,7 @@ fn of(
     requires { ⌜ (used ≤ mostPieces) × (drop used (a ∷ b ∷ c ∷ d ∷ e ∷ f ∷ g ∷ replicate 3 (Number 0)) ≡ replicate
         (mostPieces - used) (Number 0)) ⌝ }
     ensures { λ r. ⌜ r ≡ placed
-        (record { type = kind; pieces = take used (a ∷ b ∷ c ∷ d ∷ e ∷ f ∷ g ∷ replicate 3 (Number 0)) }) ⌝ }
+        (record { type = number; pieces = take used (a ∷ b ∷ c ∷ d ∷ e ∷ f ∷ g ∷ replicate 3 (Number 0)) }) ⌝ }
 {
     let z = Slot {
         piece: Piece::Number(0),
@@ -42,53 +42,53 @@ fn of(
         z,
         z,
     ];
-    Fields { at, used, kind }
+    Fields { at, used, number }
 }
 
-pub fn of1(kind: u64, a: Piece) -> Fields
-    ensures { λ r. ⌜ r ≡ placed (record { type = kind; pieces = a ∷ [] }) ⌝ }
+pub fn of1(number: u64, a: Piece) -> Fields
+    ensures { λ r. ⌜ r ≡ placed (record { type = number; pieces = a ∷ [] }) ⌝ }
 {
     let z = Piece::Number(0);
-    of(kind, 1, a, z, z, z, z, z, z)
+    of(number, 1, a, z, z, z, z, z, z)
 }
 
-pub fn of2(kind: u64, a: Piece, b: Piece) -> Fields
-    ensures { λ r. ⌜ r ≡ placed (record { type = kind; pieces = a ∷ b ∷ [] }) ⌝ }
+pub fn of2(number: u64, a: Piece, b: Piece) -> Fields
+    ensures { λ r. ⌜ r ≡ placed (record { type = number; pieces = a ∷ b ∷ [] }) ⌝ }
 {
     let z = Piece::Number(0);
-    of(kind, 2, a, b, z, z, z, z, z)
+    of(number, 2, a, b, z, z, z, z, z)
 }
 
-pub fn of3(kind: u64, a: Piece, b: Piece, c: Piece) -> Fields
-    ensures { λ r. ⌜ r ≡ placed (record { type = kind; pieces = a ∷ b ∷ c ∷ [] }) ⌝ }
+pub fn of3(number: u64, a: Piece, b: Piece, c: Piece) -> Fields
+    ensures { λ r. ⌜ r ≡ placed (record { type = number; pieces = a ∷ b ∷ c ∷ [] }) ⌝ }
 {
     let z = Piece::Number(0);
-    of(kind, 3, a, b, c, z, z, z, z)
+    of(number, 3, a, b, c, z, z, z, z)
 }
 
-pub fn of4(kind: u64, a: Piece, b: Piece, c: Piece, d: Piece) -> Fields
-    ensures { λ r. ⌜ r ≡ placed (record { type = kind; pieces = a ∷ b ∷ c ∷ d ∷ [] }) ⌝ }
+pub fn of4(number: u64, a: Piece, b: Piece, c: Piece, d: Piece) -> Fields
+    ensures { λ r. ⌜ r ≡ placed (record { type = number; pieces = a ∷ b ∷ c ∷ d ∷ [] }) ⌝ }
 {
     let z = Piece::Number(0);
-    of(kind, 4, a, b, c, d, z, z, z)
+    of(number, 4, a, b, c, d, z, z, z)
 }
 
-pub fn of5(kind: u64, a: Piece, b: Piece, c: Piece, d: Piece, e: Piece) -> Fields
-    ensures { λ r. ⌜ r ≡ placed (record { type = kind; pieces = a ∷ b ∷ c ∷ d ∷ e ∷ [] }) ⌝ }
+pub fn of5(number: u64, a: Piece, b: Piece, c: Piece, d: Piece, e: Piece) -> Fields
+    ensures { λ r. ⌜ r ≡ placed (record { type = number; pieces = a ∷ b ∷ c ∷ d ∷ e ∷ [] }) ⌝ }
 {
     let z = Piece::Number(0);
-    of(kind, 5, a, b, c, d, e, z, z)
+    of(number, 5, a, b, c, d, e, z, z)
 }
 
-pub fn of6(kind: u64, a: Piece, b: Piece, c: Piece, d: Piece, e: Piece, f: Piece) -> Fields
-    ensures { λ r. ⌜ r ≡ placed (record { type = kind; pieces = a ∷ b ∷ c ∷ d ∷ e ∷ f ∷ [] }) ⌝ }
+pub fn of6(number: u64, a: Piece, b: Piece, c: Piece, d: Piece, e: Piece, f: Piece) -> Fields
+    ensures { λ r. ⌜ r ≡ placed (record { type = number; pieces = a ∷ b ∷ c ∷ d ∷ e ∷ f ∷ [] }) ⌝ }
 {
     let z = Piece::Number(0);
-    of(kind, 6, a, b, c, d, e, f, z)
+    of(number, 6, a, b, c, d, e, f, z)
 }
 
 pub fn of7(
-    kind: u64,
+    number: u64,
     a: Piece,
     b: Piece,
     c: Piece,
@@ -97,13 +97,13 @@ pub fn of7(
     f: Piece,
     g: Piece,
 ) -> Fields
-    ensures { λ r. ⌜ r ≡ placed (record { type = kind; pieces = a ∷ b ∷ c ∷ d ∷ e ∷ f ∷ g ∷ [] }) ⌝ }
+    ensures { λ r. ⌜ r ≡ placed (record { type = number; pieces = a ∷ b ∷ c ∷ d ∷ e ∷ f ∷ g ∷ [] }) ⌝ }
 {
-    of(kind, 7, a, b, c, d, e, f, g)
+    of(number, 7, a, b, c, d, e, f, g)
 }
 
 pub fn of9(
-    kind: u64,
+    number: u64,
     a: Piece,
     b: Piece,
     c: Piece,
@@ -114,7 +114,7 @@ pub fn of9(
     h: Piece,
     i: Piece,
 ) -> Fields
-    ensures { λ r. ⌜ r ≡ placed (record { type = kind; pieces = a ∷ b ∷ c ∷ d ∷ e ∷ f ∷ g ∷ h ∷ i ∷ [] }) ⌝ }
+    ensures { λ r. ⌜ r ≡ placed (record { type = number; pieces = a ∷ b ∷ c ∷ d ∷ e ∷ f ∷ g ∷ h ∷ i ∷ [] }) ⌝ }
 {
     let z = Slot {
         piece: Piece::Number(0),
@@ -131,11 +131,15 @@ pub fn of9(
         Slot { piece: i },
         z,
     ];
-    Fields { at, used: 9, kind }
+    Fields {
+        at,
+        used: 9,
+        number,
+    }
 }
 
 pub fn of10(
-    kind: u64,
+    number: u64,
     a: Piece,
     b: Piece,
     c: Piece,
@@ -147,7 +151,7 @@ pub fn of10(
     i: Piece,
     j: Piece,
 ) -> Fields
-    ensures { λ r. ⌜ r ≡ placed (record { type = kind; pieces = a ∷ b ∷ c ∷ d ∷ e ∷ f ∷ g ∷ h ∷ i ∷ j ∷ [] }) ⌝ }
+    ensures { λ r. ⌜ r ≡ placed (record { type = number; pieces = a ∷ b ∷ c ∷ d ∷ e ∷ f ∷ g ∷ h ∷ i ∷ j ∷ [] }) ⌝ }
 {
     let at = [
         Slot { piece: a },
@@ -161,7 +165,11 @@ pub fn of10(
         Slot { piece: i },
         Slot { piece: j },
     ];
-    Fields { at, used: 10, kind }
+    Fields {
+        at,
+        used: 10,
+        number,
+    }
 }
 
 // How many fields there are: no more than there are places.

@@ -21,7 +21,7 @@ module _ (s : List ℕ) (m : Message) (before : List ℕ) {a : Bool} (judged : a
   not-allowed h = let f : allowedOf m ≡ false = sym judged ∙ not-true a h in record { says = rw f; holds = rw f }
 
   -- or none is, and its fields are written
-  pub is-framed : (f : Fields) {said : Answer Nothing} {after : List ℕ} → not a ≡ false → f ≡ placed (typedOf m) → Leaves (framedOf longestBody s (f .kind) (fieldsOf f) before) said after → Leaves (writeOf s m before) said after
+  pub is-framed : (f : Fields) {said : Answer Nothing} {after : List ℕ} → not a ≡ false → f ≡ placed (typedOf m) → Leaves (framedOf longestBody s (f .number) (fieldsOf f) before) said after → Leaves (writeOf s m before) said after
   unfolding writeUpTo framedOf placed
   is-framed f h e l =
       let g : allowedOf m ≡ true = sym judged ∙ not-false a h in

@@ -7,16 +7,16 @@ ghost use Rattle.rewrite.specs.Ends.{endNumber, endInfo};
 use encode::Writing;
 
 // Bytes used, bytes written, the type, where something was written; what was read is refused for want of room alone.
-pub fn tell(info: &mut [u64], writing: Writing, used: usize, kind: u64) -> u8
+pub fn tell(info: &mut [u64], writing: Writing, used: usize, number: u64) -> u8
     requires { ⌜ 3 ≤ length (now info) ⌝ }
     ensures says { λ r. ⌜ r ≡ endNumber (toldWriting writing) ⌝ }
-    ensures tells { λ _. ⌜ now (info .exit) ≡ endInfo (toldWriting writing) used kind (now (info .entry)) ⌝ }
+    ensures tells { λ _. ⌜ now (info .exit) ≡ endInfo (toldWriting writing) used number (now (info .entry)) ⌝ }
 {
     let Writing::Done(written) = writing else {
         return 7;
     };
     info[0] = used as u64;
     info[1] = written as u64;
-    info[2] = kind;
+    info[2] = number;
     0
 }

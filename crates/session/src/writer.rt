@@ -22,13 +22,13 @@ pub fn number(m: SessionMessage) -> u64
 pub fn fields(m: SessionMessage) -> Fields
     ensures { λ r. ⌜ r ≡ placed (typedOf m) ⌝ }
 {
-    let kind = number(m);
+    let number = number(m);
     match m {
         SessionMessage::ClientSetup(x) => {
             let versions = x.versions;
             let parameters = x.parameters;
             places::of2(
-                kind,
+                number,
                 Piece::List(Kind::Versions, versions),
                 Piece::List(Kind::Parameters, parameters),
             )
@@ -36,11 +36,11 @@ pub fn fields(m: SessionMessage) -> Fields
         SessionMessage::ServerSetup(x) => {
             let parameters = x.parameters;
             places::of2(
-                kind,
+                number,
                 Piece::Number(x.version),
                 Piece::List(Kind::Parameters, parameters),
             )
         }
-        SessionMessage::GoAway(uri) => places::of1(kind, Piece::Bytes(uri)),
+        SessionMessage::GoAway(uri) => places::of1(number, Piece::Bytes(uri)),
     }
 }

@@ -36,45 +36,45 @@ pub fn number(m: SubscriptionMessage) -> u64
 pub fn fields(m: SubscriptionMessage) -> Fields
     ensures { λ r. ⌜ r ≡ placed (typedOf m) ⌝ }
 {
-    let kind = number(m);
+    let number = number(m);
     match m {
-        SubscriptionMessage::SubscribeUpdate(x) => update_fields(kind, x),
-        SubscriptionMessage::Subscribe(x) => subscribe_fields(kind, x),
-        SubscriptionMessage::SubscribeOk(x) => ok_fields(kind, x),
+        SubscriptionMessage::SubscribeUpdate(x) => update_fields(number, x),
+        SubscriptionMessage::Subscribe(x) => subscribe_fields(number, x),
+        SubscriptionMessage::SubscribeOk(x) => ok_fields(number, x),
         SubscriptionMessage::SubscribeError(x) => {
             let failure = x.failure;
             let reason = failure.reason;
             places::of4(
-                kind,
+                number,
                 Piece::Number(x.id),
                 Piece::Number(failure.code),
                 Piece::Bytes(reason),
                 Piece::Number(x.alias),
             )
         }
-        SubscriptionMessage::Unsubscribe(id) => places::of1(kind, Piece::Number(id)),
+        SubscriptionMessage::Unsubscribe(id) => places::of1(number, Piece::Number(id)),
         SubscriptionMessage::SubscribeDone(x) => {
             let reason = x.reason;
             places::of4(
-                kind,
+                number,
                 Piece::Number(x.id),
                 Piece::Number(x.status),
                 Piece::Number(x.streams),
                 Piece::Bytes(reason),
             )
         }
-        SubscriptionMessage::MaxSubscribeId(id) => places::of1(kind, Piece::Number(id)),
-        SubscriptionMessage::SubscribesBlocked(id) => places::of1(kind, Piece::Number(id)),
+        SubscriptionMessage::MaxSubscribeId(id) => places::of1(number, Piece::Number(id)),
+        SubscriptionMessage::SubscribesBlocked(id) => places::of1(number, Piece::Number(id)),
     }
 }
 
-fn update_fields(kind: u64, x: SubscribeUpdate) -> Fields
-    ensures { λ r. ⌜ r ≡ placed (record { type = kind; pieces = updatePieces x }) ⌝ }
+fn update_fields(number: u64, x: SubscribeUpdate) -> Fields
+    ensures { λ r. ⌜ r ≡ placed (record { type = number; pieces = updatePieces x }) ⌝ }
 {
     let start = x.start;
     let parameters = x.parameters;
     places::of6(
-        kind,
+        number,
         Piece::Number(x.id),
         Piece::Number(start.group),
         Piece::Number(start.object),
@@ -85,8 +85,8 @@ fn update_fields(kind: u64, x: SubscribeUpdate) -> Fields
 }
 
 // The five fields before the filter are the same for each filter.
-fn subscribe_fields(kind: u64, x: Subscribe) -> Fields
-    ensures { λ r. ⌜ r ≡ placed (record { type = kind; pieces = subscribePieces x }) ⌝ }
+fn subscribe_fields(number: u64, x: Subscribe) -> Fields
+    ensures { λ r. ⌜ r ≡ placed (record { type = number; pieces = subscribePieces x }) ⌝ }
 {
     let track = x.track;
     let parameters = x.parameters;
@@ -98,18 +98,18 @@ fn subscribe_fields(kind: u64, x: Subscribe) -> Fields
     let e = Piece::Byte(x.order);
     let last = Piece::List(Kind::Parameters, parameters);
     match filter {
-        Filter::Latest => places::of7(kind, a, b, c, d, e, Piece::Number(2), last),
+        Filter::Latest => places::of7(number, a, b, c, d, e, Piece::Number(2), last),
         Filter::From(start) => {
             let group = Piece::Number(start.group);
             let object = Piece::Number(start.object);
-            places::of9(kind, a, b, c, d, e, Piece::Number(3), group, object, last)
+            places::of9(number, a, b, c, d, e, Piece::Number(3), group, object, last)
         }
         Filter::Range(start, end_group) => {
             let group = Piece::Number(start.group);
             let object = Piece::Number(start.object);
             let end = Piece::Number(end_group);
             places::of10(
-                kind,
+                number,
                 a,
                 b,
                 c,
@@ -125,8 +125,8 @@ fn subscribe_fields(kind: u64, x: Subscribe) -> Fields
     }
 }
 
-fn ok_fields(kind: u64, x: SubscribeOk) -> Fields
-    ensures { λ r. ⌜ r ≡ placed (record { type = kind; pieces = okPieces x }) ⌝ }
+fn ok_fields(number: u64, x: SubscribeOk) -> Fields
+    ensures { λ r. ⌜ r ≡ placed (record { type = number; pieces = okPieces x }) ⌝ }
 {
     let id = Piece::Number(x.id);
     let expires = Piece::Number(x.expires);
@@ -135,12 +135,12 @@ fn ok_fields(kind: u64, x: SubscribeOk) -> Fields
     let last = Piece::List(Kind::Parameters, parameters);
     let content = x.content;
     match content {
-        Content::Nothing => places::of5(kind, id, expires, order, Piece::Byte(0), last),
+        Content::Nothing => places::of5(number, id, expires, order, Piece::Byte(0), last),
         Content::Largest(largest) => {
             let group = Piece::Number(largest.group);
             let object = Piece::Number(largest.object);
             places::of7(
-                kind,
+                number,
                 id,
                 expires,
                 order,

@@ -30,10 +30,10 @@ pub fn word_part(word: Word) -> Part
 }
 
 // The name of a control message, by the number of its type. Another number has none.
-pub fn name_part(kind: u64) -> Part
-    ensures { λ r. ⌜ Stands namesText (nameOf kind) (r .0) (r .1) ⌝ }
+pub fn name_part(number: u64) -> Part
+    ensures { λ r. ⌜ Stands namesText (nameOf number) (r .0) (r .1) ⌝ }
 {
-    match kind {
+    match number {
         0x40 => Part(0, 12),
         0x41 => Part(12, 24),
         0x10 => Part(24, 30),
@@ -114,11 +114,11 @@ pub fn put_word(out: &mut [u8], word: Word) -> usize
     put_part(out, words, part)
 }
 
-pub fn put_name(out: &mut [u8], kind: u64) -> usize
-    requires { ⌜ length (nameOf kind) ≤ length (now out) ⌝ }
-    ensures { λ r. ⌜ Put (nameOf kind) (now (out .entry)) r (now (out .exit)) ⌝ }
+pub fn put_name(out: &mut [u8], number: u64) -> usize
+    requires { ⌜ length (nameOf number) ≤ length (now out) ⌝ }
+    ensures { λ r. ⌜ Put (nameOf number) (now (out .entry)) r (now (out .exit)) ⌝ }
 {
-    let part = name_part(kind);
+    let part = name_part(number);
     let names = b"\
         CLIENT_SETUP\
         SERVER_SETUP\

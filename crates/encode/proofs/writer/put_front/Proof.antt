@@ -9,7 +9,7 @@ use Rattle.encode.proofs.writer.put_front.Statement.{statement}
 use Rattle.encode.proofs.writer.put_front.Tie as tie
 
 -- there is room for both
-room : (a : tie.Start) → Room (encOf (a .args .kind)) (encOf (a .args .n)) (encOf (a .args .kind) ++ encOf (a .args .n)) (a .args .out .now)
+room : (a : tie.Start) → Room (encOf (a .args .number)) (encOf (a .args .n)) (encOf (a .args .number) ++ encOf (a .args .n)) (a .args .out .now)
 room a = record { joins = refl; fits = a .pre .1 }
 
 ends : tie.Need-sub-put-number

@@ -66,18 +66,18 @@ too-long c = message-long _ _ _ _ (c .before .before .before .before .before .if
 -- ---- the whole against the output
 
 add-head : tie.Need-add-head Inv-loop μ-loop
-add-head c = omega (arith, size-few (c .before .before .before .before .before .before .before .before .before .before .before .args .t3 .kind), size-few (c .before .before .before .found .given .0 .0), c .before .size .ensures, c .size2 .ensures)
+add-head c = omega (arith, size-few (c .before .before .before .before .before .before .before .before .before .before .before .args .t3 .number), size-few (c .before .before .before .found .given .0 .0), c .before .size .ensures, c .size2 .ensures)
 
 add-whole : tie.Need-add-if2 Inv-loop μ-loop
 add-whole c =
     let t = taken _ _ _ (said (c .before .before .before .before .before)) (c .before .before .before .found .given .1) in
-    omega (arith, t .counts, t .fits, size-few (c .before .before .before .before .before .before .before .before .before .before .before .args .t3 .kind), size-few (c .before .before .before .found .given .0 .0), c .before .size .ensures, c .size2 .ensures)
+    omega (arith, t .counts, t .fits, size-few (c .before .before .before .before .before .before .before .before .before .before .before .args .t3 .number), size-few (c .before .before .before .found .given .0 .0), c .before .size .ensures, c .size2 .ensures)
 
 too-short : tie.Need-returns-2 Inv-loop μ-loop
 too-short c = message-short _ _ _ _ (c .before .before .before .before .before .before .before .before .before .if1 .left) (said (c .before .before .before .before .before .before)) (c .before .before .before .before .found .given .1) (c .before .before .size .ensures) (c .before .size2 .ensures) (c .if2 .taken)
 
 -- where there is room, all was checked
-checked : (a : tie.Else2 Inv-loop μ-loop) → Message (a .before .before .before .before .before .before .before .before .before .before .before .before .args .longest) (a .before .before .before .before .before .before .before .before .before .before .before .before .args .bytes .now) (a .before .before .before .before .before .before .before .before .before .before .before .before .args .t3 .kind) (fieldsOf (a .before .before .before .before .before .before .before .before .before .before .before .before .args .t3)) (a .before .before .before .before .before .before .before .before .before .before .before .before .args .out .now) (a .before .before .before .before .found .given .0 .0)
+checked : (a : tie.Else2 Inv-loop μ-loop) → Message (a .before .before .before .before .before .before .before .before .before .before .before .before .args .longest) (a .before .before .before .before .before .before .before .before .before .before .before .before .args .bytes .now) (a .before .before .before .before .before .before .before .before .before .before .before .before .args .t3 .number) (fieldsOf (a .before .before .before .before .before .before .before .before .before .before .before .before .args .t3)) (a .before .before .before .before .before .before .before .before .before .before .before .before .args .out .now) (a .before .before .before .before .found .given .0 .0)
 checked a =
     let g : a .before .before .before .before .before .before .before .before .before .before .before .before .args .longest ≤ greatest = omega arith in
     message _ _ _ _ (a .before .before .before .before .before .before .before .before .before .if1 .left) (said (a .before .before .before .before .before .before)) (a .before .before .before .before .found .given .1) (a .before .before .size .ensures) (a .before .size2 .ensures) g (a .if2 .left)

@@ -17,4 +17,4 @@ pub tell-spec : {M : Type 1} → statement M
 tell-spec =
     tie.close
     (tie.spec
-    (λ c. search needs) (λ c. not-done (c .before .args .writing) (c .before .args .used) (c .before .args .kind) (c .before .args .info .now) (c .match .keys2)) (λ c. search needs) (λ c. simp length-set (omega arith)) (λ c. search needs) (λ c. search needs) returns-2)
+    (λ c. search needs) (λ c. not-done (c .before .args .writing) (c .before .args .used) (c .before .args .number) (c .before .args .info .now) (c .match .keys2)) (λ c. search needs) (λ c. simp length-set (omega arith)) (λ c. search needs) (λ c. search needs) returns-2)
