@@ -31,7 +31,7 @@ use Rattle.header_writer.proofs.Shortest.{Form, shortest, bare-form, ty
 -- ---- headers without a type
 
 module _ {A : Type 0} (l : Layout) (said : A → List Piece) (shape : (s : List ℕ) (a : A) → Fits l s (said a)) (sizes : (s : List ℕ) (a : A) → sizedAll s (said a) ≡ true) where
-  bare-kept : Kept (record { told = said; typed = untyped; readOf = λ s. answer 1 (scan l s 0); writeOf = λ s a before. headerWritten l [] s (said a) before; takesMore = λ _. true })
+  bare-kept : Kept (record { fields = said; typed = untyped; readOf = λ s. answer 1 (scan l s 0); writeOf = λ s a before. headerWritten l [] s (said a) before; takesMore = λ _. true })
   bare-kept =
       record {
         reads-back = λ s a before rest says _.
@@ -59,7 +59,7 @@ module _ {A : Type 0} (cut : ℕ) (types : ℕ → InTable) (said : A → Typed)
     reads : (a : A) (s rest : List ℕ) {t : Typed} {used : ℕ} → t .type ≡ said a .type → (takesMore a ≡ false → rest ≡ []) → length s ≤ used → headedOf cut types (s ++ rest) ≡ answered t used → readOf (s ++ rest) ≡ answered t used
 
   module _ (takesMore : A → Bool) (readOf : List ℕ → Answer Typed) (r : Reader takesMore readOf) where
-    typed-kept : Kept (record { told = said; typed = λ t. t; readOf = readOf; writeOf = λ s a before. headerWritten (layoutOf (types (said a .type))) (encOf (said a .type)) s (said a .pieces) before; takesMore = takesMore })
+    typed-kept : Kept (record { fields = said; typed = λ t. t; readOf = readOf; writeOf = λ s a before. headerWritten (layoutOf (types (said a .type))) (encOf (said a .type)) s (said a .pieces) before; takesMore = takesMore })
     typed-kept =
         record {
           reads-back = λ s a before rest {n} says follows.
@@ -78,7 +78,7 @@ datagram-kept =
     (record { heads = λ s h. is-headed s h; reads = λ d s rest e f end h. may-follow d s rest e f end h })
 
 -- that of a stream is written the same over any bytes
-stream-over : Kept (record { told = streamTyped; typed = λ t. t; readOf = streamOf; writeOf = λ s h before. headerWritten (layoutOf (streams (streamTyped h .type))) (encOf (streamTyped h .type)) s (streamTyped h .pieces) before; takesMore = λ _. true })
+stream-over : Kept (record { fields = streamTyped; typed = λ t. t; readOf = streamOf; writeOf = λ s h before. headerWritten (layoutOf (streams (streamTyped h .type))) (encOf (streamTyped h .type)) s (streamTyped h .pieces) before; takesMore = λ _. true })
 unfolding streamOf
 stream-over =
     typed-kept 1 streams streamTyped stream-shape stream-writable (λ _. true) streamOf

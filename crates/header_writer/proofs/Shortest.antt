@@ -36,7 +36,7 @@ pub record Stands (w : Written) (bytes : List ℕ) (n : ℕ) : Type 0 where
 -- a form for what was read: it is what is written, no shorter bytes are read so, and what is the same has the same form
 pub record Form {A B : Type 0} (c : Codec A B) : Type 0 where
   pub form : List ℕ → B → List ℕ
-  pub written : (s : List ℕ) (a : A) (before : List ℕ) {n : ℕ} → c .writeOf s a before .says ≡ wrote n → Stands (c .writeOf s a before) (form s (c .told a)) n
+  pub written : (s : List ℕ) (a : A) (before : List ℕ) {n : ℕ} → c .writeOf s a before .says ≡ wrote n → Stands (c .writeOf s a before) (form s (c .fields a)) n
   pub least : (s : List ℕ) {b : B} {used : ℕ} → c .readOf s ≡ answered b used → Least s 0 (form s b) used
   pub alike : (s r : List ℕ) (a b : B) → Same s (c .typed a) r (c .typed b) → form s a ≡ form r b
 
@@ -46,10 +46,10 @@ shortest c f =
     record {
       none-shorter = λ s a before b says r.
           let w = f .written s a before says in
-          omega (arith, f .least b (r .reads) .fits, w .used, ap length (f .alike b s (r .found) (c .told a) (r .same)));
+          omega (arith, f .least b (r .reads) .fits, w .used, ap length (f .alike b s (r .found) (c .fields a) (r .same)));
       only-one = λ s a before b {n} {used} says r o e.
           let w = f .written s a before says in
-          let same = f .alike b s (r .found) (c .told a) (r .same) in
+          let same = f .alike b s (r .found) (c .fields a) (r .same) in
           let whole-of = f .form b (r .found) in
           let size : used ≡ length whole-of = omega (arith, w .used, ap length same) in
           let is : b ≡ whole-of ++ drop used b = f .least b (r .reads) .is o (omega arith) in
@@ -70,7 +70,7 @@ fields-least l s at h = scanned-shortest (scanned l s at h) .least
 
 -- ---- a header without a type
 
-pub bare-form : {A : Type 0} (l : Layout) (said : A → List Piece) → Form (record { told = said; typed = untyped; readOf = λ s. answer 1 (scan l s 0); writeOf = λ s a before. headerWritten l [] s (said a) before; takesMore = λ _. true })
+pub bare-form : {A : Type 0} (l : Layout) (said : A → List Piece) → Form (record { fields = said; typed = untyped; readOf = λ s. answer 1 (scan l s 0); writeOf = λ s a before. headerWritten l [] s (said a) before; takesMore = λ _. true })
 bare-form l said =
     record {
       form = encodeAll;
@@ -82,7 +82,7 @@ bare-form l said =
 -- ---- a header after its type
 
 pub typed-form : {A : Type 0} (cut : ℕ) (types : ℕ → InTable) (said : A → Typed) (takesMore : A → Bool) (readOf : List ℕ → Answer Typed) → ((s : List ℕ) (t : Typed) (used : ℕ) → readOf s ≡ answered t used → headedOf cut types s ≡ answered t used)
-    → Form (record { told = said; typed = λ t. t; readOf = readOf; writeOf = λ s a before. headerWritten (layoutOf (types (said a .type))) (encOf (said a .type)) s (said a .pieces) before; takesMore = takesMore })
+    → Form (record { fields = said; typed = λ t. t; readOf = readOf; writeOf = λ s a before. headerWritten (layoutOf (types (said a .type))) (encOf (said a .type)) s (said a .pieces) before; takesMore = takesMore })
 typed-form cut types said takesMore readOf heads =
     record {
       form = λ s t. encOf (t .type) ++ encodeAll s (t .pieces);

@@ -21,7 +21,7 @@ takesPayload (Status d n) = false
 abbrev pub datagramCodec : Codec Datagram Typed
 datagramCodec =
     record {
-      told = datagramTyped;
+      fields = datagramTyped;
       typed = λ t. t;
       readOf = datagramOf;
       writeOf = datagramWritten;
@@ -32,7 +32,7 @@ datagramCodec =
 abbrev pub streamCodec : Codec StreamHeader Typed
 streamCodec =
     record {
-      told = streamTyped;
+      fields = streamTyped;
       typed = λ t. t;
       readOf = streamOf;
       writeOf = λ s h before. streamWritten h before;
@@ -46,7 +46,7 @@ untyped ps = record { type = 0; pieces = ps }
 abbrev pub subgroupObjectCodec : Codec SubgroupObject (List Piece)
 subgroupObjectCodec =
     record {
-      told = subgroupObjectPieces;
+      fields = subgroupObjectPieces;
       typed = untyped;
       readOf = subgroupObjectOf;
       writeOf = subgroupObjectWritten;
@@ -56,7 +56,7 @@ subgroupObjectCodec =
 abbrev pub fetchObjectCodec : Codec FetchObject (List Piece)
 fetchObjectCodec =
     record {
-      told = fetchObjectPieces;
+      fields = fetchObjectPieces;
       typed = untyped;
       readOf = fetchObjectOf;
       writeOf = fetchObjectWritten;
