@@ -10,12 +10,12 @@ use Rattle.trace.specs.declared.Field.{Field}
 use Rattle.trace.specs.declared.FieldRead.{FieldRead}
 use Rattle.trace.specs.declared.FieldRead.the-variants.{Whole, Cut}
 use Rattle.replay.specs.Events.{eventOf}
-use Rattle.replay.specs.Progressing.{Stepping, stepOf, toldStep}
+use Rattle.replay.specs.Progressing.{Stepping, stepOf, toldStep, steppedBy}
 use Rattle.replay.specs.declared.Event.{Event}
 use Rattle.replay.specs.declared.Progress.{Progress}
 use Rattle.replay.specs.declared.Stepped.{Stepped}
 use Rattle.replay.proofs.FieldSteps.{stands, stands-none, stepped-is}
-use Rattle.answers.specs.Answers.{lineBy, steppedBy, lineIn, takenAt}
+use Rattle.answers.specs.Answers.{lineBy, lineIn, takenAt}
 use Rattle.answers.specs.declared.FieldLine.{FieldLine}
 
 module _ (p : Progress) (s : List ℕ) (at : ℕ) {r : FieldRead} (said : r ≡ fieldOf s at) (line : Line) where

@@ -13,9 +13,9 @@ use Rattle.text.proofs.Placing.{items-placed}
 use Rattle.trace.specs.Fields.{fieldSize, isWhole}
 use Rattle.trace.specs.Feeding.{Held, feed}
 use Rattle.trace.proofs.Fed.{size-head, whole-fits, fed-field, fed-none}
-use Rattle.replay.specs.Progressing.{begun}
+use Rattle.replay.specs.Progressing.{begun, steppedBy}
 use Rattle.replay.specs.declared.Progress.{Progress}
-use Rattle.answers.specs.Answers.{steppedBy, lineIn, SoFar, addLine, withText, endItems, lastText, answersOf, takenAt}
+use Rattle.answers.specs.Answers.{lineIn, SoFar, addLine, withText, endItems, lastText, answersOf, takenAt}
 use Rattle.answers.specs.declared.FieldLine.{FieldLine}
 use Rattle.answers.proofs.FedAlike.{feed-alike}
 

@@ -6,19 +6,17 @@ use lib.Dec.{eqb}
 use Rattle.common.specs.Choice.{pick}
 use Rattle.message.specs.Types.{typedOf}
 use Rattle.ledger.specs.Answers.{Verdict}
-use Rattle.trace.specs.Fields.{tagOf, valueOf, fieldSize, isWhole}
+use Rattle.trace.specs.Fields.{fieldSize, isWhole}
 use Rattle.trace.specs.Feeding.{Held, feed}
-use Rattle.text.specs.Lines.{lineOf, placed}
+use Rattle.text.specs.Lines.{lineOf, placed, faultLine}
 use Rattle.text.specs.declared.Item.{Item}
 use Rattle.text.specs.declared.Item.the-variants.{Number, Word, Rule, Name}
 use Rattle.text.specs.declared.Word.the-variants.{Start as AStart, Malformed as AMalformed, Arrival as AnArrival}
-use Rattle.replay.specs.Events.{eventOf}
-use Rattle.replay.specs.Progressing.{onFault, Stepping, stepOf, begun, finishOf}
+use Rattle.replay.specs.Progressing.{onFault, steppedBy, begun, finishOf}
 use Rattle.replay.specs.declared.Event.{Event}
 use Rattle.replay.specs.declared.Event.the-variants.{Start, Control, Malformed, Arrived, Fault}
 use Rattle.replay.specs.declared.Stage.{Stage}
 use Rattle.replay.specs.declared.Progress.{Progress}
-use Rattle.report.specs.Rows.{faultLine}
 use Rattle.answers.specs.declared.FieldLine.{FieldLine}
 
 -- ---- a line
@@ -43,10 +41,6 @@ lineBy offset (Arrived a) said = offsetLine offset (Word AnArrival) said
 lineBy offset Fault said = []
 
 -- ---- a field
-
--- what a field comes to
-abbrev pub steppedBy : Progress → List ℕ → Stepping
-steppedBy p field = stepOf p (eventOf (tagOf field) (valueOf field)) (fieldSize field)
 
 unfoldable pub lineIn : Progress → List ℕ → List Item
 lineIn p field = lineBy (p .offset) (steppedBy p field .event) (steppedBy p field .says)

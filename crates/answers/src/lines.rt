@@ -80,9 +80,9 @@ fn fault_line(stage: Stage) -> Line
     ensures { λ r. ⌜ r ≡ placed (faultItems stage) ⌝ }
 {
     match stage {
-        Stage::Empty => report::fault_line(0),
+        Stage::Empty => text::fault_line(0),
         Stage::Running => text::of0(),
-        Stage::Faulty(at) => report::fault_line(at),
+        Stage::Faulty(at) => text::fault_line(at),
     }
 }
 

@@ -23,11 +23,11 @@ use Rattle.ledger.proofs.Facts.{parts, ledger-used}
 use Rattle.ledger.proofs.PartsOfLists.{held-long}
 use Rattle.ledger.specs.Keys.{Change, turn}
 use Rattle.ledger.specs.Views.{View, Seen, viewOf}
-use Rattle.view.specs.Events.{Event, message, comes, isSound}
-use Rattle.view.specs.Steps.{viewStep}
+use Rattle.orders.specs.Events.{Event, message, comes, isSound}
+use Rattle.orders.specs.Steps.{viewStep}
 use Rattle.ledger.proofs.Keyed.{Known}
-use Rattle.view.proofs.LedgersFollow.{ledger-follows, no-ledger}
-use Rattle.view.proofs.Guards.{passed}
+use Rattle.orders.proofs.LedgersFollow.{ledger-follows, no-ledger}
+use Rattle.orders.proofs.Guards.{passed}
 use Rattle.history.specs.Events.{ledgerAfter, logOf}
 use Rattle.history.specs.Deeds.{Deed, deedIn}
 use Rattle.history.specs.Takings.{NoneTaken}

@@ -5,7 +5,7 @@ use Rattle.field.specs.declared.Arrival.{Arrival}
 use Rattle.ledger.specs.Answers.{Verdict}
 use Rattle.ledger.specs.Steps.{arrivalOf}
 use Rattle.ledger.specs.declared.Ledger.{Ledger}
-use Rattle.view.specs.Events.{Event, arrival, comes}
+use Rattle.orders.specs.Events.{Event, arrival, comes}
 use Rattle.history.specs.Events.{ledgerAfter, Logged, logOf}
 use Rattle.history.specs.Orders.{Reordered, EitherOrder, Exchanged}
 use Rattle.history.proofs.Neighbours.{arrivals-either, messages-either}

@@ -15,9 +15,9 @@ use Rattle.ledger.specs.declared.Session.{Session}
 use Rattle.ledger.specs.declared.Session.the-variants.{Open, Closed}
 use Rattle.ledger.specs.Views.{View, Seen, viewOf, seenOf}
 use Rattle.ledger.specs.Steps.{broken, replied}
-use Rattle.view.proofs.LedgersFollow.{ledger-follows, no-ledger, view-once}
-use Rattle.view.proofs.Guards.{closed-stays}
-use Rattle.view.specs.Events.{Event, comes}
+use Rattle.orders.proofs.LedgersFollow.{ledger-follows, no-ledger, view-once}
+use Rattle.orders.proofs.Guards.{closed-stays}
+use Rattle.orders.specs.Events.{Event, comes}
 use Rattle.history.specs.Events.{ledgerAfter, Logged, logOf}
 use Rattle.history.specs.Closings.{isPeers, anyBroken, firstBroken}
 use Rattle.history.proofs.Keeping.{comes-keeps}

@@ -19,8 +19,8 @@ use Rattle.ledger.specs.declared.Rule.{Rule}
 use Rattle.ledger.proofs.Facts.{parts}
 use Rattle.ledger.specs.Keys.{Change, now, instead, turn}
 use Rattle.ledger.specs.Views.{View, Seen, viewOf}
-use Rattle.view.specs.Events.{Event, message, malformed, arrival, comes}
-use Rattle.view.proofs.LedgersFollow.{seen-by}
+use Rattle.orders.specs.Events.{Event, message, malformed, arrival, comes}
+use Rattle.orders.proofs.LedgersFollow.{seen-by}
 use Rattle.history.specs.Deeds.{Deed, nothing, deedIn}
 use Rattle.history.specs.Ledgers.{nextBy, maximumBy}
 use Rattle.ledger.proofs.Rises.{has-not}

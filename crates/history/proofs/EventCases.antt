@@ -32,10 +32,10 @@ use Rattle.ledger.specs.declared.Rule.{Rule}
 use Rattle.ledger.specs.declared.Rule.the-variants.{R1, R2, R3, R4, R5, R6, R7}
 use Rattle.ledger.specs.Keys.{Looked, none, one, look, onLooked, Change, gone, now, turn}
 use Rattle.ledger.specs.Views.{View, Seen, viewOf, seenOf}
-use Rattle.view.specs.Events.{Event, message, malformed, arrival, comes, isSound}
-use Rattle.view.specs.Steps.{eventStep, viewStep}
+use Rattle.orders.specs.Events.{Event, message, malformed, arrival, comes, isSound}
+use Rattle.orders.specs.Steps.{eventStep, viewStep}
 use Rattle.ledger.proofs.Keyed.{turn-found, turn-same}
-use Rattle.view.proofs.LedgersFollow.{seen-by}
+use Rattle.orders.proofs.LedgersFollow.{seen-by}
 use Rattle.history.specs.Closings.{isPeers}
 use Rattle.history.specs.Deeds.{Deed, opened, ended, deedBy}
 

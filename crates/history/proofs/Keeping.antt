@@ -5,7 +5,7 @@ use mathlib.Core.List.{List, [], _∷_}
 use Rattle.ledger.specs.Ledgers.{isLedger}
 use Rattle.ledger.specs.declared.Ledger.{Ledger}
 use Rattle.ledger.proofs.Keeps.{keeps-take, keeps-malformed, keeps-arrival}
-use Rattle.view.specs.Events.{Event, message, malformed, arrival, comes}
+use Rattle.orders.specs.Events.{Event, message, malformed, arrival, comes}
 use Rattle.history.specs.Events.{ledgerAfter}
 
 pub comes-keeps : (l : Ledger) (e : Event) → isLedger l ≡ true → isLedger (comes l e .next) ≡ true

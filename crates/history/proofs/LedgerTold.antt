@@ -17,9 +17,9 @@ use Rattle.ledger.specs.declared.Rule.the-variants.{R1, R2, R3, R4, R5, R6, R7}
 use Rattle.ledger.specs.declared.Session.{Session}
 use Rattle.ledger.specs.declared.Session.the-variants.{Open, Closed}
 use Rattle.ledger.proofs.Facts.{parts}
-use Rattle.view.proofs.LedgersFollow.{view-once}
+use Rattle.orders.proofs.LedgersFollow.{view-once}
 use Rattle.ledger.specs.Views.{viewOf}
-use Rattle.view.specs.Events.{Event, comes}
+use Rattle.orders.specs.Events.{Event, comes}
 use Rattle.history.specs.Events.{ledgerAfter, Logged, logOf}
 use Rattle.history.specs.Deeds.{deedOf}
 use Rattle.history.specs.Rows.{rowsOf}

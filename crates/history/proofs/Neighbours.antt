@@ -7,11 +7,11 @@ use Rattle.ledger.specs.Answers.{Came}
 use Rattle.ledger.specs.Ledgers.{isLedger, isOpen}
 use Rattle.ledger.specs.declared.Ledger.{Ledger}
 use Rattle.ledger.specs.Views.{Seen, viewOf, seenOf}
-use Rattle.view.specs.Events.{Event, message, arrival, comes}
-use Rattle.view.specs.Steps.{viewStep}
-use Rattle.view.specs.Orders.{Apart, SeenInEitherOrder}
-use Rattle.view.proofs.LedgersFollow.{ledger-follows, no-ledger, view-once}
-use Rattle.view.proofs.EitherOrder as views
+use Rattle.orders.specs.Events.{Event, message, arrival, comes}
+use Rattle.orders.specs.Steps.{viewStep}
+use Rattle.orders.specs.Apart.{Apart, SeenInEitherOrder}
+use Rattle.orders.proofs.LedgersFollow.{ledger-follows, no-ledger, view-once}
+use Rattle.orders.proofs.EitherOrder as views
 use Rattle.history.specs.Orders.{EitherOrder}
 use Rattle.history.proofs.Keeping.{comes-keeps}
 

@@ -11,7 +11,7 @@ use Rattle.ledger.specs.Ledgers.{isLedger}
 use Rattle.ledger.specs.Runs.{arrivalsIn, afterArrivals, answerNumbers, runOf}
 use Rattle.ledger.specs.Steps.{arrivalOf}
 use Rattle.ledger.specs.declared.Ledger.{Ledger}
-use Rattle.view.specs.Events.{arrival}
+use Rattle.orders.specs.Events.{arrival}
 use Rattle.history.specs.Events.{ledgerAfter, logOf}
 use Rattle.history.specs.Runs.{answerNumber, Follows}
 

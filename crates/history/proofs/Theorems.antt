@@ -22,8 +22,8 @@ use Rattle.ledger.specs.declared.Ledger.{Ledger}
 use Rattle.ledger.specs.declared.Part.{Part}
 use Rattle.ledger.proofs.Facts.{parts}
 use Rattle.ledger.proofs.Keeps.{starts}
-use Rattle.view.specs.Events.{Event, message, arrival}
-use Rattle.view.specs.Orders.{Apart}
+use Rattle.orders.specs.Events.{Event, message, arrival}
+use Rattle.orders.specs.Apart.{Apart}
 use Rattle.history.specs.Events.{ledgerAfter, Logged, logOf}
 use Rattle.history.specs.Orders.{Reordered, EitherOrder, Exchanged}
 use Rattle.history.specs.Rows.{greatestOf, rowsOf}

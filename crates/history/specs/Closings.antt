@@ -8,7 +8,7 @@ use Rattle.ledger.specs.Answers.{isOwn}
 use Rattle.ledger.specs.Senders.{Sender, the, either, senderOf}
 use Rattle.ledger.specs.declared.Part.{Part}
 use Rattle.ledger.specs.declared.Part.the-variants.{Publisher}
-use Rattle.view.specs.Events.{Event, message, malformed, arrival}
+use Rattle.orders.specs.Events.{Event, message, malformed, arrival}
 use Rattle.history.specs.Events.{Logged}
 
 -- whether the peer of this part is the one that sends it; what either end may send is nobody's here, since it breaks no

@@ -8,7 +8,7 @@ use Rattle.subscription.specs.declared.Subscribe.{Subscribe}
 use Rattle.subscription.specs.declared.SubscriptionMessage.{SubscriptionMessage}
 use Rattle.subscription.specs.declared.SubscriptionMessage.the-variants.{SubscribeUpdate as ASubscribeUpdate, Subscribe as ASubscribe, SubscribeOk as ASubscribeOk, SubscribeError as ASubscribeError, Unsubscribe as AUnsubscribe, SubscribeDone as ASubscribeDone, MaxSubscribeId as AMaxSubscribeId, SubscribesBlocked as ASubscribesBlocked}
 use Rattle.message.specs.declared.Message.the-variants.{Subscription, Fetch, Announce, Session}
-use Rattle.view.specs.Events.{Event, message, malformed, arrival}
+use Rattle.orders.specs.Events.{Event, message, malformed, arrival}
 use Rattle.history.specs.Events.{Logged}
 
 pub data Deed : Type 0 where

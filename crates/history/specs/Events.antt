@@ -2,7 +2,7 @@
 use mathlib.Core.List.{List, [], _∷_}
 use Rattle.ledger.specs.Answers.{Verdict}
 use Rattle.ledger.specs.declared.Ledger.{Ledger}
-use Rattle.view.specs.Events.{Event, comes}
+use Rattle.orders.specs.Events.{Event, comes}
 
 -- a history: events, the earliest first. The ledger after it,
 unfoldable pub ledgerAfter : Ledger → List Event → Ledger

@@ -6,8 +6,8 @@ use Rattle.field.specs.declared.Arrival.{Arrival}
 use Rattle.message.specs.declared.Message.{Message}
 use Rattle.ledger.specs.Ledgers.{isOpen}
 use Rattle.ledger.specs.declared.Ledger.{Ledger}
-use Rattle.view.specs.Events.{Event, message, arrival, comes}
-use Rattle.view.specs.Orders.{Apart}
+use Rattle.orders.specs.Events.{Event, message, arrival, comes}
+use Rattle.orders.specs.Apart.{Apart}
 use Rattle.history.specs.Events.{ledgerAfter}
 
 -- the same things in another order

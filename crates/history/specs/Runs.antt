@@ -5,7 +5,7 @@ use mathlib.Core.List.{List, map}
 use Rattle.common.specs.Buffer.{over}
 use Rattle.ledger.specs.Runs.{Run}
 use Rattle.ledger.specs.declared.Ledger.{Ledger}
-use Rattle.view.specs.Events.{Event}
+use Rattle.orders.specs.Events.{Event}
 use Rattle.history.specs.Events.{ledgerAfter, Logged, logOf}
 
 -- 01's number of what an event was answered

@@ -26,12 +26,12 @@ use Rattle.ledger.specs.declared.Part.the-variants.{Subscriber, Publisher}
 use Rattle.ledger.specs.Keys.{Looked, none, one, look, onLooked, Change, now, turn}
 use Rattle.ledger.proofs.Keyed.{Known}
 use Rattle.ledger.specs.Views.{Standing, View, Seen}
-use Rattle.view.specs.Events.{Event, message, arrival, isSound}
-use Rattle.view.specs.Steps.{eventStep, viewStep}
-use Rattle.view.specs.Orders.{Names, ok, error, finished, left, updated, NotKept, blocked, fetch, announce, session, Apart, different, first-not-kept, second-not-kept, SeenInEitherOrder}
-use Rattle.view.proofs.Guards.{passed, forbidden, closed-stays, open-before}
-use Rattle.view.proofs.Turns.{look-other, turn-other, found-turned, turn-twice}
-use Rattle.view.proofs.CountedRows.{number-after, after-either}
+use Rattle.orders.specs.Events.{Event, message, arrival, isSound}
+use Rattle.orders.specs.Steps.{eventStep, viewStep}
+use Rattle.orders.specs.Apart.{Names, ok, error, finished, left, updated, NotKept, blocked, fetch, announce, session, Apart, different, first-not-kept, second-not-kept, SeenInEitherOrder}
+use Rattle.orders.proofs.Guards.{passed, forbidden, closed-stays, open-before}
+use Rattle.orders.proofs.Turns.{look-other, turn-other, found-turned, turn-twice}
+use Rattle.orders.proofs.CountedRows.{number-after, after-either}
 
 -- ---- where one changes nothing
 

@@ -4,9 +4,9 @@ use mathlib.Core.Bool.{Bool, true, false}
 use Rattle.common.proofs.Cases.{pick-by}
 use Rattle.ledger.specs.Ledgers.{isOpen}
 use Rattle.ledger.specs.Views.{View, Seen}
-use Rattle.view.specs.Events.{Event, isSound}
+use Rattle.orders.specs.Events.{Event, isSound}
 use Rattle.ledger.specs.Steps.{unchanged}
-use Rattle.view.specs.Steps.{eventStep, viewStep}
+use Rattle.orders.specs.Steps.{eventStep, viewStep}
 
 module _ (v : View) (e : Event) where
   pub passed : isSound e ≡ true → isOpen (v .standing .session) ≡ true → viewStep v e ≡ eventStep v e

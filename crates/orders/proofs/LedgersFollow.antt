@@ -11,8 +11,8 @@ use Rattle.ledger.specs.declared.Ledger.{Ledger}
 use Rattle.ledger.proofs.Facts.{parts}
 use Rattle.ledger.proofs.Shapes.{shaped, ledger-is}
 use Rattle.ledger.proofs.Keeps.{Good, good, seen-as, good-message, good-malformed, good-arrival}
-use Rattle.view.specs.Events.{Event, message, malformed, arrival, comes, isSound}
-use Rattle.view.specs.Steps.{eventStep, viewStep}
+use Rattle.orders.specs.Events.{Event, message, malformed, arrival, comes, isSound}
+use Rattle.orders.specs.Steps.{eventStep, viewStep}
 
 comes-gated : (l : Ledger) (e : Event) → comes l e ≡ gated l (isSound e) (cameOf (eventStep (viewOf l) e))
 unfolding takeOf malformedOf arrivalOf

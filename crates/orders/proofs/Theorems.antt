@@ -6,11 +6,11 @@ use Rattle.message.specs.declared.Message.{Message}
 use Rattle.ledger.specs.Ledgers.{isLedger, isOpen}
 use Rattle.ledger.specs.declared.Ledger.{Ledger}
 use Rattle.ledger.specs.Views.{View, viewOf, seenOf}
-use Rattle.view.specs.Events.{Event, message, arrival, comes}
-use Rattle.view.specs.Steps.{viewStep}
-use Rattle.view.specs.Orders.{Apart, SeenInEitherOrder}
-use Rattle.view.proofs.LedgersFollow as ledgers
-use Rattle.view.proofs.EitherOrder as order
+use Rattle.orders.specs.Events.{Event, message, arrival, comes}
+use Rattle.orders.specs.Steps.{viewStep}
+use Rattle.orders.specs.Apart.{Apart, SeenInEitherOrder}
+use Rattle.orders.proofs.LedgersFollow as ledgers
+use Rattle.orders.proofs.EitherOrder as order
 
 -- 1. A ledger follows the step of its view: of every event it says what the step says, and the view of the next ledger
 -- is the next view.

@@ -12,8 +12,8 @@ use Rattle.subscription.specs.declared.SubscribeDone.{SubscribeDone}
 use Rattle.subscription.specs.declared.SubscribeUpdate.{SubscribeUpdate}
 use Rattle.subscription.specs.declared.SubscriptionMessage.the-variants.{SubscribeUpdate as ASubscribeUpdate, SubscribeOk as ASubscribeOk, SubscribeError as ASubscribeError, Unsubscribe as AUnsubscribe, SubscribeDone as ASubscribeDone, SubscribesBlocked as ASubscribesBlocked}
 use Rattle.ledger.specs.Views.{View}
-use Rattle.view.specs.Events.{Event}
-use Rattle.view.specs.Steps.{viewStep}
+use Rattle.orders.specs.Events.{Event}
+use Rattle.orders.specs.Steps.{viewStep}
 
 -- the subscription that a message names, SUBSCRIBE left out
 pub data Names : Message → ℕ → Type 0 where

@@ -1,3 +1,3 @@
 pub mod Events
 pub mod Steps
-pub mod Orders
+pub mod Apart

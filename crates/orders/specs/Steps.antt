@@ -3,7 +3,7 @@ use Rattle.common.specs.Choice.{guard}
 use Rattle.ledger.specs.Ledgers.{isOpen}
 use Rattle.ledger.specs.Views.{View, Seen}
 use Rattle.ledger.specs.Steps.{unchanged, messageStep, malformedStep, arrivalStep}
-use Rattle.view.specs.Events.{Event, message, malformed, arrival, isSound}
+use Rattle.orders.specs.Events.{Event, message, malformed, arrival, isSound}
 
 abbrev pub eventStep : View → Event → Seen
 eventStep v (message m) = messageStep v m

@@ -1,2 +1,2 @@
-// The ledger as a plain view: what stands beside its rows, and the list of the rows held. It has no code: specs/ says
-// each step on views, and proofs/ that the ledger's arrays follow it.
+// What happens to a ledger, and in which orders it may happen. It has no code: specs/ says what an event comes to on the
+// plain view of a ledger and which two events may change places, and proofs/ that a ledger follows its view.

@@ -15,6 +15,7 @@ use Rattle.message.specs.Reading.{told, onWhole}
 use Rattle.message.proofs.OneReading.{readingOf}
 use Rattle.message.specs.declared.Reading.{Reading}
 use Rattle.ledger.specs.declared.Part.the-variants.{Subscriber, Publisher}
+use Rattle.trace.specs.Fields.{tagOf, valueOf}
 use Rattle.replay.specs.declared.Event.{Event}
 use Rattle.replay.specs.declared.Event.the-variants.{Start, Control, Malformed, Arrived, Fault}
 
@@ -52,3 +53,7 @@ arrivedBy value =
 unfoldable pub eventOf : ℕ → List ℕ → Event
 eventOf tag value =
     pick (eqb tag 1) (startedBy value) (pick (eqb tag 2) (controlBy value) (pick (eqb tag 3) (arrivedBy value) Fault))
+
+-- and of all bytes of a field
+abbrev pub eventIn : List ℕ → Event
+eventIn field = eventOf (tagOf field) (valueOf field)

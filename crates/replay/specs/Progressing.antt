@@ -11,9 +11,9 @@ use Rattle.ledger.specs.Steps.{startOf, takeOf, malformedOf, arrivalOf}
 use Rattle.ledger.specs.Runs.{arrivalsIn, afterArrivals}
 use Rattle.ledger.specs.declared.Ledger.{Ledger}
 use Rattle.ledger.specs.declared.Part.the-variants.{Subscriber}
-use Rattle.trace.specs.Fields.{tagOf, valueOf, fieldSize}
+use Rattle.trace.specs.Fields.{fieldSize}
 use Rattle.trace.specs.Feeding.{Held, feed}
-use Rattle.replay.specs.Events.{eventOf}
+use Rattle.replay.specs.Events.{eventIn}
 use Rattle.replay.specs.declared.Event.{Event}
 use Rattle.replay.specs.declared.Event.the-variants.{Start, Control, Malformed, Arrived, Fault}
 use Rattle.replay.specs.declared.Stage.{Stage}
@@ -86,9 +86,13 @@ stepOf p event size =
 abbrev pub begun : Progress
 begun = record { ledger = emptyLedger Subscriber mostRows 0; stage = Empty; offset = 0 }
 
--- one field
+-- one field: what it comes to,
+abbrev pub steppedBy : Progress → List ℕ → Stepping
+steppedBy p field = stepOf p (eventIn field) (fieldSize field)
+
+-- and how far the trace is then
 unfoldable pub step : Progress → List ℕ → Progress
-step p field = stepOf p (eventOf (tagOf field) (valueOf field)) (fieldSize field) .next
+step p field = steppedBy p field .next
 
 abbrev pub holding : Progress → List ℕ → Held Progress
 holding p rest = record { soFar = p; rest = rest }

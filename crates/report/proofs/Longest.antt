@@ -6,14 +6,13 @@ use native.Mathlib.Omega.{arith}
 use lib.ListN.{length}
 use Rattle.ledger.specs.Ledgers.{mostRows}
 use Rattle.ledger.proofs.Facts.{parts}
-use Rattle.text.specs.Lines.{lineOf}
+use Rattle.text.specs.Lines.{lineOf, faultLine}
 use Rattle.text.proofs.Bounds.{line-bound}
 use Rattle.replay.specs.Progressing.{onFault, begun, fed, finishOf, replayOf}
 use Rattle.replay.specs.declared.Stage.{Stage}
 use Rattle.replay.specs.declared.Stage.the-variants.{Empty, Running, Faulty}
 use Rattle.replay.specs.declared.Progress.{Progress}
 use Rattle.replay.proofs.Theorems.{run-ledger}
-use Rattle.report.specs.Rows.{faultLine}
 use Rattle.report.specs.Report.{ledgerText, textOf, reportOf, longestReport}
 use Rattle.report.proofs.RowLines.{ledger-bound}
 

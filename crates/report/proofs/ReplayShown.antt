@@ -5,7 +5,7 @@ use mathlib.Core.List.{List}
 use native.Mathlib.Omega.{arith}
 use lib.ListN.{length}
 use Rattle.common.specs.Answer.{Answer, Nothing, Leaves}
-use Rattle.text.specs.Lines.{lineOf, placed, itemsOf, putText}
+use Rattle.text.specs.Lines.{lineOf, placed, itemsOf, faultLine, putText}
 use Rattle.text.specs.declared.Line.{Line}
 use Rattle.text.proofs.Placing.{items-placed}
 use Rattle.replay.specs.Progressing.{begun, fed, finishOf, replayOf, fedOf}
@@ -13,7 +13,6 @@ use Rattle.replay.proofs.WhatIsLeft.{rest-few}
 use Rattle.replay.specs.declared.Fed.{Fed}
 use Rattle.replay.specs.declared.Stage.the-variants.{Empty, Running, Faulty}
 use Rattle.replay.specs.declared.Progress.{Progress}
-use Rattle.report.specs.Rows.{faultLine}
 use Rattle.report.specs.Report.{ledgerText, textOf, reportOf}
 
 module _ (p q : Progress) (e : q ≡ p) (before : List ℕ) {r : Answer Nothing} {after : List ℕ} where

@@ -4,10 +4,10 @@ use mathlib.Core.List.{List, [], _∷_, _++_}
 use Rattle.row.specs.declared.Row.{Row}
 use Rattle.ledger.specs.Ledgers.{mostRows, held}
 use Rattle.ledger.specs.declared.Ledger.{Ledger}
-use Rattle.text.specs.Lines.{lineOf, longestLine}
+use Rattle.text.specs.Lines.{lineOf, faultLine, longestLine}
 use Rattle.replay.specs.Progressing.{onFault, replayOf}
 use Rattle.replay.specs.declared.Progress.{Progress}
-use Rattle.report.specs.Rows.{sessionLine, columnsLine, rowLine, faultLine}
+use Rattle.report.specs.Rows.{sessionLine, columnsLine, rowLine}
 
 -- a line for each row, in their order
 unfoldable pub rowsText : List Row → List ℕ

@@ -12,7 +12,7 @@ use Rattle.ledger.specs.declared.Session.{Session}
 use Rattle.ledger.specs.declared.Session.the-variants.{Open, Closed}
 use Rattle.text.specs.declared.Item.{Item}
 use Rattle.text.specs.declared.Item.the-variants.{Number, Word, Rule}
-use Rattle.text.specs.declared.Word.the-variants.{Open as AnOpen, Closed as AClosed, Columns, Pending as APending, Active as AnActive, Nothing, TraceFaultAt}
+use Rattle.text.specs.declared.Word.the-variants.{Open as AnOpen, Closed as AClosed, Columns, Pending as APending, Active as AnActive, Nothing}
 
 -- "A closed session begins `closed R4 1` (rule, rows)."
 abbrev pub sessionLine : Session → ℕ → List Item
@@ -40,7 +40,3 @@ abbrev pub rowLine : Row → List Item
 rowLine r =
     Number (r .id) ∷ Number (r .alias) ∷ stateItem (r .state) ∷ groupItem (r .greatest) ∷ objectItem (r .greatest)
     ∷ Number (r .count) ∷ []
-
--- `trace fault at N`
-abbrev pub faultLine : ℕ → List Item
-faultLine at = Word TraceFaultAt ∷ Number at ∷ []

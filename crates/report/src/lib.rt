@@ -3,7 +3,6 @@ mod lines;
 mod writing;
 
 use ledger::MOST_ROWS;
-pub use lines::fault_line;
 pub use writing::of_progress;
 pub use writing::of_trace;
 

@@ -1,7 +1,7 @@
 // The lines of a report.
 ghost use mathlib.Core.Path.{_≡_};
 ghost use Rattle.text.specs.Lines.{placed};
-ghost use Rattle.report.specs.Rows.{sessionLine, columnsLine, stateItem, groupItem, objectItem, rowLine, faultLine};
+ghost use Rattle.report.specs.Rows.{sessionLine, columnsLine, stateItem, groupItem, objectItem, rowLine};
 use ledger::Session;
 use row::Greatest;
 use row::Row;
@@ -70,11 +70,4 @@ pub fn row_line(row: Row) -> Line
         object_item(g),
         Item::Number(row.count),
     )
-}
-
-// The whole report of a trace at fault, and the last line of its answers.
-pub fn fault_line(at: u64) -> Line
-    ensures { λ r. ⌜ r ≡ placed (faultLine at) ⌝ }
-{
-    text::of2(Item::Word(Word::TraceFaultAt), Item::Number(at))
 }

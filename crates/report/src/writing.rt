@@ -9,7 +9,6 @@ ghost use Rattle.text.specs.Lines.{itemsOf, lineOf, putText, toldPutting};
 ghost use Rattle.replay.specs.Progressing.{finishOf};
 ghost use Rattle.report.specs.Report.{rowsText, ledgerText, textOf, reportOf};
 use crate::lines::columns_line;
-use crate::lines::fault_line;
 use crate::lines::row_line;
 use crate::lines::session_line;
 use ledger::Ledger;
@@ -117,9 +116,9 @@ pub fn of_progress(p: Progress, left: usize, out: &mut [u8]) -> Putting
     let ended = p.finish(left);
     let stage = ended.stage;
     match stage {
-        Stage::Empty => text::put(out, fault_line(0)),
+        Stage::Empty => text::put(out, text::fault_line(0)),
         Stage::Running => write_ledger(out, ended.ledger),
-        Stage::Faulty(at) => text::put(out, fault_line(at)),
+        Stage::Faulty(at) => text::put(out, text::fault_line(at)),
     }
 }
 

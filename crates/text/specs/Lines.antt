@@ -14,6 +14,7 @@ use Rattle.text.specs.Decimals.{decimalOf}
 use Rattle.text.specs.Words.{wordOf}
 use Rattle.text.specs.declared.Item.{Item}
 use Rattle.text.specs.declared.Item.the-variants.{Number, Word, Rule, Name}
+use Rattle.text.specs.declared.Word.the-variants.{TraceFaultAt}
 use Rattle.text.specs.declared.Slot.{Slot}
 use Rattle.text.specs.declared.Line.{Line}
 use Rattle.text.specs.declared.Putting.{Putting}
@@ -65,6 +66,10 @@ placed items = record { at = map inSlot (upTo mostItems (Number 0) items); used 
 -- and back: those that are used
 unfoldable pub itemsOf : Line → List Item
 itemsOf line = map slot (take (line .used) (line .at))
+
+-- where a trace is at fault: "prints only `trace fault at N`"
+abbrev pub faultLine : ℕ → List Item
+faultLine at = Word TraceFaultAt ∷ Number at ∷ []
 
 -- ---- a text in a buffer
 

@@ -3,6 +3,7 @@ mod digits;
 mod lines;
 mod words;
 
+pub use lines::fault_line;
 pub use lines::measure;
 pub use lines::of0;
 pub use lines::of1;

@@ -6,13 +6,14 @@ ghost use Prim.Native.Nat.{_≤_, _-_, min};
 ghost use lib.ListN.{length, take, drop, replicate};
 ghost use Rattle.common.specs.Answer.{Leaves};
 ghost use Rattle.common.specs.Buffer.{Put};
-ghost use Rattle.text.specs.Lines.{mostItems, itemOf, endedOf, lineOf, placed, itemsOf, putText, toldPutting};
+ghost use Rattle.text.specs.Lines.{mostItems, itemOf, endedOf, lineOf, placed, itemsOf, faultLine, putText, toldPutting};
 ghost use Rattle.text.specs.declared.Item.the-variants.{Number};
 use crate::Item;
 use crate::Line;
 use crate::MOST_ITEMS;
 use crate::Putting;
 use crate::Slot;
+use crate::Word;
 use crate::digits::places;
 use crate::digits::put_number;
 use crate::words::name_part;
@@ -89,6 +90,13 @@ pub fn of6(a: Item, b: Item, c: Item, d: Item, e: Item, f: Item) -> Line
     of(6, a, b, c, d, e, f)
 }
 
+// The whole report of a trace at fault, and the last line of its answers.
+pub fn fault_line(at: u64) -> Line
+    ensures { λ r. ⌜ r ≡ placed (faultLine at) ⌝ }
+{
+    of2(Item::Word(Word::TraceFaultAt), Item::Number(at))
+}
+
 // ---- measuring
 
 // How many bytes an item takes.
@@ -99,7 +107,7 @@ fn size(item: Item) -> usize
         Item::Number(n) => places(n),
         Item::Word(word) => part_size(word_part(word)),
         Item::Rule(n) => 1 + places(n),
-        Item::Name(kind) => part_size(name_part(kind)),
+        Item::Name(number) => part_size(name_part(number)),
     }
 }
 
@@ -141,7 +149,7 @@ fn put_item(out: &mut [u8], item: Item) -> usize
             let k = put_number(&mut out[1..], n);
             1 + k
         }
-        Item::Name(kind) => put_name(out, kind),
+        Item::Name(number) => put_name(out, number),
     }
 }
 

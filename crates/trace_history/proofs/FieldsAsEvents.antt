@@ -15,6 +15,7 @@ use Rattle.row.specs.Places.{small}
 use Rattle.history.specs.Events.{ledgerAfter, logOf}
 use Rattle.trace.specs.Fields.{tagOf, valueOf, fieldSize}
 use Rattle.text.specs.Lines.{lineOf}
+use Rattle.replay.specs.Events.{eventIn}
 use Rattle.replay.specs.Progressing.{begun, heardOf, stepOf, step, offsetOf, fed, endStage, finishOf, replayOf}
 use Rattle.replay.specs.declared.Event.{Event as FieldEvent}
 use Rattle.replay.specs.declared.Event.the-variants.{Start, Control, Malformed, Arrived, Fault}
@@ -23,7 +24,7 @@ use Rattle.replay.specs.declared.Stage.the-variants.{Empty, Running, Faulty}
 use Rattle.replay.specs.declared.Progress.{Progress}
 use Rattle.replay.proofs.Ledgers.{Startable, event-fits}
 use Rattle.answers.specs.Answers.{lineBy, lineIn, SoFar, addLine, withText, faultItems, endItems, lastText, answersOf}
-use Rattle.trace_history.specs.Histories.{traceFields, eventIn, Faultless, Started, startBy, startIn, happens, happeningIn, historyOf, verdictIn, linesOf}
+use Rattle.trace_history.specs.Histories.{traceFields, Faultless, Started, startBy, startIn, happens, happeningIn, historyOf, verdictIn, linesOf}
 use Rattle.trace_history.proofs.Cutting.{steps, fed-steps, restOf, cut-so}
 
 abbrev stands : Ledger → Stage → ℕ → List ℕ → SoFar
@@ -64,7 +65,7 @@ tellBy t e size =
     withText (stepped .next) (t .text ++ lineOf (lineBy (t .progress .offset) (stepped .event) (stepped .says)))
 
 follows : (fields : List (List ℕ)) (l : Ledger) (offset : ℕ) (text : List ℕ) → Unbroken fields (stands l Running offset text) → Follows (steps addLine (stands l Running offset text) fields) (ledgerAfter l (happeningIn fields)) (text ++ linesOf offset fields (map verdictIn (logOf l (happeningIn fields))))
-unfolding steps addLine stepOf lineIn happeningIn ledgerAfter logOf eventIn linesOf headD
+unfolding steps addLine stepOf lineIn happeningIn ledgerAfter logOf linesOf headD
 follows [] l offset text h = record { ledger = refl; lines = sym (append-nil text) }
 follows (field ∷ fields) l offset text h = go (eventIn field) h (λ m o t. follows fields m o t)
   where
@@ -89,7 +90,7 @@ startSaid [] = noRule 0
 startSaid (field ∷ fields) = heardOf begun (eventIn field) .says
 
 from-first : (fields : List (List ℕ)) → Unbroken fields (withText begun []) → Follows (steps addLine (withText begun []) fields) (ledgerAfter (startBy fields) (happeningIn fields)) (linesOf 0 fields (startSaid fields ∷ map verdictIn (logOf (startBy fields) (happeningIn fields))))
-unfolding steps addLine stepOf lineIn happeningIn eventIn linesOf headD
+unfolding steps addLine stepOf lineIn happeningIn linesOf headD
 from-first [] h = absurd (let z : _≡_ {A = ℕ} 0 1 = cc in omega arith)
 from-first (field ∷ fields) h = go (eventIn field) h
   where
@@ -106,7 +107,7 @@ unfolding startOf
 small-starts part maximum e = rw e
 
 starts : (fields : List (List ℕ)) → Unbroken fields (withText begun []) → Started (startBy fields) × (startSaid fields ≡ noRule 8)
-unfolding steps addLine stepOf lineIn eventIn
+unfolding steps addLine stepOf lineIn
 starts [] h = absurd (let z : _≡_ {A = ℕ} 0 1 = cc in omega arith)
 starts (field ∷ fields) h = go (eventIn field) (event-fits (tagOf field) (valueOf field)) h
   where

@@ -6,7 +6,7 @@ use mathlib.Core.List.{List, _∷_, map}
 use Rattle.ledger.specs.Answers.{noRule}
 use Rattle.ledger.specs.Ledgers.{mostRows, held}
 use Rattle.ledger.specs.declared.Ledger.{Ledger}
-use Rattle.view.specs.Events.{Event}
+use Rattle.orders.specs.Events.{Event}
 use Rattle.history.specs.Events.{ledgerAfter, logOf}
 use Rattle.history.specs.Orders.{Exchanged}
 use Rattle.history.specs.Rows.{rowsOf}

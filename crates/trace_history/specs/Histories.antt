@@ -7,12 +7,12 @@ use Rattle.ledger.specs.Answers.{Verdict, noRule}
 use Rattle.ledger.specs.Steps.{startOf}
 use Rattle.ledger.specs.declared.Ledger.{Ledger}
 use Rattle.ledger.specs.declared.Part.{Part}
-use Rattle.view.specs.Events.{Event, message, malformed, arrival}
+use Rattle.orders.specs.Events.{Event, message, malformed, arrival}
 use Rattle.history.specs.Events.{Logged}
-use Rattle.trace.specs.Fields.{tagOf, valueOf, fieldSize}
+use Rattle.trace.specs.Fields.{fieldSize}
 use Rattle.trace.specs.Feeding.{Held, feed}
 use Rattle.text.specs.Lines.{lineOf}
-use Rattle.replay.specs.Events.{eventOf}
+use Rattle.replay.specs.Events.{eventIn}
 use Rattle.replay.specs.Progressing.{begun, heardOf, offsetOf, replayOf}
 use Rattle.replay.specs.declared.Event.{Event as FieldEvent}
 use Rattle.replay.specs.declared.Event.the-variants.{Start, Control, Malformed, Arrived, Fault}
@@ -28,10 +28,6 @@ gathered fields field = fields ++ (field ∷ [])
 -- the fields of a trace, each all of its bytes
 unfoldable pub traceFields : List ℕ → List (List ℕ)
 traceFields s = feed gathered (record { soFar = []; rest = [] }) s .soFar
-
--- what a field is
-unfoldable pub eventIn : List ℕ → FieldEvent
-eventIn field = eventOf (tagOf field) (valueOf field)
 
 -- its run ends without a fault
 abbrev pub Faultless : List ℕ → Type 0
