@@ -7,6 +7,8 @@ use Rattle.field.specs.declared.Fault.{Fault}
 use Rattle.field.specs.declared.Piece.{Piece}
 use Rattle.layout.specs.Layout.{done, scan}
 use Rattle.layout.specs.Typed.{led, typed}
+use Rattle.layout.specs.declared.FieldName.{FieldName}
+use Rattle.layout.specs.declared.FieldName.the-variants.{TrackNamespace, TrackNamespacePrefix}
 use Rattle.layout.proofs.Family.{behind-no, behind-whole}
 use Rattle.layout.proofs.Steps.{To, Stops}
 use Rattle.types.specs.Announces.{named}
@@ -17,18 +19,21 @@ use Rattle.announce.specs.declared.kinds.Refusing.the-variants.{Announce
 use Rattle.announce.specs.declared.kinds.AnnounceKind.{AnnounceKind}
 use Rattle.announce.specs.declared.kinds.AnnounceKind.the-variants.{Named, Asked, Refused}
 
--- its layout: a namespace, and what follows it
-pub layout-is : (kind : AnnounceKind) → layoutOf kind ≡ named (rest kind)
+-- its layout: a namespace, by the name that 004 has for it, and what follows it
+pub named-as : (kind : AnnounceKind) → (name : FieldName) × (layoutOf kind ≡ named name (rest kind))
 unfolding typeRow rest
-layout-is (Asked Announce) = refl
-layout-is (Named AnnounceOk) = refl
-layout-is (Refused AnnounceError) = refl
-layout-is (Named Unannounce) = refl
-layout-is (Refused AnnounceCancel) = refl
-layout-is (Asked SubscribeAnnounces) = refl
-layout-is (Named SubscribeAnnouncesOk) = refl
-layout-is (Refused SubscribeAnnouncesError) = refl
-layout-is (Named UnsubscribeAnnounces) = refl
+named-as (Asked Announce) = (TrackNamespace, refl)
+named-as (Named AnnounceOk) = (TrackNamespace, refl)
+named-as (Refused AnnounceError) = (TrackNamespace, refl)
+named-as (Named Unannounce) = (TrackNamespace, refl)
+named-as (Refused AnnounceCancel) = (TrackNamespace, refl)
+named-as (Asked SubscribeAnnounces) = (TrackNamespacePrefix, refl)
+named-as (Named SubscribeAnnouncesOk) = (TrackNamespacePrefix, refl)
+named-as (Refused SubscribeAnnouncesError) = (TrackNamespacePrefix, refl)
+named-as (Named UnsubscribeAnnounces) = (TrackNamespacePrefix, refl)
+
+pub layout-is : (kind : AnnounceKind) → layoutOf kind ≡ named (named-as kind .0) (rest kind)
+layout-is kind = named-as kind .1
 
 -- what follows the namespace: a fault in it, or all of it
 module _ (s : List ℕ) (at : ℕ) (namespace : Piece) {kind k : AnnounceKind} (which : kind ≡ k) where

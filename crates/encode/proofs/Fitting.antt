@@ -16,8 +16,8 @@ unfoldable pub fitting : Layout → List Value → Bool
 fitting done [] = true
 fitting done (v ∷ vs) = false
 fitting forbidden vs = false
-fitting (field form next) [] = false
-fitting (field form next) (v ∷ vs) = both (eqb (code form) (code (formOf v))) (fitting (next (handed v)) vs)
+fitting (field name form next) [] = false
+fitting (field name form next) (v ∷ vs) = both (eqb (code form) (code (formOf v))) (fitting (next (handed v)) vs)
 fitting (when test l m) vs = pick test (fitting l vs) (fitting m vs)
 
 -- good values that do are permitted
@@ -26,8 +26,8 @@ unfolding fitting permitted
 fitting-permitted done [] h g = refl
 fitting-permitted done (v ∷ vs) h g = h
 fitting-permitted forbidden vs h g = h
-fitting-permitted (field form next) [] h g = h
-fitting-permitted (field form next) (v ∷ vs) h (more g gs) =
+fitting-permitted (field name form next) [] h g = h
+fitting-permitted (field name form next) (v ∷ vs) h (more g gs) =
     let p = both-each (eqb (code form) (code (formOf v))) (fitting (next (handed v)) vs) h in
     rw (p .0, g) (fitting-permitted (next (handed v)) vs (p .1) gs)
 fitting-permitted (when true l m) vs h g = fitting-permitted l vs h g

@@ -39,7 +39,7 @@ module _ (k : Layout) (s : List ℕ) where
   unfolding scan behind
   behind-is done at = led-none (scan k s at)
   behind-is forbidden at = refl
-  behind-is (field form next) at = behind-field next (λ n. behind (next n) k) (λ n end. behind-is (next n) end) (fieldAt form s at)
+  behind-is (field name form next) at = behind-field next (λ n. behind (next n) k) (λ n end. behind-is (next n) end) (fieldAt form s at)
   behind-is (when true l m) at = behind-is l at
   behind-is (when false l m) at = behind-is m at
 

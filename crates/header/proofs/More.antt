@@ -14,6 +14,7 @@ use Rattle.field.specs.declared.Piece.{Piece}
 use Rattle.field.proofs.Unjudged.{number-refused}
 use Rattle.layout.specs.Layout.{Layout, forbidden, field, scan}
 use Rattle.layout.specs.Typed.{Typed, typed}
+use Rattle.layout.specs.declared.FieldName.the-variants.{MessageType}
 use Rattle.layout.proofs.Cuts.{more-decides}
 use Rattle.header.specs.Layouts.{InTable, listed, onListed}
 use Rattle.header.specs.Reading.{headedOf}
@@ -39,7 +40,7 @@ typed-cut type (no fault) h = ap no (only-cut fault (cc))
 
 -- the layout that begins with it; what follows an unknown one is not read
 abbrev headed : (ℕ → InTable) → Layout
-headed types = field integer λ type. onListed (types type) forbidden (λ l. l)
+headed types = field MessageType integer λ type. onListed (types type) forbidden (λ l. l)
 
 -- where there is no type, or its fields are cut, this layout is cut
 no-number : (types : ℕ → InTable) (s : List ℕ) {fault : Fault} → numberAt s 0 ≡ no fault → scan (headed types) s 0 ≡ no Cut

@@ -1,11 +1,11 @@
 -- The header of an object on a stream: what it begins with, then its extension headers and what was told of its payload.
 -- Assumes nothing.
 use Prim.Native.Nat.{ℕ}
-use mathlib.Core.Path.{_≡_, sym, ap, _∙_}
+use mathlib.Core.Path.{_≡_, refl, sym, ap, _∙_}
 use mathlib.Core.List.{List, [], _∷_}
 use Rattle.common.specs.Answer.{Answer, refused}
 use Rattle.field.specs.Outcome.{answer}
-use Rattle.field.specs.Fields.{integer, bytes, fieldAt}
+use Rattle.field.specs.Fields.{integer, byte, bytes, fieldAt}
 use Rattle.field.specs.Told.{toldNumber, toldBytes}
 use Rattle.field.specs.declared.Span.{Span}
 use Rattle.field.specs.declared.NumberRead.{NumberRead}
@@ -14,8 +14,9 @@ use Rattle.field.specs.declared.BytesRead.{BytesRead}
 use Rattle.field.specs.declared.BytesRead.the-variants.{Whole as WholeBytes, Cut as CutBytes}
 use Rattle.field.specs.declared.Piece.{Piece}
 use Rattle.field.specs.declared.Piece.the-variants.{Number, Bytes}
-use Rattle.layout.specs.Layout.{Layout, field, scan}
+use Rattle.layout.specs.Layout.{Layout, done, field, scan}
 use Rattle.layout.specs.Typed.{led}
+use Rattle.layout.specs.declared.FieldName.the-variants.{GroupId, SubgroupId, ObjectId, PublisherPriority, ExtensionHeaders}
 use Rattle.layout.proofs.Steps.{there, is-on, is-no, number-then, bytes-then, bytes-cut}
 use Rattle.header.specs.Layouts.{behind, subgroupHeader, payload, subgroupObject, fetchObject}
 use Rattle.header.specs.Told.{leadPieces, toldLead, toldPayload}
@@ -28,7 +29,17 @@ use Rattle.header.proofs.LayoutsJoined.{behind-whole, behind-no}
 
 -- what both headers end in
 abbrev ending : Layout
-ending = field bytes λ _. payload
+ending = field ExtensionHeaders bytes λ _. payload
+
+-- what the one on a fetch's stream begins with: three numbers and a priority, read as those of a subgroup's stream are
+abbrev lead : Layout
+lead =
+    field GroupId integer λ group. field SubgroupId integer λ subgroup. field ObjectId integer λ object.
+    field PublisherPriority byte λ priority. done
+
+lead-alike : (s : List ℕ) → scan subgroupHeader s 0 ≡ scan lead s 0
+unfolding scan subgroupHeader
+lead-alike s = refl
 
 module _ (s : List ℕ) where
   -- a header begins with some fields
@@ -67,14 +78,14 @@ module _ (s : List ℕ) where
   module _ {q : LeadRead} (said : toldLead q ≡ scan subgroupHeader s 0) where
     -- which are cut,
     pub fetch-none : q ≡ CutLead → refused 1 ≡ fetchObjectOf s
-    unfolding fetchObjectOf fetchObject behind subgroupHeader
-    fetch-none e = ap (answer 1) (behind-no ending s subgroupHeader 0 (sym said ∙ ap toldLead e))
+    unfolding fetchObjectOf fetchObject behind
+    fetch-none e = ap (answer 1) (behind-no ending s lead 0 (sym (lead-alike s) ∙ sym said ∙ ap toldLead e))
 
     module _ {l : Lead} {at : ℕ} (read : q ≡ WholeLead l at) where
       -- or are there
       lead-begins : Begins fetchObject (leadPieces l) at
-      unfolding fetchObject behind subgroupHeader
-      lead-begins = behind-whole ending s subgroupHeader 0 (sym said ∙ ap toldLead read)
+      unfolding fetchObject behind
+      lead-begins = behind-whole ending s lead 0 (sym (lead-alike s) ∙ sym said ∙ ap toldLead read)
 
       module _ {b : BytesRead} (told : toldBytes b ≡ fieldAt bytes s at) where
         pub fetch-cut : b ≡ CutBytes → refused 1 ≡ fetchObjectOf s

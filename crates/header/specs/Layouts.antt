@@ -7,24 +7,27 @@ use Rattle.field.specs.Fields.{integer, byte, bytes}
 use Rattle.field.specs.declared.Piece.{Piece}
 use Rattle.layout.specs.Layout.{Layout, done, forbidden, field, when, place}
 use Rattle.layout.specs.Typed.{Typed}
+use Rattle.layout.specs.declared.FieldName.the-variants.{SubscribeId, TrackAlias, GroupId, SubgroupId, ObjectId, PublisherPriority, ExtensionHeaders, ObjectPayloadLength, ObjectStatus}
 use Rattle.header.specs.Rules.{isObjectStatus}
 
 -- a layout, and after it another
 unfoldable pub behind : Layout → Layout → Layout
 behind done l = l
 behind forbidden l = forbidden
-behind (field form next) l = field form λ n. behind (next n) l
+behind (field name form next) l = field name form λ n. behind (next n) l
 behind (when test k m) l = when test (behind k l) (behind m l)
 
--- Object Status
+-- why an object has no payload
 unfoldable pub status : Layout
-status = field integer λ status. when (isObjectStatus status) done forbidden
+status = field ObjectStatus integer λ status. when (isObjectStatus status) done forbidden
 
 -- ---- datagrams
 
--- Track Alias, Group ID, Object ID, Publisher Priority, Extension Headers by their length in bytes
+-- extension headers are read by their length in bytes
 unfoldable pub objectDatagram : Layout
-objectDatagram = field integer λ alias. place λ group object. field byte λ priority. field bytes λ _. done
+objectDatagram =
+    field TrackAlias integer λ alias. place GroupId ObjectId λ group object. field PublisherPriority byte λ priority.
+    field ExtensionHeaders bytes λ _. done
 
 -- "similar to OBJECT_DATAGRAM except it conveys an Object Status and has no payload"
 unfoldable pub datagramStatus : Layout
@@ -32,29 +35,27 @@ datagramStatus = behind objectDatagram status
 
 -- ---- the headers of streams
 
--- Track Alias, Group ID, Subgroup ID, Publisher Priority
 unfoldable pub subgroupHeader : Layout
-subgroupHeader = field integer λ alias. field integer λ group. field integer λ subgroup. field byte λ priority. done
+subgroupHeader =
+    field TrackAlias integer λ alias. field GroupId integer λ group. field SubgroupId integer λ subgroup.
+    field PublisherPriority byte λ priority. done
 
--- Subscribe ID
 unfoldable pub fetchHeader : Layout
-fetchHeader = field integer λ id. done
+fetchHeader = field SubscribeId integer λ id. done
 
 -- ---- the headers of objects on a stream
 
--- Object Payload Length; "The Object Status field is only sent if the Object Payload Length is zero."
+-- "The Object Status field is only sent if the Object Payload Length is zero."
 unfoldable pub payload : Layout
-payload = field integer λ length. when (eqb length 0) status done
+payload = field ObjectPayloadLength integer λ length. when (eqb length 0) status done
 
--- Object ID, Extension Headers
 unfoldable pub subgroupObject : Layout
-subgroupObject = field integer λ object. field bytes λ _. payload
+subgroupObject = field ObjectId integer λ object. field ExtensionHeaders bytes λ _. payload
 
--- Group ID, Subgroup ID, Object ID, Publisher Priority, Extension Headers
 unfoldable pub fetchObject : Layout
 fetchObject =
-    field integer λ group. field integer λ subgroup. field integer λ object. field byte λ priority. field bytes λ _.
-    payload
+    field GroupId integer λ group. field SubgroupId integer λ subgroup. field ObjectId integer λ object.
+    field PublisherPriority byte λ priority. field ExtensionHeaders bytes λ _. payload
 
 -- ---- the types: tables 8 and 9 of source document 004
 

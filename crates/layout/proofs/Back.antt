@@ -21,6 +21,7 @@ use Rattle.field.specs.declared.Kind.the-variants.{Namespace, Parameters, Versi
 use Rattle.field.specs.declared.Piece.{Piece}
 use Rattle.field.specs.declared.Piece.the-variants.{Number, Byte, Bytes, List as Listing, Track as Tracked}
 use Rattle.field.proofs.Back.{From, from-start, front, behind, further, Fit, aField, aParameter, aVersion, AllFit, none, more, ListFit, FieldBack, integer-field, byte-field, bytes-field, list-field, track-field}
+use Rattle.layout.specs.declared.FieldName.{FieldName}
 use Rattle.layout.specs.Layout.{Layout, done, forbidden, field, when, control, scan, valuesBy}
 use Rattle.layout.specs.Permitted.{goodItem, goodItems, within, goodList, good, formOf, handed, code, permitted}
 
@@ -119,9 +120,9 @@ pub record FieldPermitted (form : FieldForm) (next : ℕ → Layout) (v : Value)
   pub others : permitted (next (handed v)) vs ≡ true
 
 -- these are the parts of the test
-pub field-permitted : (form : FieldForm) (next : ℕ → Layout) (v : Value) (vs : List Value) → permitted (field form next) (v ∷ vs) ≡ true → FieldPermitted form next v vs
+pub field-permitted : (name : FieldName) (form : FieldForm) (next : ℕ → Layout) (v : Value) (vs : List Value) → permitted (field name form next) (v ∷ vs) ≡ true → FieldPermitted form next v vs
 unfolding permitted
-field-permitted form next v vs h =
+field-permitted name form next v vs h =
     let p = both-each (eqb (code form) (code (formOf v))) _ h in
     let q = both-each (good v) (permitted (next (handed v)) vs) (p .1) in
     record { of-form = code-once form (formOf v) (eqb-true (code form) (code (formOf v)) (p .0)); is-good = q .0; others = q .1 }
@@ -133,10 +134,10 @@ pub record ScanBack (l : Layout) (s : List ℕ) (at : ℕ) (vs : List Value) : T
   pub means : map (mean s) found ≡ vs
 
 -- a first field, and others by what follows it
-field-scan : (form : FieldForm) (next : ℕ → Layout) (s : List ℕ) (at : ℕ) (v : Value) (vs : List Value) → form ≡ formOf v → FieldBack (formOf v) s at v → ScanBack (next (handed v)) s (at + length (encField v)) vs
-    → ScanBack (field form next) s at (v ∷ vs)
+field-scan : (name : FieldName) (form : FieldForm) (next : ℕ → Layout) (s : List ℕ) (at : ℕ) (v : Value) (vs : List Value) → form ≡ formOf v → FieldBack (formOf v) s at v → ScanBack (next (handed v)) s (at + length (encField v)) vs
+    → ScanBack (field name form next) s at (v ∷ vs)
 unfolding scan encode
-field-scan form next s at v vs e f o =
+field-scan name form next s at v vs e f o =
     let c : control (f .found) ≡ handed v = hands s (f .found) ∙ ap handed (f .means) in
     record {
       found = f .found ∷ o .found;
@@ -150,11 +151,11 @@ unfolding permitted scan encode
 scan-back done [] s {at} h f = record { found = []; reads = ap (whole []) (sym (add-zero at)); means = refl }
 scan-back done (v ∷ vs) s h f = never h
 scan-back forbidden vs s h f = never h
-scan-back (field form next) [] s h f = never h
-scan-back (field form next) (v ∷ vs) s {at} h f =
-    let p = field-permitted form next v vs h in
+scan-back (field name form next) [] s h f = never h
+scan-back (field name form next) (v ∷ vs) s {at} h f =
+    let p = field-permitted name form next v vs h in
     let o = scan-back (next (handed v)) vs s (p .others) (behind (encField v) (encode vs) f) in
-    field-scan form next s at v vs (p .of-form) (field-back s v (p .is-good) (front (encField v) (encode vs) f)) o
+    field-scan name form next s at v vs (p .of-form) (field-back s v (p .is-good) (front (encField v) (encode vs) f)) o
 scan-back (when true l m) vs s h f =
     let r = scan-back l vs s h f in
     record { found = r .found; reads = r .reads; means = r .means }

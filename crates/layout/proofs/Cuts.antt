@@ -16,7 +16,7 @@ decided : (l : Layout) (at : ℕ) (s : List ℕ) → Decided (λ u. scan l u at)
 unfolding scan
 decided done at s = found-decided s
 decided forbidden at s = refused-decided (λ h. let z : _≡_ {A = ℕ} 0 1 = cc in omega arith) s
-decided (field form next) at s =
+decided (field name form next) at s =
     then-decided (λ s t. field-stays s t form at) (field-decided form at)
     (λ p end. then-decided (λ s t. stays (next (control p)) s t end) (decided (next (control p)) end) (λ ps last. found-decided))
     s

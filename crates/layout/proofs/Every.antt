@@ -19,11 +19,11 @@ use Rattle.layout.proofs.Scanned.{Scanned, at-end, one-more, taken, lef
 abbrev pub Every : Layout → (List Piece → Type 0) → Type 0
 Every done P = P []
 Every forbidden P = Unit {0}
-Every (field integer next) P = (n : ℕ) → Every (next n) (λ ps. P (Number n ∷ ps))
-Every (field byte next) P = (b : ℕ) → Every (next b) (λ ps. P (Byte b ∷ ps))
-Every (field bytes next) P = (p : Span) → Every (next 0) (λ ps. P (Bytes p ∷ ps))
-Every (field (list kind) next) P = (l : Entries) → Every (next 0) (λ ps. P (Listing kind l ∷ ps))
-Every (field track next) P = (t : Track) → Every (next 0) (λ ps. P (Tracked t ∷ ps))
+Every (field name integer next) P = (n : ℕ) → Every (next n) (λ ps. P (Number n ∷ ps))
+Every (field name byte next) P = (b : ℕ) → Every (next b) (λ ps. P (Byte b ∷ ps))
+Every (field name bytes next) P = (p : Span) → Every (next 0) (λ ps. P (Bytes p ∷ ps))
+Every (field name (list kind) next) P = (l : Entries) → Every (next 0) (λ ps. P (Listing kind l ∷ ps))
+Every (field name track next) P = (t : Track) → Every (next 0) (λ ps. P (Tracked t ∷ ps))
 Every (when test l m) P = (test ≡ true → Every l P) × (test ≡ false → Every m P)
 
 -- it holds of those that were read

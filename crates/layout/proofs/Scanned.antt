@@ -10,12 +10,13 @@ use Rattle.field.specs.Value.{Value, mean}
 use Rattle.field.specs.declared.Piece.{Piece}
 use Rattle.field.proofs.Found.{steps}
 use Rattle.field.proofs.Pieces.{as-told, FieldAt, field-at}
+use Rattle.layout.specs.declared.FieldName.{FieldName}
 use Rattle.layout.specs.Layout.{Layout, done, forbidden, field, when, control, scan, valued, valuesBy}
 
 -- the end; a field and what follows it; the one or the other of two layouts
 pub data Scanned (s : List ℕ) : Layout → ℕ → List Piece → ℕ → Type 0 where
   at-end : {at : ℕ} → Scanned s done at [] at
-  one-more : {form : FieldForm} {next : ℕ → Layout} {at : ℕ} {p : Piece} {mid : ℕ} {ps : List Piece} {end : ℕ} → FieldAt s at form p mid → Scanned s (next (control p)) mid ps end → Scanned s (field form next) at (p ∷ ps) end
+  one-more : {name : FieldName} {form : FieldForm} {next : ℕ → Layout} {at : ℕ} {p : Piece} {mid : ℕ} {ps : List Piece} {end : ℕ} → FieldAt s at form p mid → Scanned s (next (control p)) mid ps end → Scanned s (field name form next) at (p ∷ ps) end
   taken : {l m : Layout} {at : ℕ} {ps : List Piece} {end : ℕ} → Scanned s l at ps end → Scanned s (when true l m) at ps end
   left : {l m : Layout} {at : ℕ} {ps : List Piece} {end : ℕ} → Scanned s m at ps end → Scanned s (when false l m) at ps end
 
@@ -24,11 +25,11 @@ pub scanned : (l : Layout) (s : List ℕ) (at : ℕ) {ps : List Piece} {end : �
 unfolding scan
 scanned done s at h = as-told (Scanned s done at) at-end h
 scanned forbidden s at h = absurd (let z : _≡_ {A = ℕ} 0 1 = cc in omega arith)
-scanned (field form next) s at h =
+scanned (field name form next) s at h =
     let t = steps (fieldAt form s at) _ h in
     let u = steps (scan (next (control (t .found))) s (t .end)) _ (t .then) in
     let rest = scanned (next (control (t .found))) s (t .end) (u .first) in
-    as-told (Scanned s (field form next) at) {last = u .end} (one-more {ps = u .found} {end = u .end} (field-at form s at (t .first)) rest) (u .then)
+    as-told (Scanned s (field name form next) at) {last = u .end} (one-more {ps = u .found} {end = u .end} (field-at form s at (t .first)) rest) (u .then)
 scanned (when true l m) s at h = taken (scanned l s at h)
 scanned (when false l m) s at h = left (scanned m s at h)
 

@@ -17,7 +17,7 @@ pub stays : (l : Layout) (s t : List ℕ) (at : ℕ) → Stays (scan l s at) (sc
 unfolding scan
 stays done s t at = same
 stays forbidden s t at = same
-stays (field form next) s t at =
+stays (field name form next) s t at =
     stays-then (field-stays s t form at) (λ p end. stays-then (stays (next (control p)) s t end) (λ ps last. same))
 stays (when test l m) s t at = stays-pick test (stays l s t at) (stays m s t at)
 

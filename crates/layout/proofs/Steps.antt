@@ -37,6 +37,7 @@ use Rattle.field.specs.declared.FailureRead.the-variants.{Whole as WholeFailure
 use Rattle.field.proofs.Unjudged.{as-number, as-text, as-no-number, as-no-text}
 use Rattle.field.proofs.TwoReads.{place-parts, failure-parts, CutIn, first-cut, second-cut, place-stops, failure-stops}
 use Rattle.layout.specs.Typed.{led}
+use Rattle.layout.specs.declared.FieldName.{FieldName}
 use Rattle.layout.specs.Layout.{Layout, done, forbidden, field, when, place, failure, control, scan}
 
 -- ---- fields that come first
@@ -60,7 +61,7 @@ led-led ps qs (no fault) = refl
 
 pub data To (s : List ℕ) : Layout → ℕ → List Piece → Layout → ℕ → Type 0 where
   there : {l : Layout} {at : ℕ} → To s l at [] l at
-  then : {form : FieldForm} {next : ℕ → Layout} {at : ℕ} {p : Piece} {mid : ℕ} {ps : List Piece} {l : Layout} {end : ℕ} → fieldAt form s at ≡ whole p mid → To s (next (control p)) mid ps l end → To s (field form next) at (p ∷ ps) l end
+  then : {name : FieldName} {form : FieldForm} {next : ℕ → Layout} {at : ℕ} {p : Piece} {mid : ℕ} {ps : List Piece} {l : Layout} {end : ℕ} → fieldAt form s at ≡ whole p mid → To s (next (control p)) mid ps l end → To s (field name form next) at (p ∷ ps) l end
   yes : {t : Bool} {k m : Layout} {at : ℕ} {ps : List Piece} {l : Layout} {end : ℕ} → t ≡ true → To s k at ps l end → To s (when t k m) at ps l end
   else : {t : Bool} {k m : Layout} {at : ℕ} {ps : List Piece} {l : Layout} {end : ℕ} → t ≡ false → To s m at ps l end → To s (when t k m) at ps l end
 
@@ -80,8 +81,8 @@ is-whole {ps} {end} w = rw (← is-on w) (rw append-nil)
 -- ---- where a reading stops
 
 pub data Stops (s : List ℕ) : Layout → ℕ → Fault → Type 0 where
-  here : {form : FieldForm} {next : ℕ → Layout} {at : ℕ} {fault : Fault} → fieldAt form s at ≡ no fault → Stops s (field form next) at fault
-  later : {form : FieldForm} {next : ℕ → Layout} {at : ℕ} {p : Piece} {mid : ℕ} {fault : Fault} → fieldAt form s at ≡ whole p mid → Stops s (next (control p)) mid fault → Stops s (field form next) at fault
+  here : {name : FieldName} {form : FieldForm} {next : ℕ → Layout} {at : ℕ} {fault : Fault} → fieldAt form s at ≡ no fault → Stops s (field name form next) at fault
+  later : {name : FieldName} {form : FieldForm} {next : ℕ → Layout} {at : ℕ} {p : Piece} {mid : ℕ} {fault : Fault} → fieldAt form s at ≡ whole p mid → Stops s (next (control p)) mid fault → Stops s (field name form next) at fault
   refused : {at : ℕ} → Stops s forbidden at Forbidden
   yes : {t : Bool} {l m : Layout} {at : ℕ} {fault : Fault} → t ≡ true → Stops s l at fault → Stops s (when t l m) at fault
   else : {t : Bool} {l m : Layout} {at : ℕ} {fault : Fault} → t ≡ false → Stops s m at fault → Stops s (when t l m) at fault
@@ -123,83 +124,83 @@ known-number e f h = rw (← h, e, f)
 known-byte : {r : ByteRead} {b mid k : ℕ} {o : Outcome Piece} → r ≡ WholeByte b mid → b ≡ k → toldByte r ≡ o → o ≡ whole (Byte k) mid
 known-byte e f h = rw (← h, e, f)
 
-module _ {s : List ℕ} {at : ℕ} {next : ℕ → Layout} where
-  pub number-cut : {r : NumberRead} → r ≡ CutNumber → toldNumber r ≡ fieldAt integer s at → Stops s (field integer next) at Cut
+module _ {s : List ℕ} {at : ℕ} {name : FieldName} {next : ℕ → Layout} where
+  pub number-cut : {r : NumberRead} → r ≡ CutNumber → toldNumber r ≡ fieldAt integer s at → Stops s (field name integer next) at Cut
   number-cut e h = here (sym h ∙ ap toldNumber e)
 
-  pub number-past : {r : NumberRead} {n mid : ℕ} {fault : Fault} → r ≡ WholeNumber n mid → toldNumber r ≡ fieldAt integer s at → Stops s (next n) mid fault → Stops s (field integer next) at fault
+  pub number-past : {r : NumberRead} {n mid : ℕ} {fault : Fault} → r ≡ WholeNumber n mid → toldNumber r ≡ fieldAt integer s at → Stops s (next n) mid fault → Stops s (field name integer next) at fault
   number-past e h w = later (sym h ∙ ap toldNumber e) w
 
-  pub number-past-as : {r : NumberRead} {n mid k : ℕ} {fault : Fault} → r ≡ WholeNumber n mid → n ≡ k → toldNumber r ≡ fieldAt integer s at → Stops s (next k) mid fault → Stops s (field integer next) at fault
+  pub number-past-as : {r : NumberRead} {n mid k : ℕ} {fault : Fault} → r ≡ WholeNumber n mid → n ≡ k → toldNumber r ≡ fieldAt integer s at → Stops s (next k) mid fault → Stops s (field name integer next) at fault
   number-past-as e f h w = later (known-number e f h) w
 
-  pub byte-cut : {r : ByteRead} → r ≡ CutByte → toldByte r ≡ fieldAt byte s at → Stops s (field byte next) at Cut
+  pub byte-cut : {r : ByteRead} → r ≡ CutByte → toldByte r ≡ fieldAt byte s at → Stops s (field name byte next) at Cut
   byte-cut e h = here (sym h ∙ ap toldByte e)
 
-  pub byte-past : {r : ByteRead} {b mid : ℕ} {fault : Fault} → r ≡ WholeByte b mid → toldByte r ≡ fieldAt byte s at → Stops s (next b) mid fault → Stops s (field byte next) at fault
+  pub byte-past : {r : ByteRead} {b mid : ℕ} {fault : Fault} → r ≡ WholeByte b mid → toldByte r ≡ fieldAt byte s at → Stops s (next b) mid fault → Stops s (field name byte next) at fault
   byte-past e h w = later (sym h ∙ ap toldByte e) w
 
-  pub byte-past-as : {r : ByteRead} {b mid k : ℕ} {fault : Fault} → r ≡ WholeByte b mid → b ≡ k → toldByte r ≡ fieldAt byte s at → Stops s (next k) mid fault → Stops s (field byte next) at fault
+  pub byte-past-as : {r : ByteRead} {b mid k : ℕ} {fault : Fault} → r ≡ WholeByte b mid → b ≡ k → toldByte r ≡ fieldAt byte s at → Stops s (next k) mid fault → Stops s (field name byte next) at fault
   byte-past-as e f h w = later (known-byte e f h) w
 
-  pub bytes-cut : {r : BytesRead} → r ≡ CutBytes → toldBytes r ≡ fieldAt bytes s at → Stops s (field bytes next) at Cut
+  pub bytes-cut : {r : BytesRead} → r ≡ CutBytes → toldBytes r ≡ fieldAt bytes s at → Stops s (field name bytes next) at Cut
   bytes-cut e h = here (sym h ∙ ap toldBytes e)
 
-  pub bytes-past : {r : BytesRead} {p : Span} {fault : Fault} → r ≡ WholeBytes p → toldBytes r ≡ fieldAt bytes s at → Stops s (next 0) (p .end) fault → Stops s (field bytes next) at fault
+  pub bytes-past : {r : BytesRead} {p : Span} {fault : Fault} → r ≡ WholeBytes p → toldBytes r ≡ fieldAt bytes s at → Stops s (next 0) (p .end) fault → Stops s (field name bytes next) at fault
   bytes-past e h w = later (sym h ∙ ap toldBytes e) w
 
-  pub list-no : {kind : Kind} {r : ListRead} {fault : Fault} → r ≡ NoList fault → toldList kind r ≡ fieldAt (list kind) s at → Stops s (field (list kind) next) at fault
+  pub list-no : {kind : Kind} {r : ListRead} {fault : Fault} → r ≡ NoList fault → toldList kind r ≡ fieldAt (list kind) s at → Stops s (field name (list kind) next) at fault
   list-no {kind} e h = here (sym h ∙ ap (toldList kind) e)
 
-  pub list-past : {kind : Kind} {r : ListRead} {l : Entries} {fault : Fault} → r ≡ WholeList l → toldList kind r ≡ fieldAt (list kind) s at → Stops s (next 0) (l .end) fault → Stops s (field (list kind) next) at fault
+  pub list-past : {kind : Kind} {r : ListRead} {l : Entries} {fault : Fault} → r ≡ WholeList l → toldList kind r ≡ fieldAt (list kind) s at → Stops s (next 0) (l .end) fault → Stops s (field name (list kind) next) at fault
   list-past {kind} e h w = later (sym h ∙ ap (toldList kind) e) w
 
-  pub track-no : {r : TrackRead} {fault : Fault} → r ≡ NoTrack fault → toldTrack r ≡ fieldAt track s at → Stops s (field track next) at fault
+  pub track-no : {r : TrackRead} {fault : Fault} → r ≡ NoTrack fault → toldTrack r ≡ fieldAt track s at → Stops s (field name track next) at fault
   track-no e h = here (sym h ∙ ap toldTrack e)
 
-  pub track-past : {r : TrackRead} {t : Track} {fault : Fault} → r ≡ WholeTrack t → toldTrack r ≡ fieldAt track s at → Stops s (next 0) (t .name .end) fault → Stops s (field track next) at fault
+  pub track-past : {r : TrackRead} {t : Track} {fault : Fault} → r ≡ WholeTrack t → toldTrack r ≡ fieldAt track s at → Stops s (next 0) (t .name .end) fault → Stops s (field name track next) at fault
   track-past e h w = later (sym h ∙ ap toldTrack e) w
 
-module _ {s : List ℕ} {at : ℕ} {next : ℕ → Layout} {ps : List Piece} {l : Layout} {end : ℕ} where
-  pub number-then : {r : NumberRead} {n mid : ℕ} → r ≡ WholeNumber n mid → toldNumber r ≡ fieldAt integer s at → To s (next n) mid ps l end → To s (field integer next) at (Number n ∷ ps) l end
+module _ {s : List ℕ} {at : ℕ} {name : FieldName} {next : ℕ → Layout} {ps : List Piece} {l : Layout} {end : ℕ} where
+  pub number-then : {r : NumberRead} {n mid : ℕ} → r ≡ WholeNumber n mid → toldNumber r ≡ fieldAt integer s at → To s (next n) mid ps l end → To s (field name integer next) at (Number n ∷ ps) l end
   number-then e h w = then (sym h ∙ ap toldNumber e) w
 
-  pub number-as : {r : NumberRead} {n mid k : ℕ} → r ≡ WholeNumber n mid → n ≡ k → toldNumber r ≡ fieldAt integer s at → To s (next k) mid ps l end → To s (field integer next) at (Number k ∷ ps) l end
+  pub number-as : {r : NumberRead} {n mid k : ℕ} → r ≡ WholeNumber n mid → n ≡ k → toldNumber r ≡ fieldAt integer s at → To s (next k) mid ps l end → To s (field name integer next) at (Number k ∷ ps) l end
   number-as e f h w = then (known-number e f h) w
 
-  pub byte-then : {r : ByteRead} {b mid : ℕ} → r ≡ WholeByte b mid → toldByte r ≡ fieldAt byte s at → To s (next b) mid ps l end → To s (field byte next) at (Byte b ∷ ps) l end
+  pub byte-then : {r : ByteRead} {b mid : ℕ} → r ≡ WholeByte b mid → toldByte r ≡ fieldAt byte s at → To s (next b) mid ps l end → To s (field name byte next) at (Byte b ∷ ps) l end
   byte-then e h w = then (sym h ∙ ap toldByte e) w
 
-  pub byte-as : {r : ByteRead} {b mid k : ℕ} → r ≡ WholeByte b mid → b ≡ k → toldByte r ≡ fieldAt byte s at → To s (next k) mid ps l end → To s (field byte next) at (Byte k ∷ ps) l end
+  pub byte-as : {r : ByteRead} {b mid k : ℕ} → r ≡ WholeByte b mid → b ≡ k → toldByte r ≡ fieldAt byte s at → To s (next k) mid ps l end → To s (field name byte next) at (Byte k ∷ ps) l end
   byte-as e f h w = then (known-byte e f h) w
 
-  pub bytes-then : {r : BytesRead} {p : Span} → r ≡ WholeBytes p → toldBytes r ≡ fieldAt bytes s at → To s (next 0) (p .end) ps l end → To s (field bytes next) at (Bytes p ∷ ps) l end
+  pub bytes-then : {r : BytesRead} {p : Span} → r ≡ WholeBytes p → toldBytes r ≡ fieldAt bytes s at → To s (next 0) (p .end) ps l end → To s (field name bytes next) at (Bytes p ∷ ps) l end
   bytes-then e h w = then (sym h ∙ ap toldBytes e) w
 
-  pub list-then : {kind : Kind} {r : ListRead} {x : Entries} → r ≡ WholeList x → toldList kind r ≡ fieldAt (list kind) s at → To s (next 0) (x .end) ps l end → To s (field (list kind) next) at (Listing kind x ∷ ps) l end
+  pub list-then : {kind : Kind} {r : ListRead} {x : Entries} → r ≡ WholeList x → toldList kind r ≡ fieldAt (list kind) s at → To s (next 0) (x .end) ps l end → To s (field name (list kind) next) at (Listing kind x ∷ ps) l end
   list-then {kind} e h w = then (sym h ∙ ap (toldList kind) e) w
 
-  pub track-then : {r : TrackRead} {t : Track} → r ≡ WholeTrack t → toldTrack r ≡ fieldAt track s at → To s (next 0) (t .name .end) ps l end → To s (field track next) at (Tracked t ∷ ps) l end
+  pub track-then : {r : TrackRead} {t : Track} → r ≡ WholeTrack t → toldTrack r ≡ fieldAt track s at → To s (next 0) (t .name .end) ps l end → To s (field name track next) at (Tracked t ∷ ps) l end
   track-then e h w = then (sym h ∙ ap toldTrack e) w
 
 -- ---- two fields at once: a place is two integers, a failure an integer and bytes
 
-module _ {s : List ℕ} {at : ℕ} (next : ℕ → ℕ → Layout) where
-  pub place-cut : {r : PlaceRead} → r ≡ CutPlace → toldPlace r ≡ placeAt s at → Stops s (place next) at Cut
+module _ {s : List ℕ} {at : ℕ} (group object : FieldName) (next : ℕ → ℕ → Layout) where
+  pub place-cut : {r : PlaceRead} → r ≡ CutPlace → toldPlace r ≡ placeAt s at → Stops s (place group object next) at Cut
   unfolding place
   place-cut e h = go (place-stops s at (sym h ∙ ap toldPlace e))
     where
-      go : CutIn (numberAt s) s at → Stops s (place next) at Cut
+      go : CutIn (numberAt s) s at → Stops s (place group object next) at Cut
       go (first-cut f) = here (as-no-number s at f)
       go (second-cut {next = mid} f g) = later (as-number s at f) (here (as-no-number s mid g))
 
-  pub place-past : {r : PlaceRead} {p : Place} {end : ℕ} {fault : Fault} → r ≡ WholePlace p end → toldPlace r ≡ placeAt s at → Stops s (next (p .group) (p .object)) end fault → Stops s (place next) at fault
+  pub place-past : {r : PlaceRead} {p : Place} {end : ℕ} {fault : Fault} → r ≡ WholePlace p end → toldPlace r ≡ placeAt s at → Stops s (next (p .group) (p .object)) end fault → Stops s (place group object next) at fault
   unfolding place
   place-past e h w =
       let t = place-parts s at (sym h ∙ ap toldPlace e) in
       later (as-number s at (t .first)) (later (as-number s (t .next) (t .second)) w)
 
-  pub place-then : {r : PlaceRead} {p : Place} {mid : ℕ} {ps : List Piece} {l : Layout} {end : ℕ} → r ≡ WholePlace p mid → toldPlace r ≡ placeAt s at → To s (next (p .group) (p .object)) mid ps l end → To s (place next) at (Number (p .group) ∷ Number (p .object) ∷ ps) l end
+  pub place-then : {r : PlaceRead} {p : Place} {mid : ℕ} {ps : List Piece} {l : Layout} {end : ℕ} → r ≡ WholePlace p mid → toldPlace r ≡ placeAt s at → To s (next (p .group) (p .object)) mid ps l end → To s (place group object next) at (Number (p .group) ∷ Number (p .object) ∷ ps) l end
   unfolding place
   place-then e h w =
       let t = place-parts s at (sym h ∙ ap toldPlace e) in

@@ -10,6 +10,6 @@ use Rattle.layout.specs.Layout.{Layout, done, forbidden, field, when, co
 unfoldable pub allowed : Layout → List Piece → Bool
 allowed done ps = true
 allowed forbidden ps = false
-allowed (field form next) [] = false
-allowed (field form next) (p ∷ ps) = allowed (next (control p)) ps
+allowed (field name form next) [] = false
+allowed (field name form next) (p ∷ ps) = allowed (next (control p)) ps
 allowed (when test l m) ps = pick test (allowed l ps) (allowed m ps)

@@ -71,7 +71,7 @@ unfoldable pub permitted : Layout → List Value → Bool
 permitted done [] = true
 permitted done (v ∷ vs) = false
 permitted forbidden vs = false
-permitted (field form next) [] = false
-permitted (field form next) (v ∷ vs) =
+permitted (field name form next) [] = false
+permitted (field name form next) (v ∷ vs) =
     both (eqb (code form) (code (formOf v))) (both (good v) (permitted (next (handed v)) vs))
 permitted (when test l m) vs = pick test (permitted l vs) (permitted m vs)

@@ -4,7 +4,8 @@
 use Rattle.field.specs.Fields.{list}
 use Rattle.field.specs.declared.Kind.the-variants.{Namespace}
 use Rattle.layout.specs.Layout.{Layout, field}
+use Rattle.layout.specs.declared.FieldName.{FieldName}
 
--- Track Namespace, and what follows it: nothing, Parameters, or Error Code and Reason Phrase
-unfoldable pub named : Layout → Layout
-named next = field (list Namespace) λ _. next
+-- a namespace by its name, and what follows it: nothing, Parameters, or Error Code and Reason Phrase
+unfoldable pub named : FieldName → Layout → Layout
+named name next = field name (list Namespace) λ _. next

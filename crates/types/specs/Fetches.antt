@@ -4,52 +4,53 @@ use Prim.Native.Nat.{ℕ}
 use lib.Dec.{eqb}
 use Rattle.field.specs.Fields.{integer, byte, track}
 use Rattle.field.specs.Rules.{askable, givable}
-use Rattle.layout.specs.Layout.{Layout, done, forbidden, field, when, place, failure, parameters}
+use Rattle.layout.specs.Layout.{Layout, done, forbidden, field, when, place, failure, parameters, largestPlace}
+use Rattle.layout.specs.declared.FieldName.the-variants.{SubscribeId, FullTrackName, SubscriberPriority, GroupOrder, FetchType, StartGroup, StartObject, EndGroup, EndObject, JoiningSubscribeId, JoiningStart, EndOfTrack, LargestGroupId, LargestObjectId, StatusCode}
 use Rattle.types.specs.Rules.{isTrackStatus, mayHold}
 
--- Track Namespace, Track Name, StartGroup, StartObject, EndGroup, EndObject
+-- a range of a track
 unfoldable pub standalone : Layout
 standalone =
-    field track λ _. place λ startGroup startObject. place λ endGroup endObject. parameters
+    field FullTrackName track λ _. place StartGroup StartObject λ startGroup startObject.
+    place EndGroup EndObject λ endGroup endObject. parameters
 
--- Joining Subscribe ID, Joining Start
+-- what joins a subscription
 unfoldable pub joining : Layout
-joining = field integer λ id. field integer λ start. parameters
+joining = field JoiningSubscribeId integer λ id. field JoiningStart integer λ start. parameters
 
--- Fetch Type, and what it says is fetched
+-- the type, and what it says is fetched
 unfoldable pub range : Layout
 range =
-    field integer λ type.
+    field FetchType integer λ type.
     when (eqb type 1) standalone (when (eqb type 2) joining (when (eqb type 3) joining forbidden))
 
--- Subscribe ID, Subscriber Priority, Group Order
 unfoldable pub fetch : Layout
-fetch = field integer λ id. field byte λ priority. field byte λ order. when (askable order) range forbidden
+fetch =
+    field SubscribeId integer λ id. field SubscriberPriority byte λ priority. field GroupOrder byte λ order.
+    when (askable order) range forbidden
 
--- Subscribe ID, Group Order, End Of Track, Largest Group ID, Largest Object ID
 unfoldable pub fetchOk : Layout
 fetchOk =
-    field integer λ id. field byte λ order.
-    when (givable order) (field byte λ endOfTrack. place λ group object. parameters) forbidden
+    field SubscribeId integer λ id. field GroupOrder byte λ order.
+    when (givable order) (field EndOfTrack byte λ endOfTrack. largestPlace) forbidden
 
--- Subscribe ID, Error Code, Reason Phrase
 unfoldable pub fetchError : Layout
-fetchError = field integer λ id. failure done
+fetchError = field SubscribeId integer λ id. failure done
 
--- Subscribe ID
 unfoldable pub fetchCancel : Layout
-fetchCancel = field integer λ id. done
+fetchCancel = field SubscribeId integer λ id. done
 
--- Track Namespace, Track Name
 unfoldable pub trackStatusRequest : Layout
-trackStatusRequest = field track λ _. done
+trackStatusRequest = field FullTrackName track λ _. done
 
--- Largest Group ID, Largest Object ID, after a status
+-- where a track's content ends, after a status
 unfoldable pub largest : ℕ → Layout
 largest status =
-    field integer λ group.
-    when (mayHold status group) (field integer λ object. when (mayHold status object) done forbidden) forbidden
+    field LargestGroupId integer λ group.
+    when (mayHold status group)
+    (field LargestObjectId integer λ object. when (mayHold status object) done forbidden) forbidden
 
--- Track Namespace, Track Name, Status Code
 unfoldable pub trackStatus : Layout
-trackStatus = field track λ _. field integer λ status. when (isTrackStatus status) (largest status) forbidden
+trackStatus =
+    field FullTrackName track λ _. field StatusCode integer λ status.
+    when (isTrackStatus status) (largest status) forbidden

@@ -2,15 +2,13 @@
 use Rattle.field.specs.Fields.{integer, bytes, list}
 use Rattle.field.specs.declared.Kind.the-variants.{Versions}
 use Rattle.layout.specs.Layout.{Layout, done, field, parameters}
+use Rattle.layout.specs.declared.FieldName.the-variants.{SupportedVersions, SelectedVersion, NewSessionUri}
 
--- Supported Versions, Setup Parameters
 unfoldable pub clientSetup : Layout
-clientSetup = field (list Versions) λ _. parameters
+clientSetup = field SupportedVersions (list Versions) λ _. parameters
 
--- Selected Version, Setup Parameters
 unfoldable pub serverSetup : Layout
-serverSetup = field integer λ version. parameters
+serverSetup = field SelectedVersion integer λ version. parameters
 
--- New Session URI
 unfoldable pub goAway : Layout
-goAway = field bytes λ _. done
+goAway = field NewSessionUri bytes λ _. done

@@ -4,52 +4,58 @@ use Prim.Native.Nat.{ℕ}
 use lib.Dec.{eqb}
 use Rattle.field.specs.Fields.{integer, byte, bytes, track}
 use Rattle.field.specs.Rules.{askable, givable}
-use Rattle.layout.specs.Layout.{Layout, done, forbidden, field, when, place, failure, parameters}
+use Rattle.layout.specs.Layout.{Layout, done, forbidden, field, when, place, failure, parameters, largestPlace}
+use Rattle.layout.specs.declared.FieldName.{FieldName}
+use Rattle.layout.specs.declared.FieldName.the-variants.{SubscribeId, TrackAlias, FullTrackName, SubscriberPriority, GroupOrder, FilterType, StartGroup, StartObject, EndGroup, Expires, ContentExists, StatusCode, StreamCount, ReasonPhrase}
 use Rattle.types.specs.Rules.{endsAfter}
 
--- Subscribe ID, StartGroup, StartObject, EndGroup, Subscriber Priority
 unfoldable pub subscribeUpdate : Layout
 subscribeUpdate =
-    field integer λ id. place λ startGroup startObject. field integer λ endGroup. field byte λ priority. parameters
+    field SubscribeId integer λ id. place StartGroup StartObject λ startGroup startObject.
+    field EndGroup integer λ endGroup. field SubscriberPriority byte λ priority. parameters
 
--- EndGroup, after a start
+-- the end of a range, after its start
 unfoldable pub ending : ℕ → Layout
-ending startGroup = field integer λ endGroup. when (endsAfter startGroup endGroup) parameters forbidden
+ending startGroup = field EndGroup integer λ endGroup. when (endsAfter startGroup endGroup) parameters forbidden
 
--- Filter Type, and what it asks for
+-- a range without an end, and one with an end
+abbrev pub openRange : Layout
+openRange = place StartGroup StartObject λ startGroup startObject. parameters
+
+abbrev pub closedRange : Layout
+closedRange = place StartGroup StartObject λ startGroup startObject. ending startGroup
+
+-- the filter, and what it asks for
 unfoldable pub filter : Layout
 filter =
-    field integer λ type.
-    when (eqb type 2) parameters
-    (when (eqb type 3) (place λ startGroup startObject. parameters)
-    (when (eqb type 4) (place λ startGroup startObject. ending startGroup) forbidden))
+    field FilterType integer λ type.
+    when (eqb type 2) parameters (when (eqb type 3) openRange (when (eqb type 4) closedRange forbidden))
 
--- Subscriber Priority, Group Order
 unfoldable pub delivery : Layout
-delivery = field byte λ priority. field byte λ order. when (askable order) filter forbidden
+delivery = field SubscriberPriority byte λ priority. field GroupOrder byte λ order. when (askable order) filter forbidden
 
--- Subscribe ID, Track Alias, Track Namespace, Track Name
 unfoldable pub subscribe : Layout
-subscribe = field integer λ id. field integer λ alias. field track λ _. delivery
+subscribe = field SubscribeId integer λ id. field TrackAlias integer λ alias. field FullTrackName track λ _. delivery
 
--- ContentExists, and the Largest Group ID and Largest Object ID
+-- whether there is content, and where it ends
 unfoldable pub content : Layout
 content =
-    field byte λ exists.
-    when (eqb exists 0) parameters (when (eqb exists 1) (place λ group object. parameters) forbidden)
+    field ContentExists byte λ exists.
+    when (eqb exists 0) parameters (when (eqb exists 1) largestPlace forbidden)
 
--- Subscribe ID, Expires, Group Order
 unfoldable pub subscribeOk : Layout
-subscribeOk = field integer λ id. field integer λ expires. field byte λ order. when (givable order) content forbidden
+subscribeOk =
+    field SubscribeId integer λ id. field Expires integer λ expires. field GroupOrder byte λ order.
+    when (givable order) content forbidden
 
--- Subscribe ID, Error Code, Reason Phrase, Track Alias
 unfoldable pub subscribeError : Layout
-subscribeError = field integer λ id. failure (field integer λ alias. done)
+subscribeError = field SubscribeId integer λ id. failure (field TrackAlias integer λ alias. done)
 
--- Subscribe ID, Status Code, Stream Count, Reason Phrase
 unfoldable pub subscribeDone : Layout
-subscribeDone = field integer λ id. field integer λ status. field integer λ streams. field bytes λ _. done
+subscribeDone =
+    field SubscribeId integer λ id. field StatusCode integer λ status. field StreamCount integer λ streams.
+    field ReasonPhrase bytes λ _. done
 
--- a Subscribe ID alone
-unfoldable pub idOnly : Layout
-idOnly = field integer λ id. done
+-- an ID alone: a Subscribe ID, or the Maximum Subscribe ID
+unfoldable pub idOnly : FieldName → Layout
+idOnly name = field name integer λ id. done

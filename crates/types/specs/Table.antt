@@ -10,6 +10,7 @@ use Rattle.field.specs.declared.Piece.{Piece}
 use Rattle.layout.specs.Layout.{Layout, done, forbidden, failure, parameters}
 use Rattle.layout.specs.Allowed.{allowed}
 use Rattle.layout.specs.Typed.{Typed}
+use Rattle.layout.specs.declared.FieldName.the-variants.{SubscribeId, MaximumSubscribeId, TrackNamespace, TrackNamespacePrefix}
 use Rattle.types.specs.Letters.{letters}
 use Rattle.types.specs.Sessions.{clientSetup, serverSetup, goAway}
 use Rattle.types.specs.Subscriptions.{subscribeUpdate, subscribe, subscribeOk, subscribeError, subscribeDone, idOnly}
@@ -48,10 +49,10 @@ abbrev pub GOAWAY : TypeRow
 GOAWAY = row 0x10 "GOAWAY" sessions goAway
 
 abbrev pub «MAX_SUBSCRIBE_ID» : TypeRow
-«MAX_SUBSCRIBE_ID» = row 0x15 "MAX_SUBSCRIBE_ID" subscriptions idOnly
+«MAX_SUBSCRIBE_ID» = row 0x15 "MAX_SUBSCRIBE_ID" subscriptions (idOnly SubscribeId)
 
 abbrev pub «SUBSCRIBES_BLOCKED» : TypeRow
-«SUBSCRIBES_BLOCKED» = row 0x1A "SUBSCRIBES_BLOCKED" subscriptions idOnly
+«SUBSCRIBES_BLOCKED» = row 0x1A "SUBSCRIBES_BLOCKED" subscriptions (idOnly MaximumSubscribeId)
 
 abbrev pub SUBSCRIBE : TypeRow
 SUBSCRIBE = row 0x3 "SUBSCRIBE" subscriptions subscribe
@@ -63,7 +64,7 @@ abbrev pub «SUBSCRIBE_ERROR» : TypeRow
 «SUBSCRIBE_ERROR» = row 0x5 "SUBSCRIBE_ERROR" subscriptions subscribeError
 
 abbrev pub UNSUBSCRIBE : TypeRow
-UNSUBSCRIBE = row 0xA "UNSUBSCRIBE" subscriptions idOnly
+UNSUBSCRIBE = row 0xA "UNSUBSCRIBE" subscriptions (idOnly SubscribeId)
 
 abbrev pub «SUBSCRIBE_UPDATE» : TypeRow
 «SUBSCRIBE_UPDATE» = row 0x2 "SUBSCRIBE_UPDATE" subscriptions subscribeUpdate
@@ -90,31 +91,31 @@ abbrev pub «TRACK_STATUS» : TypeRow
 «TRACK_STATUS» = row 0xE "TRACK_STATUS" fetches trackStatus
 
 abbrev pub ANNOUNCE : TypeRow
-ANNOUNCE = row 0x6 "ANNOUNCE" announces (named parameters)
+ANNOUNCE = row 0x6 "ANNOUNCE" announces (named TrackNamespace parameters)
 
 abbrev pub «ANNOUNCE_OK» : TypeRow
-«ANNOUNCE_OK» = row 0x7 "ANNOUNCE_OK" announces (named done)
+«ANNOUNCE_OK» = row 0x7 "ANNOUNCE_OK" announces (named TrackNamespace done)
 
 abbrev pub «ANNOUNCE_ERROR» : TypeRow
-«ANNOUNCE_ERROR» = row 0x8 "ANNOUNCE_ERROR" announces (named (failure done))
+«ANNOUNCE_ERROR» = row 0x8 "ANNOUNCE_ERROR" announces (named TrackNamespace (failure done))
 
 abbrev pub UNANNOUNCE : TypeRow
-UNANNOUNCE = row 0x9 "UNANNOUNCE" announces (named done)
+UNANNOUNCE = row 0x9 "UNANNOUNCE" announces (named TrackNamespace done)
 
 abbrev pub «ANNOUNCE_CANCEL» : TypeRow
-«ANNOUNCE_CANCEL» = row 0xC "ANNOUNCE_CANCEL" announces (named (failure done))
+«ANNOUNCE_CANCEL» = row 0xC "ANNOUNCE_CANCEL" announces (named TrackNamespace (failure done))
 
 abbrev pub «SUBSCRIBE_ANNOUNCES» : TypeRow
-«SUBSCRIBE_ANNOUNCES» = row 0x11 "SUBSCRIBE_ANNOUNCES" announces (named parameters)
+«SUBSCRIBE_ANNOUNCES» = row 0x11 "SUBSCRIBE_ANNOUNCES" announces (named TrackNamespacePrefix parameters)
 
 abbrev pub «SUBSCRIBE_ANNOUNCES_OK» : TypeRow
-«SUBSCRIBE_ANNOUNCES_OK» = row 0x12 "SUBSCRIBE_ANNOUNCES_OK" announces (named done)
+«SUBSCRIBE_ANNOUNCES_OK» = row 0x12 "SUBSCRIBE_ANNOUNCES_OK" announces (named TrackNamespacePrefix done)
 
 abbrev pub «SUBSCRIBE_ANNOUNCES_ERROR» : TypeRow
-«SUBSCRIBE_ANNOUNCES_ERROR» = row 0x13 "SUBSCRIBE_ANNOUNCES_ERROR" announces (named (failure done))
+«SUBSCRIBE_ANNOUNCES_ERROR» = row 0x13 "SUBSCRIBE_ANNOUNCES_ERROR" announces (named TrackNamespacePrefix (failure done))
 
 abbrev pub «UNSUBSCRIBE_ANNOUNCES» : TypeRow
-«UNSUBSCRIBE_ANNOUNCES» = row 0x14 "UNSUBSCRIBE_ANNOUNCES" announces (named done)
+«UNSUBSCRIBE_ANNOUNCES» = row 0x14 "UNSUBSCRIBE_ANNOUNCES" announces (named TrackNamespacePrefix done)
 
 -- all of them, in the order of 004
 unfoldable pub messages : List TypeRow
