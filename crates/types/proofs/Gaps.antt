@@ -10,7 +10,8 @@ use borrow.Author.Tests.{eqb-true, ne-eqb, le-leb}
 use lib.Dec.{leb, eqb}
 use Rattle.common.specs.Choice.{pick, both}
 use Rattle.common.proofs.Cases.{pick-by}
-use Rattle.types.specs.Table.{TypeRow, InTable, unlisted, typeRowIn, messages, typeRowOf, known, nameOf}
+use Rattle.layout.specs.Layout.{forbidden}
+use Rattle.types.specs.Table.{TypeRow, InTable, unlisted, typeRowIn, messages, typeRowOf, known, layoutOf, nameOf}
 
 -- ---- a test that no row passes
 
@@ -44,10 +45,15 @@ module _ (test : ℕ → Bool) (h : none test messages ≡ true) {type : ℕ} (t
   unfolding known
   unknown-by = rw stands-nowhere
 
-  -- and has no name
+  -- has no name,
   pub nameless-by : nameOf type ≡ []
   unfolding nameOf
   nameless-by = rw stands-nowhere
+
+  -- and no layout
+  layoutless-by : layoutOf type ≡ forbidden
+  unfolding layoutOf
+  layoutless-by = rw stands-nowhere
 
 -- ---- "gaps between them and numbers beyond the last"
 
@@ -100,6 +106,10 @@ module _ (ns : List ℕ) (h : none (isNone ns) messages ≡ true) (type : ℕ) (
   pub unknown-missed : known type ≡ false
   unknown-missed = unknown-by (isNone ns) h passed
 
-  -- and has no name
+  -- has no name,
   pub nameless-missed : nameOf type ≡ []
   nameless-missed = nameless-by (isNone ns) h passed
+
+  -- and no layout
+  pub layoutless-missed : layoutOf type ≡ forbidden
+  layoutless-missed = layoutless-by (isNone ns) h passed
