@@ -16,6 +16,7 @@ pub use reader::read_track;
 pub use rules::is_askable;
 pub use rules::is_givable;
 pub use walking::entry_at;
+pub use walking::most;
 pub use walking::walk;
 
 // Document 01's sizes: the fields of a namespace; its bytes and the name's together; the parameters.

@@ -1,0 +1,16 @@
+pub mod AfterOutcomes
+pub mod FieldAnswers
+pub mod TiledParts
+pub mod LayoutAnswers
+pub mod FilledBytes
+pub mod HeaderAnswers
+pub mod MessageAnswers
+pub mod ComingParts
+pub mod PlacesReached
+pub mod FieldsCome
+pub mod FewFields
+pub mod ToldFromTheStart
+pub mod FieldsGathered
+pub mod ReadingsGathered
+pub mod ToldOnce
+pub mod Theorems

@@ -1,0 +1,4 @@
+pub mod Grammar
+pub mod Explaining
+pub mod Tiling
+pub mod Gathering

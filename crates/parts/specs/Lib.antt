@@ -1,0 +1,4 @@
+pub mod Cursors
+pub mod Expecting
+pub mod Advancing
+pub mod Telling
