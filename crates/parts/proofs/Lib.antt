@@ -1,2 +1,2 @@
-pub mod Others
-pub mod Types
+pub mod LastArms
+pub mod AfterTypes

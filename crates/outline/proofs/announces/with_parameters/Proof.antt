@@ -5,7 +5,7 @@ use Rattle.common.proofs.Parts.{to-end}
 use Rattle.layout.specs.Layout.{parameters}
 use Rattle.types.specs.Announces.{named}
 use Rattle.outline.specs.Places.{restOf, aheadOf}
-use Rattle.outline.proofs.Spelled.{stands, past}
+use Rattle.outline.proofs.OneByOne.{stands, past}
 use Rattle.outline.proofs.announces.with_parameters.Statement.{statement}
 use Rattle.outline.proofs.announces.with_parameters.Tie as tie
 

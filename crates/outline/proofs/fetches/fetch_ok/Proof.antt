@@ -11,7 +11,7 @@ use Rattle.layout.specs.declared.FieldName.the-variants.{EndOfTrack}
 use Rattle.types.specs.Fetches.{fetchOk}
 use Rattle.outline.proofs.Givable.{is-givable, is-too-low, is-too-high}
 use Rattle.outline.specs.Places.{restOf, aheadOf}
-use Rattle.outline.proofs.Spelled.{stands, past, forbidden-ahead, yes-ahead, no-ahead}
+use Rattle.outline.proofs.OneByOne.{stands, past, forbidden-ahead, yes-ahead, no-ahead}
 use Rattle.outline.proofs.fetches.fetch_ok.Statement.{statement}
 use Rattle.outline.proofs.fetches.fetch_ok.Tie as tie
 

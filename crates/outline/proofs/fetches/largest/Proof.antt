@@ -12,7 +12,7 @@ use Rattle.layout.specs.declared.FieldName.the-variants.{LargestObjectId}
 use Rattle.types.specs.Rules.{mayHold}
 use Rattle.types.specs.Fetches.{largest}
 use Rattle.outline.specs.Places.{restOf, aheadOf}
-use Rattle.outline.proofs.Spelled.{stands, past, done-ahead, forbidden-ahead, yes-ahead, no-ahead}
+use Rattle.outline.proofs.OneByOne.{stands, past, done-ahead, forbidden-ahead, yes-ahead, no-ahead}
 use Rattle.outline.proofs.fetches.largest.Statement.{statement}
 use Rattle.outline.proofs.fetches.largest.Tie as tie
 

@@ -6,7 +6,7 @@ use Rattle.common.proofs.Parts.{to-end}
 use Rattle.layout.specs.Layout.{place}
 use Rattle.types.specs.Fetches.{standalone}
 use Rattle.outline.specs.Places.{restOf, aheadOf}
-use Rattle.outline.proofs.Spelled.{stands, past}
+use Rattle.outline.proofs.OneByOne.{stands, past}
 use Rattle.outline.proofs.fetches.standalone.Statement.{statement}
 use Rattle.outline.proofs.fetches.standalone.Tie as tie
 

@@ -9,7 +9,7 @@ use borrow.Author.Tests.{not-true, not-false}
 use Rattle.layout.specs.Layout.{forbidden}
 use Rattle.types.specs.Fetches.{largest, trackStatus}
 use Rattle.outline.specs.Places.{restOf, aheadOf}
-use Rattle.outline.proofs.Spelled.{stands, past, forbidden-ahead, yes-ahead, no-ahead}
+use Rattle.outline.proofs.OneByOne.{stands, past, forbidden-ahead, yes-ahead, no-ahead}
 use Rattle.outline.proofs.fetches.track_status.Statement.{statement}
 use Rattle.outline.proofs.fetches.track_status.Tie as tie
 

@@ -4,7 +4,7 @@ use native.Mathlib.Omega.{arith}
 use lib.ListN.{drop}
 use Rattle.types.specs.Fetches.{trackStatusRequest}
 use Rattle.outline.specs.Places.{restOf, aheadOf}
-use Rattle.outline.proofs.Spelled.{stands, past, done-ahead}
+use Rattle.outline.proofs.OneByOne.{stands, past, done-ahead}
 use Rattle.outline.proofs.fetches.track_status_request.Statement.{statement}
 use Rattle.outline.proofs.fetches.track_status_request.Tie as tie
 

@@ -5,7 +5,7 @@ use lib.ListN.{drop}
 use Rattle.layout.specs.Layout.{place}
 use Rattle.header.specs.Layouts.{objectDatagram}
 use Rattle.outline.specs.Places.{restOf, aheadOf}
-use Rattle.outline.proofs.Spelled.{stands, past, done-ahead}
+use Rattle.outline.proofs.OneByOne.{stands, past, done-ahead}
 use Rattle.outline.proofs.headers.object_datagram.Statement.{statement}
 use Rattle.outline.proofs.headers.object_datagram.Tie as tie
 

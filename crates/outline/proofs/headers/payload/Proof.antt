@@ -7,7 +7,7 @@ use Rattle.common.proofs.Parts.{to-end}
 use Rattle.layout.specs.Layout.{done}
 use Rattle.header.specs.Layouts.{status, payload}
 use Rattle.outline.specs.Places.{restOf, aheadOf}
-use Rattle.outline.proofs.Spelled.{stands, past, done-ahead, yes-ahead, no-ahead}
+use Rattle.outline.proofs.OneByOne.{stands, past, done-ahead, yes-ahead, no-ahead}
 use Rattle.outline.proofs.headers.payload.Statement.{statement}
 use Rattle.outline.proofs.headers.payload.Tie as tie
 

@@ -6,7 +6,7 @@ use mathlib.Core.Path.{sym, _∙_}
 use Rattle.layout.specs.Layout.{done, forbidden}
 use Rattle.header.specs.Layouts.{status}
 use Rattle.outline.specs.Places.{restOf, aheadOf}
-use Rattle.outline.proofs.Spelled.{stands, past, done-ahead, forbidden-ahead, yes-ahead, no-ahead}
+use Rattle.outline.proofs.OneByOne.{stands, past, done-ahead, forbidden-ahead, yes-ahead, no-ahead}
 use Rattle.outline.proofs.headers.status.Statement.{statement}
 use Rattle.outline.proofs.headers.status.Tie as tie
 

@@ -6,7 +6,7 @@ use Rattle.layout.specs.Layout.{Layout}
 use Rattle.types.specs.Table.{TypeRow, messages, typeRowIn, typeRowOf, layoutOf}
 use Rattle.types.proofs.Gaps.{layoutless-missed}
 use Rattle.outline.specs.Places.{restOf, aheadOf}
-use Rattle.outline.proofs.Spelled.{forbidden-ahead}
+use Rattle.outline.proofs.OneByOne.{forbidden-ahead}
 use Rattle.outline.proofs.laid.message.Statement.{statement}
 use Rattle.outline.proofs.laid.message.Tie as tie
 

@@ -5,7 +5,7 @@ use native.Mathlib.Omega.{arith}
 use Rattle.common.proofs.Parts.{to-end}
 use Rattle.types.specs.Sessions.{clientSetup}
 use Rattle.outline.specs.Places.{restOf, aheadOf}
-use Rattle.outline.proofs.Spelled.{stands, past}
+use Rattle.outline.proofs.OneByOne.{stands, past}
 use Rattle.outline.proofs.sessions.client_setup.Statement.{statement}
 use Rattle.outline.proofs.sessions.client_setup.Tie as tie
 

@@ -4,7 +4,7 @@ use native.Mathlib.Omega.{arith}
 use Rattle.layout.specs.Layout.{place, parameters, largestPlace}
 use Rattle.outline.specs.Places.{restOf, aheadOf}
 use Rattle.common.proofs.Parts.{to-end}
-use Rattle.outline.proofs.Spelled.{stands, past}
+use Rattle.outline.proofs.OneByOne.{stands, past}
 use Rattle.outline.proofs.shared.largest_place.Statement.{statement}
 use Rattle.outline.proofs.shared.largest_place.Tie as tie
 

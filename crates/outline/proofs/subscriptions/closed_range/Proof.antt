@@ -8,7 +8,7 @@ use Rattle.layout.specs.Layout.{place, parameters, forbidden}
 use Rattle.types.specs.Rules.{endsAfter}
 use Rattle.types.specs.Subscriptions.{ending, closedRange}
 use Rattle.outline.specs.Places.{restOf, aheadOf}
-use Rattle.outline.proofs.Spelled.{stands, past, forbidden-ahead, yes-ahead, no-ahead}
+use Rattle.outline.proofs.OneByOne.{stands, past, forbidden-ahead, yes-ahead, no-ahead}
 use Rattle.outline.proofs.subscriptions.closed_range.Statement.{statement}
 use Rattle.outline.proofs.subscriptions.closed_range.Tie as tie
 

@@ -8,7 +8,7 @@ use Rattle.field.specs.Rules.{askable}
 use Rattle.layout.specs.Layout.{forbidden}
 use Rattle.types.specs.Subscriptions.{filter, delivery}
 use Rattle.outline.specs.Places.{restOf, aheadOf}
-use Rattle.outline.proofs.Spelled.{stands, past, forbidden-ahead, yes-ahead, no-ahead}
+use Rattle.outline.proofs.OneByOne.{stands, past, forbidden-ahead, yes-ahead, no-ahead}
 use Rattle.outline.proofs.subscriptions.delivery.Statement.{statement}
 use Rattle.outline.proofs.subscriptions.delivery.Tie as tie
 

@@ -5,7 +5,7 @@ use native.Mathlib.Omega.{arith}
 use Rattle.common.proofs.Parts.{to-end}
 use Rattle.types.specs.Subscriptions.{subscribe}
 use Rattle.outline.specs.Places.{restOf, aheadOf}
-use Rattle.outline.proofs.Spelled.{stands, past}
+use Rattle.outline.proofs.OneByOne.{stands, past}
 use Rattle.outline.proofs.subscriptions.subscribe.Statement.{statement}
 use Rattle.outline.proofs.subscriptions.subscribe.Tie as tie
 

@@ -7,7 +7,7 @@ use Rattle.layout.specs.Layout.{forbidden}
 use Rattle.types.specs.Subscriptions.{content, subscribeOk}
 use Rattle.outline.proofs.Givable.{is-givable, is-too-low, is-too-high}
 use Rattle.outline.specs.Places.{restOf, aheadOf}
-use Rattle.outline.proofs.Spelled.{stands, past, forbidden-ahead, yes-ahead, no-ahead}
+use Rattle.outline.proofs.OneByOne.{stands, past, forbidden-ahead, yes-ahead, no-ahead}
 use Rattle.outline.proofs.subscriptions.subscribe_ok.Statement.{statement}
 use Rattle.outline.proofs.subscriptions.subscribe_ok.Tie as tie
 

@@ -2,7 +2,7 @@
 use borrow.Author.Needs.{needs}
 use mathlib.Core.Path.{refl}
 use Rattle.parts.specs.Advancing.{advanced}
-use Rattle.parts.proofs.Others.{goes-on}
+use Rattle.parts.proofs.LastArms.{goes-on}
 use Rattle.parts.proofs.advancing.advance.Statement.{statement}
 use Rattle.parts.proofs.advancing.advance.Tie as tie
 

@@ -1,8 +1,8 @@
 -- `after_type` meets its contract. Assumes nothing.
 use borrow.Author.Needs.{needs}
 use mathlib.Core.Path.{refl, _∙_}
-use Rattle.parts.proofs.Others.{no-length}
-use Rattle.parts.proofs.Types.{typed}
+use Rattle.parts.proofs.LastArms.{no-length}
+use Rattle.parts.proofs.AfterTypes.{typed}
 use Rattle.parts.proofs.advancing.after_type.Statement.{statement}
 use Rattle.parts.proofs.advancing.after_type.Tie as tie
 

@@ -3,7 +3,7 @@ use borrow.Author.Needs.{needs}
 use mathlib.Core.Path.{_∙_}
 use borrow.Author.Tests.{lt-ltb, le-ltb}
 use Rattle.parts.specs.Advancing.{entriesLeft}
-use Rattle.parts.proofs.Others.{no-name}
+use Rattle.parts.proofs.LastArms.{no-name}
 use Rattle.parts.proofs.advancing.entries_left.Statement.{statement}
 use Rattle.parts.proofs.advancing.entries_left.Tie as tie
 

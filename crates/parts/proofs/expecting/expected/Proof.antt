@@ -1,7 +1,7 @@
 -- `expected` meets its contract. Assumes nothing.
 use borrow.Author.Needs.{needs}
 use Rattle.parts.specs.Expecting.{expectedOf}
-use Rattle.parts.proofs.Others.{asked-for}
+use Rattle.parts.proofs.LastArms.{asked-for}
 use Rattle.parts.proofs.expecting.expected.Statement.{statement}
 use Rattle.parts.proofs.expecting.expected.Tie as tie
 

@@ -1,7 +1,7 @@
 -- `expected_in` meets its contract. Assumes nothing.
 use borrow.Author.Needs.{needs}
 use mathlib.Core.Path.{_∙_}
-use Rattle.parts.proofs.Others.{begins}
+use Rattle.parts.proofs.LastArms.{begins}
 use Rattle.parts.proofs.expecting.expected_in.Statement.{statement}
 use Rattle.parts.proofs.expecting.expected_in.Tie as tie
 

@@ -1,6 +1,6 @@
 -- `cut_number` meets its contract. Assumes nothing.
 use borrow.Author.Needs.{needs}
-use Rattle.parts.proofs.Others.{no-more}
+use Rattle.parts.proofs.LastArms.{no-more}
 use Rattle.parts.proofs.telling.cut_number.Statement.{statement}
 use Rattle.parts.proofs.telling.cut_number.Tie as tie
 

@@ -1,4 +1,4 @@
--- A place after so many numbers, with the numbers spelled out. Assumes nothing.
+-- A place after so many numbers, with the numbers one by one. Assumes nothing.
 use Prim.Native.Nat.{ℕ, zero, suc, _+_, _≤_}
 use mathlib.Core.Path.{_≡_, refl, sym, ap, _∙_}
 use mathlib.Core.Bool.{Bool, true, false}
@@ -14,33 +14,33 @@ use Rattle.outline.specs.declared.Ahead.{Ahead}
 use Rattle.outline.specs.declared.Ahead.the-variants.{Done, Forbidden}
 
 -- so many numbers from an index on, one by one
-abbrev pub spelled : ℕ → List ℕ → ℕ → List ℕ
-spelled zero v i = []
-spelled (suc n) v i = getD v i 0 ∷ spelled n v (suc i)
+abbrev pub oneByOne : ℕ → List ℕ → ℕ → List ℕ
+oneByOne zero v i = []
+oneByOne (suc n) v i = getD v i 0 ∷ oneByOne n v (suc i)
 
 -- what stands from an index on begins with them
-from-there : (n : ℕ) (v : List ℕ) (i : ℕ) → i + n ≤ length v → drop i v ≡ spelled n v i ++ drop (i + n) v
+from-there : (n : ℕ) (v : List ℕ) (i : ℕ) → i + n ≤ length v → drop i v ≡ oneByOne n v i ++ drop (i + n) v
 from-there zero v i h =
     let e : i ≡ i + 0 = omega arith in
     ap (λ (k : ℕ). drop k v) e
 from-there (suc n) v i h =
     let e : suc i + n ≡ i + suc n = omega arith in
     drop-cons v i 0 (omega arith)
-    ∙ ap (λ (ns : List ℕ). getD v i 0 ∷ ns) (from-there n v (suc i) (omega arith) ∙ ap (λ (k : ℕ). spelled n v (suc i) ++ drop k v) e)
+    ∙ ap (λ (ns : List ℕ). getD v i 0 ∷ ns) (from-there n v (suc i) (omega arith) ∙ ap (λ (k : ℕ). oneByOne n v (suc i) ++ drop k v) e)
 
 module _ (l : Layout) (n : ℕ) (v : List ℕ) {r : Ahead} where
   -- after that many numbers and others,
-  pub past : n ≤ length v → r ≡ aheadOf (restOf l (spelled n v 0 ++ drop n v)) → r ≡ aheadOf (restOf l v)
+  pub past : n ≤ length v → r ≡ aheadOf (restOf l (oneByOne n v 0 ++ drop n v)) → r ≡ aheadOf (restOf l v)
   past h e =
       let z : 0 + n ≡ n = omega arith in
-      let all : v ≡ spelled n v 0 ++ drop n v = from-there n v 0 (omega arith) ∙ ap (λ (k : ℕ). spelled n v 0 ++ drop k v) z in
+      let all : v ≡ oneByOne n v 0 ++ drop n v = from-there n v 0 (omega arith) ∙ ap (λ (k : ℕ). oneByOne n v 0 ++ drop k v) z in
       e ∙ ap (λ (ns : List ℕ). aheadOf (restOf l ns)) (sym all)
 
   -- and after exactly that many
-  pub stands : length v ≡ n → r ≡ aheadOf (restOf l (spelled n v 0)) → r ≡ aheadOf (restOf l v)
+  pub stands : length v ≡ n → r ≡ aheadOf (restOf l (oneByOne n v 0)) → r ≡ aheadOf (restOf l v)
   stands h e =
       past (omega arith)
-      (e ∙ ap (λ (ns : List ℕ). aheadOf (restOf l ns)) (sym (append-nil (spelled n v 0)) ∙ ap (λ (ns : List ℕ). spelled n v 0 ++ ns) (sym (drop-of-length-le v (le-of-eq h)))))
+      (e ∙ ap (λ (ns : List ℕ). aheadOf (restOf l ns)) (sym (append-nil (oneByOne n v 0)) ∙ ap (λ (ns : List ℕ). oneByOne n v 0 ++ ns) (sym (drop-of-length-le v (le-of-eq h)))))
 
 -- after the end nothing stands, and after a forbidden value nothing but that
 pub done-ahead : (ns : List ℕ) → Done ≡ aheadOf (restOf done ns)
