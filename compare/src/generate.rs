@@ -1,9 +1,10 @@
 //! Cases from a seed: valid messages of every type with all their variants
 //! first, then a mixture of valid and damaged messages, data headers,
-//! integers and whole traces; and calls on ledgers.
+//! integers and whole traces; calls on ledgers; and what is to be explained.
 
 mod damage;
 pub mod damaged;
+mod explained;
 mod header;
 mod ledger;
 mod make;

@@ -28,3 +28,9 @@ pub fn encode(bytes: &[u8]) -> String {
     }
     text
 }
+
+/// The bytes in upper-case hexadecimal digits, with a space between two.
+pub fn spaced(bytes: &[u8]) -> String {
+    let each: Vec<String> = bytes.iter().map(|byte| format!("{byte:02X}")).collect();
+    each.join(" ")
+}

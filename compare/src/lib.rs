@@ -1,6 +1,7 @@
 //! A collector core for Media over QUIC Transport, written from documents
 //! 01 (the scope and its rules) and 004 (the layouts and close codes) alone,
-//! save that `numbers` and `calls` follow `include/moq.h`.
+//! save that `numbers` and `calls` follow `include/moq.h`, and `explain`
+//! docs/EXPLAIN.md.
 //!
 //! In the comments, a sentence after `01:` or `004:` is the document's own.
 
@@ -12,6 +13,7 @@ pub mod answer;
 pub mod body;
 pub mod calls;
 pub mod cases;
+pub mod explain;
 pub mod fetch;
 pub mod fields;
 pub mod generate;

@@ -53,47 +53,75 @@ pub fn is_known(kind: u64) -> bool {
     matches!(kind, 0x2..=0xE | 0x10..=0x1A | 0x40 | 0x41)
 }
 
-impl<'a> Message<'a> {
-    /// The number and name that 004's table 2 gives the message.
-    fn kind_and_name(&self) -> (u64, &'static str) {
-        match self {
-            Message::SubscribeUpdate(_) => (0x2, "SUBSCRIBE_UPDATE"),
-            Message::Subscribe(_) => (0x3, "SUBSCRIBE"),
-            Message::SubscribeOk(_) => (0x4, "SUBSCRIBE_OK"),
-            Message::SubscribeError(_) => (0x5, "SUBSCRIBE_ERROR"),
-            Message::Announce(_) => (0x6, "ANNOUNCE"),
-            Message::AnnounceOk(_) => (0x7, "ANNOUNCE_OK"),
-            Message::AnnounceError(_) => (0x8, "ANNOUNCE_ERROR"),
-            Message::Unannounce(_) => (0x9, "UNANNOUNCE"),
-            Message::Unsubscribe(_) => (0xA, "UNSUBSCRIBE"),
-            Message::SubscribeDone(_) => (0xB, "SUBSCRIBE_DONE"),
-            Message::AnnounceCancel(_) => (0xC, "ANNOUNCE_CANCEL"),
-            Message::TrackStatusRequest(_) => (0xD, "TRACK_STATUS_REQUEST"),
-            Message::TrackStatus(_) => (0xE, "TRACK_STATUS"),
-            Message::Goaway(_) => (0x10, "GOAWAY"),
-            Message::SubscribeAnnounces(_) => (0x11, "SUBSCRIBE_ANNOUNCES"),
-            Message::SubscribeAnnouncesOk(_) => (0x12, "SUBSCRIBE_ANNOUNCES_OK"),
-            Message::SubscribeAnnouncesError(_) => (0x13, "SUBSCRIBE_ANNOUNCES_ERROR"),
-            Message::UnsubscribeAnnounces(_) => (0x14, "UNSUBSCRIBE_ANNOUNCES"),
-            Message::MaxSubscribeId(_) => (0x15, "MAX_SUBSCRIBE_ID"),
-            Message::Fetch(_) => (0x16, "FETCH"),
-            Message::FetchCancel(_) => (0x17, "FETCH_CANCEL"),
-            Message::FetchOk(_) => (0x18, "FETCH_OK"),
-            Message::FetchError(_) => (0x19, "FETCH_ERROR"),
-            Message::SubscribesBlocked(_) => (0x1A, "SUBSCRIBES_BLOCKED"),
-            Message::ClientSetup(_) => (0x40, "CLIENT_SETUP"),
-            Message::ServerSetup(_) => (0x41, "SERVER_SETUP"),
-        }
-    }
+/// The name that 004's table 2 gives a type; none where it has no such type.
+pub fn name(kind: u64) -> Option<&'static str> {
+    Some(match kind {
+        0x2 => "SUBSCRIBE_UPDATE",
+        0x3 => "SUBSCRIBE",
+        0x4 => "SUBSCRIBE_OK",
+        0x5 => "SUBSCRIBE_ERROR",
+        0x6 => "ANNOUNCE",
+        0x7 => "ANNOUNCE_OK",
+        0x8 => "ANNOUNCE_ERROR",
+        0x9 => "UNANNOUNCE",
+        0xA => "UNSUBSCRIBE",
+        0xB => "SUBSCRIBE_DONE",
+        0xC => "ANNOUNCE_CANCEL",
+        0xD => "TRACK_STATUS_REQUEST",
+        0xE => "TRACK_STATUS",
+        0x10 => "GOAWAY",
+        0x11 => "SUBSCRIBE_ANNOUNCES",
+        0x12 => "SUBSCRIBE_ANNOUNCES_OK",
+        0x13 => "SUBSCRIBE_ANNOUNCES_ERROR",
+        0x14 => "UNSUBSCRIBE_ANNOUNCES",
+        0x15 => "MAX_SUBSCRIBE_ID",
+        0x16 => "FETCH",
+        0x17 => "FETCH_CANCEL",
+        0x18 => "FETCH_OK",
+        0x19 => "FETCH_ERROR",
+        0x1A => "SUBSCRIBES_BLOCKED",
+        0x40 => "CLIENT_SETUP",
+        0x41 => "SERVER_SETUP",
+        _ => return None,
+    })
+}
 
-    /// The message's Type.
+impl<'a> Message<'a> {
+    /// The message's Type, from 004's table 2.
     pub fn kind(&self) -> u64 {
-        self.kind_and_name().0
+        match self {
+            Message::SubscribeUpdate(_) => 0x2,
+            Message::Subscribe(_) => 0x3,
+            Message::SubscribeOk(_) => 0x4,
+            Message::SubscribeError(_) => 0x5,
+            Message::Announce(_) => 0x6,
+            Message::AnnounceOk(_) => 0x7,
+            Message::AnnounceError(_) => 0x8,
+            Message::Unannounce(_) => 0x9,
+            Message::Unsubscribe(_) => 0xA,
+            Message::SubscribeDone(_) => 0xB,
+            Message::AnnounceCancel(_) => 0xC,
+            Message::TrackStatusRequest(_) => 0xD,
+            Message::TrackStatus(_) => 0xE,
+            Message::Goaway(_) => 0x10,
+            Message::SubscribeAnnounces(_) => 0x11,
+            Message::SubscribeAnnouncesOk(_) => 0x12,
+            Message::SubscribeAnnouncesError(_) => 0x13,
+            Message::UnsubscribeAnnounces(_) => 0x14,
+            Message::MaxSubscribeId(_) => 0x15,
+            Message::Fetch(_) => 0x16,
+            Message::FetchCancel(_) => 0x17,
+            Message::FetchOk(_) => 0x18,
+            Message::FetchError(_) => 0x19,
+            Message::SubscribesBlocked(_) => 0x1A,
+            Message::ClientSetup(_) => 0x40,
+            Message::ServerSetup(_) => 0x41,
+        }
     }
 
     /// The message's name as 004 spells it.
     pub fn name(&self) -> &'static str {
-        self.kind_and_name().1
+        name(self.kind()).expect("a message has a known type")
     }
 
     /// The name of the track that the message names, if it names one: a

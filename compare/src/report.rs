@@ -34,14 +34,17 @@ pub enum What {
     Arrival,
 }
 
-struct Field<'a> {
-    tag: u8,
-    value: &'a [u8],
+/// A field of a trace.
+pub(crate) struct Field<'a> {
+    /// What it is: 1 a start, 2 a message, 3 an arrival.
+    pub(crate) tag: u8,
+    /// The bytes after its tag and length.
+    pub(crate) value: &'a [u8],
 }
 
 /// The field at the front, and what follows it; none where it is cut.
 #[inline]
-fn next_field(trace: &[u8]) -> Option<(Field<'_>, &[u8])> {
+pub(crate) fn next_field(trace: &[u8]) -> Option<(Field<'_>, &[u8])> {
     let (&[tag, high, low], rest) = trace.split_first_chunk::<3>()?;
     let length = usize::from(u16::from_be_bytes([high, low]));
     if rest.len() < length {

@@ -51,18 +51,18 @@ pub struct Subscribe<'a> {
 }
 
 /// 01: "filter type other than 2, 3, 4".
-fn is_forbidden_filter(filter_type: u64) -> bool {
+pub(crate) fn is_forbidden_filter(filter_type: u64) -> bool {
     !matches!(filter_type, 2..=4)
 }
 
 /// 004: StartGroup and StartObject are "Only present for "AbsoluteStart" and
 /// "AbsoluteRange" filter types."
-fn has_start(filter_type: u64) -> bool {
+pub(crate) fn has_start(filter_type: u64) -> bool {
     filter_type == 3 || filter_type == 4
 }
 
 /// 004: EndGroup is "Only present for the "AbsoluteRange" filter type."
-fn has_end(filter_type: u64) -> bool {
+pub(crate) fn has_end(filter_type: u64) -> bool {
     filter_type == 4
 }
 

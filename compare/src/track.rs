@@ -35,12 +35,12 @@ pub struct TrackStatus<'a> {
 }
 
 /// 01: "track status above 4".
-fn is_forbidden_status(status_code: u64) -> bool {
+pub(crate) fn is_forbidden_status(status_code: u64) -> bool {
     status_code > 4
 }
 
 /// 01: "status 1 or 2 with a largest group or object that is not 0".
-fn is_forbidden_largest(status_code: u64, group_or_object: u64) -> bool {
+pub(crate) fn is_forbidden_largest(status_code: u64, group_or_object: u64) -> bool {
     (status_code == 1 || status_code == 2) && group_or_object != 0
 }
 

@@ -31,6 +31,8 @@ pub struct Make {
     pub long: bool,
     /// Whether two subscriptions may ask for one track.
     pub shared: bool,
+    /// Whether byte fields may be text, and about as long as can be shown.
+    pub shown: bool,
 }
 
 /// Writes the number in a form of `size` bytes (1, 2, 4 or 8), which it fits.
@@ -64,6 +66,7 @@ impl Make {
             wild: false,
             long: false,
             shared: false,
+            shown: false,
         }
     }
 
@@ -73,6 +76,7 @@ impl Make {
         self.wild = false;
         self.long = false;
         self.shared = false;
+        self.shown = false;
     }
 
     /// Writes this number, at times longer than needed.
@@ -123,6 +127,29 @@ impl Make {
         }
     }
 
+    /// Writes that many bytes of a field; where they may be text, half of them
+    /// are, but for one byte now and then.
+    fn field(&mut self, out: &mut Vec<u8>, count: u64) {
+        if !self.shown || self.random.one_in(2) {
+            return self.bytes(out, count);
+        }
+        for _ in 0..count {
+            out.push(0x20 + self.random.below(0x5F) as u8);
+        }
+        if count > 0 && self.random.one_in(6) {
+            let at = out.len() - 1 - self.random.below(count) as usize;
+            out[at] = self.random.one_of(&[0x00, 0x0A, 0x1F, 0x7F, 0x80, 0xFF]) as u8;
+        }
+    }
+
+    /// The length of a byte field: below a bound, or about what can be shown.
+    fn length(&mut self, bound: u64) -> u64 {
+        if self.shown && self.random.one_in(3) {
+            return self.random.one_of(&[7, 8, 9, 23, 24, 25, 70]);
+        }
+        self.random.below(bound)
+    }
+
     /// One of the permitted values, or, where wild, now and then one of the
     /// forbidden ones.
     pub fn value(&mut self, permitted: &[u64], forbidden: &[u64]) -> u64 {
@@ -137,10 +164,10 @@ impl Make {
         let length = if self.long && self.random.one_in(2) {
             self.random.one_of(&[63, 64, 300, 5_000, 12_000, 16_000])
         } else {
-            self.random.below(6)
+            self.length(6)
         };
         self.integer(out, length);
-        self.bytes(out, length);
+        self.field(out, length);
     }
 
     /// Writes a namespace; answers the bytes of its fields.
@@ -158,10 +185,10 @@ impl Make {
                 let over = left + 1;
                 self.value(&[left, left / 2], &[over, 4_097])
             } else {
-                self.random.below(4).min(4_096u64.saturating_sub(sum))
+                self.length(4).min(4_096u64.saturating_sub(sum))
             };
             self.integer(out, length);
-            self.bytes(out, length);
+            self.field(out, length);
             sum += length;
         }
         sum
@@ -174,10 +201,10 @@ impl Make {
         let length = if self.long && self.random.one_in(2) {
             self.value(&[left], &[left + 1, 16_000])
         } else {
-            self.random.below(6).min(left)
+            self.length(6).min(left)
         };
         self.integer(out, length);
-        self.bytes(out, length);
+        self.field(out, length);
     }
 
     /// Writes parameters; types may come twice.
