@@ -79,20 +79,20 @@ fn field(text: &mut Text, trace: &[u8], offset: usize) {
     }
 }
 
-/// Why a trace is at fault in the field at this offset. What the tag decides
-/// comes first, also where the field is cut; the value is looked at only where
-/// it is all there.
+/// Why a trace is at fault in the field at this offset. Of a field that is cut
+/// nothing else is looked at.
 fn why(trace: &[u8], offset: usize) -> &'static str {
     let Some(tag) = trace.get(offset) else {
         return "no bytes";
     };
     let is_first = offset == 0;
-    let is_cut = next_field(&trace[offset..]).is_none();
+    if next_field(&trace[offset..]).is_none() {
+        return "the trace ends inside this field";
+    }
     match tag {
         0 | 4.. => "no tag of a trace",
         2 | 3 if is_first => "the first field is no start",
         1 if !is_first => "a second start",
-        _ if is_cut => "the trace ends inside this field",
         1 => "not one part, 0 or 1, and one maximum",
         2 => "not one whole message",
         3 => "not one alias, group and object",

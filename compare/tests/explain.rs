@@ -430,7 +430,7 @@ const FIRST_FAULTS: &[(&str, &str, &str)] = &[
     (
         "00",
         "0    00                        cut field, 1 byte\n",
-        "no tag of a trace",
+        "the trace ends inside this field",
     ),
     (
         "03 00 02 07 40",
@@ -443,7 +443,7 @@ const FIRST_FAULTS: &[(&str, &str, &str)] = &[
     (
         "02 00 09 17",
         "0    02 00 09 17               cut field, 4 bytes\n",
-        "the first field is no start",
+        "the trace ends inside this field",
     ),
     (
         "02 00 01 3F 01 00 02 00 0A",
@@ -494,7 +494,7 @@ const LATER_FAULTS: &[(&str, &str, &str)] = &[
     (
         "04 FF FF",
         "5    04 FF FF                  cut field, 3 bytes\n",
-        "no tag of a trace",
+        "the trace ends inside this field",
     ),
     (
         "01 00 02 00 0A 09",
@@ -506,7 +506,7 @@ const LATER_FAULTS: &[(&str, &str, &str)] = &[
     (
         "01 00 02 00",
         "5    01 00 02 00               cut field, 4 bytes\n",
-        "a second start",
+        "the trace ends inside this field",
     ),
     (
         "02 00 00",
