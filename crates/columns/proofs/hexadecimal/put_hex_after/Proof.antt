@@ -1,0 +1,28 @@
+-- `put_hex_after` meets its contract: the digits of the bytes from the i-th on are left. Assumes nothing.
+use Prim.Native.Nat.{_-_}
+use mathlib.Core.Path.{_≡_, refl}
+use borrow.Author.Needs.{needs}
+use lib.ListN.{drop}
+use Rattle.columns.specs.Columns.{hexAfter}
+use Rattle.columns.specs.Pouring.{filling, pour}
+use Rattle.columns.proofs.Poured.{poured-both, poured-next, poured-end, poured-length}
+use Rattle.columns.proofs.Turns.{hex-next, hex-last}
+use Rattle.columns.proofs.hexadecimal.put_hex_after.Statement.{statement}
+use Rattle.columns.proofs.hexadecimal.put_hex_after.Tie as tie
+
+abbrev Inv-loop : tie.InvT-loop
+Inv-loop out₀ at s n end₀ i₀ out end i = pour (filling out end) (hexAfter (drop i s)) ≡ pour (filling out₀ at) (hexAfter s)
+
+abbrev μ-loop : tie.MeasureT-loop
+μ-loop out₀ at s n end₀ i₀ out end i = n - i
+
+returns : tie.Need-returns Inv-loop μ-loop
+returns c = poured-end (hex-last _ _ (c .loop-test .left)) (c .before .loop .inv)
+
+pub put-hex-after-spec : {M : Type 1} → statement M
+put-hex-after-spec =
+    tie.close
+    (tie.spec
+    Inv-loop μ-loop (λ c. refl) (λ c κs. search needs) (λ c. search needs) (λ c κs. search needs) (λ c. search needs) (λ c. search needs)
+    (λ c. let l = c .before .before .before .before .before .before .before .before .before .before in poured-next _ (hex-next _ (l .loop .i) (c .before .before .before .before .before .before .before .before .before .loop-test .taken)) (l .loop .inv) (poured-both _ _ _ (c .before .before .before .before .before .before .before .put-byte .ensures) (c .before .before .put-hex-byte .ensures)))
+    (λ c. poured-length _ _ _ (returns c)) returns)
