@@ -7,6 +7,7 @@ use Rattle.columns.specs.Pouring.{Filling, pour}
 use Rattle.columns.specs.Columns.{spaces, gap, column}
 use Rattle.columns.proofs.Poured.{poured-both}
 
-pub column-poured : (f : Filling) (width : ℕ) (text : List ℕ) {g h : Filling} {size count : ℕ} → g ≡ pour f text → size ≡ length text → count ≡ gap width size → h ≡ pour g (spaces count) → h ≡ pour f (column width text)
+pub column-poured : (f : Filling) (width : ℕ) (text : List ℕ) {g h : Filling} {size count : ℕ} → g ≡ pour f text
+    → size ≡ length text → count ≡ gap width size → h ≡ pour g (spaces count) → h ≡ pour f (column width text)
 unfolding column
-column-poured f width text {g} {h} p e c q = poured-both f text (spaces (gap width (length text))) p (rw (c, e) at q)
+column-poured f width text p e c q = poured-both f text (spaces (gap width (length text))) p (rw (c, e) at q)

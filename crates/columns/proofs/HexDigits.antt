@@ -6,11 +6,9 @@ use native.Mathlib.Nat.{pow-suc, div-lt-iff-lt-mul, zero-lt-suc, not-suc-le-zero
 use native.Mathlib.Omega.{arith}
 use borrow.Author.Tests.{lt-ltb, le-ltb, le-leb, lt-leb}
 use lib.Dec.{ltb}
-use lib.ListN.{length, getD, take, length-append}
+use lib.ListN.{length, getD, take, drop, length-append}
 use lib.Seq.{length-take-le}
 use Rattle.common.specs.Choice.{pick}
-use Rattle.common.proofs.Parts.{to-end}
-use Rattle.common.proofs.Puts.{lent}
 use Rattle.types.specs.Letters.{letters}
 use Rattle.columns.specs.Columns.{hexDigit, hexByte, hexAfter, hexBytes, mostShown, shownBytes, hexIn, hexOf}
 
@@ -22,10 +20,10 @@ hex-none [] h = refl
 hex-none (b ∷ s) h = absurd (omega arith)
 
 -- the first byte, and the others
-pub hex-some : (s : List ℕ) → 0 < length s → hexBytes s ≡ hexByte (getD s 0 0) ++ hexAfter (lent 1 s)
+pub hex-some : (s : List ℕ) → 0 < length s → hexBytes s ≡ hexByte (getD s 0 0) ++ hexAfter (drop 1 s)
 unfolding hexBytes
 hex-some [] h = absurd (not-suc-le-zero h)
-hex-some (b ∷ s) h = rw (to-end (b ∷ s) 1)
+hex-some (b ∷ s) h = refl
 
 after-length : (s : List ℕ) → length (hexAfter s) ≡ 3 * length s
 unfolding hexAfter hexByte

@@ -32,7 +32,8 @@ module _ (item : Item) {line : Line} (e : line ≡ placed (item ∷ [])) where
     pub never-short : Leaves (putText (lineOf (itemsOf line)) before) (refused 7) after → ⊥
     never-short l = omega (arith, short-is _ before l .0, alone-length, item-bound item)
 
-    pub item-alone : {end : ℕ} → Leaves (putText (lineOf (itemsOf line)) before) (wrote end) after → Alone item end after
+    pub item-alone : {end : ℕ} → Leaves (putText (lineOf (itemsOf line)) before) (wrote end) after
+        → Alone item end after
     item-alone {end} l =
         let p = done-is _ before l .1 in
         let k : end ≡ length (itemOf item) + 1 = p .count ∙ alone-length in

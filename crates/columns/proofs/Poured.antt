@@ -2,7 +2,6 @@
 -- Assumes nothing.
 use Prim.Native.Nat.{ℕ, suc, _+_, _≤_, _<_}
 use mathlib.Core.Path.{_≡_, refl, sym, ap, _∙_}
-use mathlib.Core.Bool.{Bool}
 use mathlib.Core.List.{List, [], _∷_, _++_, append-nil}
 use native.Mathlib.Nat.{add-zero}
 use native.Mathlib.Numerals.{add-one}
@@ -39,6 +38,7 @@ pour-append f (x ∷ a) b = pour-append (pourByte f x) a b
 pub poured-both : (f : Filling) (a b : List ℕ) {g h : Filling} → g ≡ pour f a → h ≡ pour g b → h ≡ pour f (a ++ b)
 poured-both f a b p q = rw (q, p) (pour-append f a b)
 
+-- three, and four
 module _ (f : Filling) (a b c : List ℕ) {g h i : Filling} (p : g ≡ pour f a) (q : h ≡ pour g b) (r : i ≡ pour h c) where
   pub poured-three : i ≡ pour f (a ++ b ++ c)
   poured-three = poured-both f (a ++ b) c (poured-both f a b p q) r
@@ -47,8 +47,10 @@ module _ (f : Filling) (a b c : List ℕ) {g h i : Filling} (p : g ≡ pour f a)
   poured-four d s = poured-both f (a ++ b ++ c) d poured-three s
 
 -- a loop that pours what is left of a text: at a turn x, and then the others,
-pub poured-next : (f : Filling) {x others left : List ℕ} {g all : Filling} → Next x others left → pour f left ≡ all → g ≡ pour f x → pour g others ≡ all
-poured-next f {x} {others} n inv p = rw p (pour-append f x others ∙ ap (λ (l : List ℕ). pour f l) (sym (n .joins)) ∙ inv)
+pub poured-next : (f : Filling) {x others left : List ℕ} {g all : Filling} → Next x others left → pour f left ≡ all
+    → g ≡ pour f x → pour g others ≡ all
+poured-next f {x} {others} n inv p =
+    rw p (pour-append f x others ∙ ap (λ (l : List ℕ). pour f l) (sym (n .joins)) ∙ inv)
 
 -- until none is left
 pub poured-end : {f all : Filling} {left : List ℕ} → left ≡ [] → pour f left ≡ all → f ≡ all
@@ -85,7 +87,8 @@ pour-within f (b ∷ text) h =
     rw (byte-length f b) at (pour-within (pourByte f b) text (rw (byte-length f b) (byte-within f b h)))
 
 -- as a call leaves them
-module _ (before : List ℕ) (at : ℕ) (text : List ℕ) {after : List ℕ} {r : ℕ} (p : filling after r ≡ pour (filling before at) text) where
+module _ (before : List ℕ) (at : ℕ) (text : List ℕ) {after : List ℕ} {r : ℕ}
+    (p : filling after r ≡ pour (filling before at) text) where
   pub poured-length : length after ≡ length before
   poured-length = ap (λ (g : Filling). length (g .holds)) p ∙ pour-length (filling before at) text
 
@@ -95,10 +98,12 @@ module _ (before : List ℕ) (at : ℕ) (text : List ℕ) {after : List ℕ} {r 
 -- ---- where all fits
 
 -- the text stands there, and all else is as it was
-pub pour-fits : (holds : List ℕ) (at : ℕ) (text : List ℕ) → at + length text ≤ length holds → pour (filling holds at) text ≡ filling (take at holds ++ text ++ drop (at + length text) holds) (at + length text)
+pub pour-fits : (holds : List ℕ) (at : ℕ) (text : List ℕ) → at + length text ≤ length holds
+    → pour (filling holds at) text ≡ filling (take at holds ++ text ++ drop (at + length text) holds) (at + length text)
 unfolding pour pourByte
 pour-fits holds at [] h = rw (append-nil, add-zero, take-append-drop)
 pour-fits holds at (b ∷ text) h =
     let k : at < length holds = omega arith in
     let e : at + 1 + length text ≡ at + suc (length text) = omega arith in
-    rw (lt-ltb at (length holds) k, pour-fits (set holds at b) (at + 1) text (simp length-set (omega arith)), e, drop-set-lt (at + suc (length text)) holds at b (omega arith), add-one at, take-suc-set holds at b k, append-snoc)
+    let rest = pour-fits (set holds at b) (at + 1) text (simp length-set (omega arith)) in
+    rw (lt-ltb at (length holds) k, rest, e, drop-set-lt (at + suc (length text)) holds at b (omega arith), add-one at, take-suc-set holds at b k, append-snoc)

@@ -3,7 +3,7 @@ ghost use mathlib.Core.Path.{_≡_};
 ghost use Prim.Native.Nat.{_<_};
 ghost use lib.ListN.{length};
 ghost use Rattle.columns.specs.Pouring.{filling, pour};
-ghost use Rattle.columns.specs.Columns.{hexDigit, hexByte, hexAfter, hexBytes, shownBytes, bytesColumn, hexOf};
+ghost use Rattle.columns.specs.Columns.{hexDigit, hexByte, hexBytes, shownBytes, bytesColumn, hexOf};
 use crate::BYTES_WIDTH;
 use crate::MOST_SHOWN;
 use crate::bytes::gap;
@@ -37,17 +37,8 @@ pub fn put_hex(out: &mut [u8], at: usize, s: &[u8]) -> usize
     if n == 0 {
         return at;
     }
-    let first = put_hex_byte(out, at, s[0]);
-    put_hex_after(out, first, &s[1..])
-}
-
-// The same, with a space before each.
-fn put_hex_after(out: &mut [u8], at: usize, s: &[u8]) -> usize
-    ensures { λ r. ⌜ filling (now (out .exit)) r ≡ pour (filling (now (out .entry)) at) (hexAfter (now (s .entry))) ⌝ }
-{
-    let n = s.len();
-    let mut end = at;
-    let mut i: usize = 0;
+    let mut end = put_hex_byte(out, at, s[0]);
+    let mut i: usize = 1;
     while i < n {
         let next = put_byte(out, end, b' ');
         end = put_hex_byte(out, next, s[i]);
@@ -72,7 +63,8 @@ fn shown_size(s: &[u8]) -> usize
 
 // Of more than eight bytes the first eight.
 fn put_shown(out: &mut [u8], at: usize, s: &[u8]) -> usize
-    ensures { λ r. ⌜ filling (now (out .exit)) r ≡ pour (filling (now (out .entry)) at) (shownBytes (now (s .entry))) ⌝ }
+    ensures { λ r. ⌜ filling (now (out .exit)) r ≡ pour (filling (now (out .entry)) at)
+        (shownBytes (now (s .entry))) ⌝ }
 {
     if s.len() <= MOST_SHOWN {
         return put_hex(out, at, s);

@@ -33,10 +33,11 @@ pub fn put_size(out: &mut [u8], at: usize, n: u64) -> usize
     ensures { λ r. ⌜ filling (now (out .exit)) r ≡ pour (filling (now (out .entry)) at) (sizeText n) ⌝ }
 {
     let next = put_item(out, at, Item::Number(n));
+    let end = put_bytes(out, next, b" byte");
     if n == 1 {
-        return put_bytes(out, next, b" byte");
+        return end;
     }
-    put_bytes(out, next, b" bytes")
+    put_byte(out, end, b's')
 }
 
 fn is_text(s: &[u8]) -> bool
