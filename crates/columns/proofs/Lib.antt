@@ -1,0 +1,5 @@
+pub mod Poured
+pub mod Turns
+pub mod HexDigits
+pub mod ItemAlone
+pub mod ColumnPoured

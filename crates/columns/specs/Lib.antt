@@ -1,0 +1,2 @@
+pub mod Pouring
+pub mod Columns
