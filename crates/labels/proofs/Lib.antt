@@ -1,0 +1,3 @@
+pub mod PouredParts
+pub mod WordsFound
+pub mod Beyond

@@ -1,0 +1,4 @@
+pub mod Labels
+pub mod Meanings
+pub mod Standing
+pub mod LabelText
