@@ -1,5 +1,5 @@
 -- A trace is taken field by field by a ledger.
-use Prim.Native.Nat.{ℕ, _+_, _-_, _%_, _^_}
+use Prim.Native.Nat.{ℕ, _-_}
 use mathlib.Core.Bool.{Bool, true, false}
 use mathlib.Core.List.{List, []}
 use lib.ListN.{length}
@@ -12,6 +12,7 @@ use Rattle.ledger.specs.Runs.{arrivalsIn, afterArrivals}
 use Rattle.ledger.specs.declared.Ledger.{Ledger}
 use Rattle.ledger.specs.declared.Part.the-variants.{Subscriber}
 use Rattle.trace.specs.Fields.{fieldSize}
+unfoldable pub use Rattle.trace.specs.Fields.{offsetOf}
 use Rattle.trace.specs.Feeding.{Held, feed}
 use Rattle.replay.specs.Events.{eventIn}
 use Rattle.replay.specs.declared.Event.{Event}
@@ -60,10 +61,6 @@ heardOf p (Control m) = goesOn (takeOf (p .ledger) m)
 heardOf p (Malformed number) = goesOn (malformedOf (p .ledger))
 heardOf p (Arrived a) = goesOn (arrivalOf (p .ledger) a)
 heardOf p Fault = record { says = noRule 0; ledger = p .ledger; stage = firstFault (p .stage) (p .offset) }
-
--- an offset is kept in 64 bits, which no trace uses up
-unfoldable pub offsetOf : ℕ → ℕ → ℕ
-offsetOf offset size = (offset + size) % 2 ^ 64
 
 pub record Stepping : Type 0 where
   pub event : Event

@@ -1,5 +1,5 @@
 -- "Input fields of the trace: one-byte tag, two-byte length (big-endian), value." A field is here all of its bytes.
-use Prim.Native.Nat.{ℕ, _+_, _*_}
+use Prim.Native.Nat.{ℕ, _+_, _*_, _%_, _^_}
 use mathlib.Core.Bool.{Bool}
 use mathlib.Core.List.{List}
 use lib.ListN.{length, getD, drop}
@@ -27,3 +27,7 @@ unfoldable pub fieldOf : List ℕ → ℕ → FieldRead
 fieldOf s at =
     guard (isWhole (drop at s)) Cut
     (Whole (record { tag = tagOf (drop at s); start = at + 3; end = at + fieldSize (drop at s) }))
+
+-- an offset is kept in 64 bits, which no trace uses up
+unfoldable pub offsetOf : ℕ → ℕ → ℕ
+offsetOf offset size = (offset + size) % 2 ^ 64
