@@ -1,0 +1,4 @@
+pub mod ClampedEnds
+pub mod PouredLines
+pub mod ShortestForm
+pub mod NumbersPoured

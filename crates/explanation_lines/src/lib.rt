@@ -1,0 +1,46 @@
+// The lines of an explanation, put into a lent buffer from an offset on: an offset, bytes, and what they are. What
+// doesn't fit the buffer is lost; each function hands back where the next byte goes.
+mod clamping;
+mod lines;
+mod numbers;
+mod values;
+mod words;
+
+pub use lines::put_answer;
+pub use lines::put_cut_field;
+pub use lines::put_faulty_line;
+pub use lines::put_field_line;
+pub use lines::put_left_line;
+pub use lines::put_mark;
+pub use lines::put_part_line;
+pub use lines::put_reason;
+pub use numbers::put_arrival;
+pub use numbers::put_start;
+
+// The words of an explanation.
+pub enum Word {
+    Start,
+    Message,
+    Arrival,
+    Tag,
+    Comma,
+    Colon,
+    Cut,
+    Part,
+    Mark,
+    Answered,
+    Fault,
+    Hexadecimal,
+    Named,
+    Close,
+    ShortestForm,
+    CutField,
+    NoTag,
+    NotFirst,
+    SecondStart,
+    NoStart,
+    NoMessage,
+    NoArrival,
+    EndsInside,
+    NoBytes,
+}
