@@ -1,0 +1,237 @@
+// Which line comes next.
+ghost use mathlib.Core.Path.{_≡_};
+ghost use Prim.Native.Nat.{min};
+ghost use lib.ListN.{getD};
+ghost use Rattle.columns.specs.Pouring.{filling, pour};
+ghost use Rattle.explanation.specs.Telling.{duly, onTo, valueLines, dueAfter, fieldTold, isType, stepLines, afterStep, partTold, reasonWord, endingLine, nextTold, Tells, messageBegun, isNothing};
+use crate::Due;
+use crate::Ending;
+use crate::Explaining;
+use crate::NextLines;
+use crate::Reason;
+use explanation_lines::Word;
+use explanation_lines::put_answer;
+use explanation_lines::put_arrival;
+use explanation_lines::put_faulty_line;
+use explanation_lines::put_field_line;
+use explanation_lines::put_left_line;
+use explanation_lines::put_mark;
+use explanation_lines::put_part_line;
+use explanation_lines::put_reason;
+use explanation_lines::put_start;
+use parts::Cursor;
+use parts::Stage;
+use parts::Step;
+use parts::Subject;
+
+// A message of a control stream, whose first byte has that offset, at the front of s.
+pub fn begin_message(s: &[u8], offset: u64) -> Explaining
+    ensures { λ r. ⌜ r ≡ messageBegun (now (s .entry)) offset ⌝ }
+{
+    let cursor = parts::begin(Subject::Message, s);
+    Explaining {
+        due: Due::Part,
+        cursor,
+        ending: Ending::Read,
+        offset,
+        start: 0,
+    }
+}
+
+pub fn at_most(n: usize, most: usize) -> usize
+    ensures { λ r. ⌜ r ≡ min n most ⌝ }
+{
+    if n <= most {
+        return n;
+    }
+    most
+}
+
+// Whether nothing is left to be explained.
+pub fn is_over(e: Explaining) -> bool
+    ensures { λ r. ⌜ r ≡ isNothing (e .due) ⌝ }
+{
+    let due = e.due;
+    match due {
+        Due::Field => false,
+        Due::Part => false,
+        Due::Ending(_) => false,
+        Due::Nothing => true,
+    }
+}
+
+// The same, with another line due.
+pub fn duly(e: Explaining, due: Due) -> Explaining
+    ensures { λ r. ⌜ r ≡ duly e due ⌝ }
+{
+    let cursor = e.cursor;
+    let ending = e.ending;
+    Explaining {
+        due,
+        cursor,
+        ending,
+        offset: e.offset,
+        start: e.start,
+    }
+}
+
+// And with another part next.
+fn on_to(e: Explaining, cursor: Cursor) -> Explaining
+    ensures { λ r. ⌜ r ≡ onTo e cursor ⌝ }
+{
+    let due = e.due;
+    let ending = e.ending;
+    Explaining {
+        due,
+        cursor,
+        ending,
+        offset: e.offset,
+        start: e.start,
+    }
+}
+
+// The next lines of a field, or of a message of a control stream.
+pub fn next(out: &mut [u8], at: usize, field: &[u8], e: Explaining) -> NextLines
+    ensures { λ r. ⌜ Tells (nextTold (now (field .entry)) e) (now (out .entry)) at r (now (out .exit)) ⌝ }
+{
+    let due = e.due;
+    let ending = e.ending;
+    match due {
+        Due::Field => tell_field(out, at, field, e),
+        Due::Part => tell_part(out, at, field, e),
+        Due::Ending(read) => NextLines {
+            at: put_ending(out, at, ending, read),
+            next: duly(e, Due::Nothing),
+        },
+        Due::Nothing => NextLines { at, next: e },
+    }
+}
+
+// A field: its line, and where it is a start or an arrival its value.
+fn tell_field(out: &mut [u8], at: usize, field: &[u8], e: Explaining) -> NextLines
+    ensures { λ r. ⌜ Tells (fieldTold (now (field .entry)) e) (now (out .entry)) at r (now (out .exit)) ⌝ }
+{
+    let tag = tag_of(field);
+    let start = at_most(e.start, field.len());
+    let offset = std::num::wrapping_add_u64(e.offset, e.start as u64);
+    let line = put_field_line(out, at, e.offset, field);
+    NextLines {
+        at: put_value(out, line, tag, offset, &field[start..]),
+        next: duly(e, due_after(tag)),
+    }
+}
+
+fn put_value(out: &mut [u8], at: usize, tag: u8, offset: u64, s: &[u8]) -> usize
+    ensures { λ r. ⌜ filling (now (out .exit)) r ≡ pour (filling (now (out .entry)) at)
+        (valueLines tag offset (now (s .entry))) ⌝ }
+{
+    match tag {
+        1 => put_start(out, at, offset, s),
+        3 => put_arrival(out, at, offset, s),
+        _ => at,
+    }
+}
+
+fn due_after(tag: u8) -> Due
+    ensures { λ r. ⌜ r ≡ dueAfter tag ⌝ }
+{
+    if tag == 2 {
+        return Due::Part;
+    }
+    Due::Ending(0)
+}
+
+pub fn tag_of(field: &[u8]) -> u8
+    ensures { λ r. ⌜ r ≡ getD (now (field .entry)) 0 0 ⌝ }
+{
+    if field.len() == 0 {
+        return 0;
+    }
+    field[0]
+}
+
+// Whether the part at a stage is the type of a message.
+fn is_type(stage: Stage) -> bool
+    ensures { λ r. ⌜ r ≡ isType stage ⌝ }
+{
+    match stage {
+        Stage::TypeNumber => true,
+        Stage::Length => false,
+        Stage::Refused(_) => false,
+        Stage::Field => false,
+        Stage::Content(_) => false,
+        Stage::Entry(_, _) => false,
+        Stage::EntryLength(_, _) => false,
+        Stage::EntryContent(_, _, _) => false,
+        Stage::NameLength(_) => false,
+    }
+}
+
+// A part.
+fn tell_part(out: &mut [u8], at: usize, field: &[u8], e: Explaining) -> NextLines
+    ensures { λ r. ⌜ Tells (partTold (now (field .entry)) e) (now (out .entry)) at r (now (out .exit)) ⌝ }
+{
+    let start = at_most(e.start, field.len());
+    let offset = std::num::wrapping_add_u64(e.offset, e.start as u64);
+    let cursor = e.cursor;
+    let stage = cursor.stage;
+    let told = parts::next(&field[start..], cursor);
+    let step = told.step;
+    let next = told.cursor;
+    NextLines {
+        at: put_step(out, at, is_type(stage), offset, &field[start..], step),
+        next: after_step(e, step, next),
+    }
+}
+
+// What was told of it. A refused part is marked,
+fn put_step(out: &mut [u8], at: usize, typed: bool, offset: u64, s: &[u8], step: Step) -> usize
+    ensures { λ r. ⌜ filling (now (out .exit)) r ≡ pour (filling (now (out .entry)) at)
+        (stepLines step typed offset (now (s .entry))) ⌝ }
+{
+    match step {
+        Step::Part(part) => put_part_line(out, at, offset, s, typed, part),
+        Step::Refused(number) => put_mark(out, at, number),
+        Step::Faulty(part, number) => {
+            let line = put_faulty_line(out, at, offset, s, part);
+            put_mark(out, line, number)
+        }
+        Step::Whole(used) => put_left_line(out, at, offset, s, used),
+    }
+}
+
+// and nothing is shown after it.
+fn after_step(e: Explaining, step: Step, c: Cursor) -> Explaining
+    ensures { λ r. ⌜ r ≡ afterStep step c e ⌝ }
+{
+    match step {
+        Step::Part(_) => on_to(e, c),
+        Step::Refused(number) => duly(e, Due::Ending(number)),
+        Step::Faulty(_, number) => duly(e, Due::Ending(number)),
+        Step::Whole(_) => duly(e, Due::Ending(0)),
+    }
+}
+
+fn reason_word(reason: Reason) -> Word
+    ensures { λ r. ⌜ r ≡ reasonWord reason ⌝ }
+{
+    match reason {
+        Reason::NoTag => Word::NoTag,
+        Reason::NotFirst => Word::NotFirst,
+        Reason::SecondStart => Word::SecondStart,
+        Reason::NoStart => Word::NoStart,
+        Reason::NoMessage => Word::NoMessage,
+        Reason::NoArrival => Word::NoArrival,
+    }
+}
+
+// What stands below the parts.
+fn put_ending(out: &mut [u8], at: usize, ending: Ending, read: u8) -> usize
+    ensures { λ r. ⌜ filling (now (out .exit)) r ≡ pour (filling (now (out .entry)) at) (endingLine ending read) ⌝ }
+{
+    match ending {
+        Ending::Answered(number, rule) => put_answer(out, at, number, rule),
+        Ending::Fault(reason) => put_reason(out, at, reason_word(reason)),
+        Ending::Read => put_answer(out, at, read, 0),
+    }
+}
