@@ -1,7 +1,7 @@
 -- The line of a trace that is at fault. Assumes nothing.
 use Prim.Native.Nat.{ℕ}
 use mathlib.Core.Path.{_≡_, ap, _∙_}
-use mathlib.Core.List.{List, [], _∷_, _++_, append-assoc, append-nil}
+use mathlib.Core.List.{[], _∷_, _++_, append-assoc, append-nil}
 use Rattle.text.specs.Lines.{itemOf, endedOf, isNone, lineOf, faultLine}
 use Rattle.text.specs.declared.Item.the-variants.{Number, Word}
 use Rattle.text.specs.declared.Word.the-variants.{TraceFaultAt}

@@ -1,7 +1,6 @@
 -- The value of a field: its bytes from an offset on, as far as they are there. Assumes nothing.
 use Prim.Native.Nat.{ℕ, _+_, _-_, _%_, _^_, _≤_, min}
 use mathlib.Core.Path.{_≡_, sym, ap, _∙_}
-use mathlib.Core.Bool.{Bool}
 use mathlib.Core.List.{List}
 use mathlib.Core.Logic.{⊎-elim}
 use native.Mathlib.Nat.{eq-or-lt-of-le}
@@ -14,7 +13,7 @@ use Rattle.parts.specs.declared.NextPart.{NextPart}
 use Rattle.columns.specs.Pouring.{filling, pour}
 use Rattle.columns.proofs.Poured.{poured-both}
 use Rattle.explanation_lines.specs.Lines.{fieldLine}
-use Rattle.explanation.specs.Telling.{duly, valueLines, dueAfter, fieldTold, isType, stepLines, afterStep, partTold, Tells}
+use Rattle.explanation.specs.Telling.{duly, valueLines, dueAfter, fieldTold, stepLines, afterStep, partTold, Tells}
 use Rattle.explanation.specs.declared.Due.{Due}
 use Rattle.explanation.specs.declared.Explaining.{Explaining}
 
@@ -49,12 +48,12 @@ module _ (field : List ℕ) (e : Explaining) {n offset : ℕ} (least : n ≡ min
       }
 
   -- part by part
-  pub told-part : {told : NextPart} {typed : Bool} → told ≡ nextOf (lent field n) (e .cursor) → typed ≡ isType (e .cursor .stage) → filling after r ≡ pour (filling before at) (stepLines (told .step) typed offset (lent field n)) → next ≡ afterStep (told .step) (told .cursor) e → Tells (partTold field e) before at (record { at = r; next = next }) after
+  pub told-part : {told : NextPart} → told ≡ nextOf (lent field n) (e .cursor) → filling after r ≡ pour (filling before at) (stepLines (told .step) offset (lent field n)) → next ≡ afterStep (told .step) (told .cursor) e → Tells (partTold field e) before at (record { at = r; next = next }) after
   unfolding partTold offsetOf
-  told-part {told = told} is kind q left =
+  told-part {told} is q left =
       let same = value-lent field (e .start) least in
       let next : told ≡ nextOf (drop (e .start) field) (e .cursor) = is ∙ ap (λ (s : List ℕ). nextOf s (e .cursor)) same in
       record {
-        puts = q ∙ ap (pour (filling before at)) (λ i. stepLines (next i .step) (kind i) (sum i) (same i));
+        puts = q ∙ ap (pour (filling before at)) (λ i. stepLines (next i .step) (sum i) (same i));
         leaves = left ∙ (λ i. afterStep (next i .step) (next i .cursor) e);
       }

@@ -2,3 +2,6 @@ pub mod FieldValues
 pub mod FieldsTaken
 pub mod FaultLines
 pub mod DueLines
+pub mod PrintedParts
+pub mod ReadersAnswers
+pub mod Theorems

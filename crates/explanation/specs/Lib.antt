@@ -1,2 +1,3 @@
 pub mod Telling
 pub mod Traces
+pub mod Printing

@@ -10,11 +10,8 @@ use Rattle.parts.specs.Cursors.{beginOf}
 use Rattle.parts.specs.Telling.{nextOf}
 use Rattle.parts.specs.declared.Subject.the-variants.{Message}
 use Rattle.parts.specs.declared.Cursor.{Cursor}
-use Rattle.parts.specs.declared.Stage.{Stage}
-use Rattle.parts.specs.declared.Stage.the-variants.{TypeNumber, Length, Refused as Stopped, Field as AtField, Content, Entry, EntryLength, EntryContent, NameLength}
 use Rattle.parts.specs.declared.Step.{Step}
 use Rattle.parts.specs.declared.Step.the-variants.{Part as APart, Refused as IsRefused, Faulty, Whole}
-use Rattle.parts.specs.declared.NextPart.{NextPart}
 use Rattle.trace.specs.Fields.{offsetOf}
 use Rattle.columns.specs.Pouring.{filling, pour}
 use Rattle.explanation_lines.specs.Lines.{fieldLine, partLine, faultyLine, leftLine, markLine, answerLine, faultLine, arrivalLines, startLines}
@@ -65,24 +62,12 @@ fieldTold field e =
 
 -- ---- a part
 
--- whether it is the type of a message
-abbrev pub isType : Stage → Bool
-isType TypeNumber = true
-isType Length = false
-isType (Stopped number) = false
-isType AtField = false
-isType (Content size) = false
-isType (Entry left held) = false
-isType (EntryLength left held) = false
-isType (EntryContent left held size) = false
-isType (NameLength held) = false
-
--- a refused part is marked,
-abbrev pub stepLines : Step → Bool → ℕ → List ℕ → List ℕ
-stepLines (APart p) typed offset s = partLine offset s typed p
-stepLines (IsRefused number) typed offset s = markLine number
-stepLines (Faulty p number) typed offset s = faultyLine offset s p ++ markLine number
-stepLines (Whole used) typed offset s = leftLine offset s used
+-- a message begins with its type; a refused part is marked,
+abbrev pub stepLines : Step → ℕ → List ℕ → List ℕ
+stepLines (APart p) offset s = partLine offset s (eqb (p .start) 0) p
+stepLines (IsRefused number) offset s = markLine number
+stepLines (Faulty p number) offset s = faultyLine offset s p ++ markLine number
+stepLines (Whole used) offset s = leftLine offset s used
 
 -- and nothing is shown after it
 abbrev pub afterStep : Step → Cursor → Explaining → Explaining
@@ -95,8 +80,7 @@ unfoldable pub partTold : List ℕ → Explaining → Telling
 partTold field e =
     let value = drop (e .start) field in
     let told = nextOf value (e .cursor) in
-    telling (stepLines (told .step) (isType (e .cursor .stage)) (offsetOf (e .offset) (e .start)) value)
-    (afterStep (told .step) (told .cursor) e)
+    telling (stepLines (told .step) (offsetOf (e .offset) (e .start)) value) (afterStep (told .step) (told .cursor) e)
 
 -- ---- what stands below
 

@@ -1,14 +1,14 @@
 -- A TRACE, field by field: each is taken as in a replay, and what is answered to it stands below its parts.
 use Prim.Native.Nat.{ℕ, _+_}
 use mathlib.Core.Bool.{Bool, true, false}
-use mathlib.Core.List.{List, [], _∷_, _++_}
+use mathlib.Core.List.{List, [], _++_}
 use lib.ListN.{length, drop, take}
 use lib.Dec.{eqb}
-use Rattle.common.specs.Choice.{pick, guard}
+use Rattle.common.specs.Choice.{pick}
 use Rattle.ledger.specs.Answers.{Verdict}
 use Rattle.text.specs.Lines.{lineOf, faultLine as traceFault}
 use Rattle.trace.specs.Fields.{tagOf, fieldSize, isWhole}
-use Rattle.replay.specs.Progressing.{onFault, endStage, Stepping, steppedBy}
+use Rattle.replay.specs.Progressing.{onFault, endStage, steppedBy}
 use Rattle.replay.specs.declared.Event.{Event}
 use Rattle.replay.specs.declared.Event.the-variants.{Start, Control, Malformed, Arrived, Fault as AtFault}
 use Rattle.replay.specs.declared.Stage.{Stage}

@@ -1,5 +1,5 @@
-// What each byte of a trace, or of a control stream, is: line by line, into a lent buffer. What doesn't fit the buffer is
-// lost; a call puts at most LONGEST_LINES bytes.
+// What each byte of a trace, or of a control stream, is: line by line, into a lent buffer. What doesn't fit the buffer
+// is lost; a call puts at most LONGEST_LINES bytes.
 mod telling;
 mod traces;
 

@@ -3,7 +3,7 @@ ghost use mathlib.Core.Path.{_≡_};
 ghost use Prim.Native.Nat.{min};
 ghost use lib.ListN.{getD};
 ghost use Rattle.columns.specs.Pouring.{filling, pour};
-ghost use Rattle.explanation.specs.Telling.{duly, onTo, valueLines, dueAfter, fieldTold, isType, stepLines, afterStep, partTold, reasonWord, endingLine, nextTold, Tells, messageBegun, isNothing};
+ghost use Rattle.explanation.specs.Telling.{duly, onTo, valueLines, dueAfter, fieldTold, stepLines, afterStep, partTold, reasonWord, endingLine, nextTold, Tells, messageBegun, isNothing};
 use crate::Due;
 use crate::Ending;
 use crate::Explaining;
@@ -20,7 +20,6 @@ use explanation_lines::put_part_line;
 use explanation_lines::put_reason;
 use explanation_lines::put_start;
 use parts::Cursor;
-use parts::Stage;
 use parts::Step;
 use parts::Subject;
 
@@ -150,23 +149,6 @@ pub fn tag_of(field: &[u8]) -> u8
     field[0]
 }
 
-// Whether the part at a stage is the type of a message.
-fn is_type(stage: Stage) -> bool
-    ensures { λ r. ⌜ r ≡ isType stage ⌝ }
-{
-    match stage {
-        Stage::TypeNumber => true,
-        Stage::Length => false,
-        Stage::Refused(_) => false,
-        Stage::Field => false,
-        Stage::Content(_) => false,
-        Stage::Entry(_, _) => false,
-        Stage::EntryLength(_, _) => false,
-        Stage::EntryContent(_, _, _) => false,
-        Stage::NameLength(_) => false,
-    }
-}
-
 // A part.
 fn tell_part(out: &mut [u8], at: usize, field: &[u8], e: Explaining) -> NextLines
     ensures { λ r. ⌜ Tells (partTold (now (field .entry)) e) (now (out .entry)) at r (now (out .exit)) ⌝ }
@@ -174,23 +156,22 @@ fn tell_part(out: &mut [u8], at: usize, field: &[u8], e: Explaining) -> NextLine
     let start = at_most(e.start, field.len());
     let offset = std::num::wrapping_add_u64(e.offset, e.start as u64);
     let cursor = e.cursor;
-    let stage = cursor.stage;
     let told = parts::next(&field[start..], cursor);
     let step = told.step;
     let next = told.cursor;
     NextLines {
-        at: put_step(out, at, is_type(stage), offset, &field[start..], step),
+        at: put_step(out, at, offset, &field[start..], step),
         next: after_step(e, step, next),
     }
 }
 
-// What was told of it. A refused part is marked,
-fn put_step(out: &mut [u8], at: usize, typed: bool, offset: u64, s: &[u8], step: Step) -> usize
+// What was told of it. A message begins with its type. A refused part is marked,
+fn put_step(out: &mut [u8], at: usize, offset: u64, s: &[u8], step: Step) -> usize
     ensures { λ r. ⌜ filling (now (out .exit)) r ≡ pour (filling (now (out .entry)) at)
-        (stepLines step typed offset (now (s .entry))) ⌝ }
+        (stepLines step offset (now (s .entry))) ⌝ }
 {
     match step {
-        Step::Part(part) => put_part_line(out, at, offset, s, typed, part),
+        Step::Part(part) => put_part_line(out, at, offset, s, part.start == 0, part),
         Step::Refused(number) => put_mark(out, at, number),
         Step::Faulty(part, number) => {
             let line = put_faulty_line(out, at, offset, s, part);

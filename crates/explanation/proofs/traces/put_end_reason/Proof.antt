@@ -1,6 +1,5 @@
 -- `put_end_reason` meets its contract. Assumes nothing.
 use borrow.Author.Needs.{needs}
-use mathlib.Core.Path.{refl}
 use borrow.Author.Tests.{eq-eqb, ne-eqb}
 use Rattle.columns.specs.Pouring.{pour}
 use Rattle.explanation.proofs.traces.put_end_reason.Statement.{statement}
