@@ -792,3 +792,14 @@ fn generated_streams() {
     }
     assert!((0..=6).eq(answered));
 }
+
+// ---- what the proved program is held to
+
+/// The trace that the gate runs `moqexplain` on prints what this prints.
+#[test]
+fn trace_of_the_gate() {
+    let folder = concat!(env!("CARGO_MANIFEST_DIR"), "/../crates/moqexplain");
+    let input = fs::read(format!("{folder}/stdin")).expect("its input");
+    let printed = fs::read_to_string(format!("{folder}/stdout")).expect("its text");
+    assert_eq!(trace(&input), printed);
+}
