@@ -1,4 +1,4 @@
 pub mod ClampedEnds
-pub mod PouredLines
+pub mod SizePoured
 pub mod ShortestForm
 pub mod NumbersPoured
