@@ -143,12 +143,9 @@ unfoldable pub arrivalLines : ℕ → List ℕ → List ℕ
 arrivalLines offset s = numberLines (TrackAlias ∷ GroupId ∷ ObjectId ∷ []) offset s 0
 
 -- "part (one byte: 0 subscriber, 1 publisher), then the maximum"
-unfoldable pub startPart : ℕ → List ℕ → List ℕ
-startPart offset s = margin offset s 0 1 ++ letters "  Part: "
-
 unfoldable pub startLines : ℕ → List ℕ → List ℕ
 startLines offset s =
-    startPart offset s ++
+    margin offset s 0 1 ++ letters "  Part: " ++
     guard (ltb 0 (length s)) (letters "cut" ++ newline ++ markLine 1)
     (decimalOf (getD s 0 0) ++ newline ++ numberLines (MaximumSubscribeId ∷ []) offset s 1)
 

@@ -6,7 +6,7 @@ ghost use Rattle.columns.specs.Pouring.{filling, pour};
 ghost use Rattle.parts.specs.Telling.{partOf};
 ghost use Rattle.parts.specs.declared.What.the-variants.{Number};
 ghost use Rattle.layout.specs.declared.FieldName.the-variants.{MaximumSubscribeId};
-ghost use Rattle.explanation_lines.specs.Lines.{partLine, cutLines, numberLines, arrivalLines, startPart, startLines};
+ghost use Rattle.explanation_lines.specs.Lines.{partLine, cutLines, numberLines, arrivalLines, startLines};
 use crate::clamping::first_byte;
 use crate::clamping::put_margin;
 use crate::lines::put_faulty_line;
@@ -115,21 +115,13 @@ fn put_last(
     put_left_line(out, next, offset, s, end)
 }
 
-// Up to what is told of the part.
-fn put_start_part(out: &mut [u8], at: usize, offset: u64, s: &[u8]) -> usize
-    ensures { λ r. ⌜ filling (now (out .exit)) r ≡ pour (filling (now (out .entry)) at)
-        (startPart offset (now (s .entry))) ⌝ }
-{
-    let margin = put_margin(out, at, offset, s, 0, 1);
-    put_bytes(out, margin, b"  Part: ")
-}
-
 // A part and a maximum.
 pub fn put_start(out: &mut [u8], at: usize, offset: u64, s: &[u8]) -> usize
     ensures { λ r. ⌜ filling (now (out .exit)) r ≡ pour (filling (now (out .entry)) at)
         (startLines offset (now (s .entry))) ⌝ }
 {
-    let called = put_start_part(out, at, offset, s);
+    let margin = put_margin(out, at, offset, s, 0, 1);
+    let called = put_bytes(out, margin, b"  Part: ");
     if s.len() == 0 {
         let next = put_bytes(out, called, b"cut\n");
         return put_mark(out, next, 1);

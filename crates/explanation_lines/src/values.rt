@@ -102,9 +102,7 @@ pub fn put_fault(out: &mut [u8], at: usize, what: What, size: usize) -> usize
 {
     let held = held_by(what);
     match held {
-        Held::Number => put_bytes(out, at, b"cut"),
-        Held::Byte => put_bytes(out, at, b"cut"),
-        Held::Bytes => put_bytes(out, at, b"cut"),
         Held::Left => put_size(out, at, size as u64),
+        _ => put_bytes(out, at, b"cut"),
     }
 }

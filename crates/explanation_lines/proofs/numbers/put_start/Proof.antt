@@ -16,8 +16,9 @@ unfolding letters itemOf startLines
 put-start-spec =
     tie.close
     (tie.spec
-    (λ c κs. search needs) (λ c. search needs) (λ c κs. search needs) (λ c κs. search needs) (λ c. search needs)
-    (λ c. rw (c .before .before .before .before .before .before .before .before .before .if1 .taken) (poured-both _ _ _ (c .before .before .before .before .before .before .before .before .before .before .before .before .put-start-part .ensures) (poured-both _ _ _ (c .before .before .before .before .before .before .put-bytes .ensures) (c .before .before .put-mark .ensures))))
+    (λ c κs. search needs) (λ c. search needs) (λ c κs. search needs) (λ c. search needs) (λ c κs. search needs)
+    (λ c κs. search needs) (λ c. search needs)
+    (λ c. rw (c .before .before .before .before .before .before .before .before .before .if1 .taken) (poured-three _ _ _ _ (c .before .before .before .before .before .before .before .before .before .before .before .before .before .before .before .before .before .put-margin .ensures) (c .before .before .before .before .before .before .before .before .before .before .before .before .put-bytes .ensures) (poured-both _ _ _ (c .before .before .before .before .before .before .put-bytes2 .ensures) (c .before .before .put-mark .ensures))))
     (λ c κs. search needs) (λ c. search needs) (λ c κs. search needs) (λ c κs. search needs) (λ c κs. search needs)
     (λ c. search needs)
-    (λ c. let h : 0 < length (c .before .before .before .before .before .before .before .before .before .before .before .before .before .before .before .before .before .before .before .before .args .s .now) = omega (arith, c .before .before .before .before .before .before .before .before .before .before .before .before .before .if1 .left) in rw (lt-ltb 0 _ h, ← c .before .before .before .before .before .before .before .before .before .before .before .first-byte .ensures) (search (poured-both, poured-three))))
+    (λ c. let h : 0 < length (c .before .before .before .before .before .before .before .before .before .before .before .before .before .before .before .before .before .before .before .before .before .before .before .before .before .args .s .now) = omega (arith, c .before .before .before .before .before .before .before .before .before .before .before .before .before .if1 .left) in rw (lt-ltb 0 _ h, ← c .before .before .before .before .before .before .before .before .before .before .before .first-byte .ensures) (poured-three _ _ _ _ (c .before .before .before .before .before .before .before .before .before .before .before .before .before .before .before .before .before .before .before .before .before .put-margin .ensures) (c .before .before .before .before .before .before .before .before .before .before .before .before .before .before .before .before .put-bytes .ensures) (poured-three _ _ _ _ (c .before .before .before .before .before .before .before .before .before .before .put-item .ensures) (c .before .before .before .before .before .before .put-byte .ensures) (c .before .before .put-last .ensures)))))

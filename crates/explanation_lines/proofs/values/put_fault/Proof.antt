@@ -2,6 +2,7 @@
 use mathlib.Core.Path.{_∙_, sym}
 use borrow.Author.Needs.{needs}
 use Rattle.types.specs.Letters.{letters}
+use Rattle.explanation_lines.proofs.LeftOrCut.{cut-poured}
 use Rattle.explanation_lines.proofs.values.put_fault.Statement.{statement}
 use Rattle.explanation_lines.proofs.values.put_fault.Tie as tie
 
@@ -10,13 +11,8 @@ unfolding letters
 put-fault-spec =
     tie.close
     (tie.spec
-    (λ c κs. search needs) (λ c. search needs) (λ c. search needs) (λ c κs. search needs) (λ c. search needs)
-    (λ c. search needs) (λ c κs. search needs) (λ c. search needs) (λ c. search needs) (λ c κs. search needs)
-    (λ c. search needs) (λ c κs. search needs) (λ c. search needs)
-    (λ c. rw (sym (c .before .before .before .before .before .before .before .held-by .ensures) ∙ c .before .before .before .before .before .enum-told .given .1) (c .before .before .put-bytes .ensures))
+    (λ c κs. search needs) (λ c. search needs) (λ c κs. search needs) (λ c. search needs) (λ c κs. search needs)
     (λ c. search needs)
-    (λ c. rw (sym (c .before .before .before .before .before .before .before .held-by .ensures) ∙ c .before .before .before .before .before .enum-told2 .given .1) (c .before .before .put-bytes2 .ensures))
+    (λ c. rw (sym (c .before .before .before .before .before .before .held-by .ensures) ∙ c .before .before .before .before .enum-told .given .1) (c .before .before .put-size .ensures))
     (λ c. search needs)
-    (λ c. rw (sym (c .before .before .before .before .before .before .before .held-by .ensures) ∙ c .before .before .before .before .before .enum-told3 .given .1) (c .before .before .put-bytes3 .ensures))
-    (λ c. search needs)
-    (λ c. rw (sym (c .before .before .before .before .before .before .held-by .ensures) ∙ c .before .before .before .before .enum-told4 .given .1) (c .before .before .put-size .ensures)))
+    (λ c. cut-poured _ _ (c .before .before .before .before .before .before .held-by .ensures) (c .before .before .before .before .before .match .keys2) (c .before .before .put-bytes .ensures)))
