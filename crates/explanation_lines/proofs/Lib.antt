@@ -1,4 +1,5 @@
 pub mod ClampedEnds
-pub mod PouredLines
+pub mod SizePoured
+pub mod LeftOrCut
 pub mod ShortestForm
 pub mod NumbersPoured

@@ -10,6 +10,7 @@ use Rattle.field.specs.Outcome.{onFound}
 use Rattle.field.specs.Entries.{numberAt}
 use Rattle.layout.specs.declared.FieldName.{FieldName}
 use Rattle.layout.specs.declared.FieldName.the-variants.{MessageLength, MaximumSubscribeId, TrackAlias, GroupId, ObjectId}
+use Rattle.types.specs.Letters.{letters}
 use Rattle.types.specs.Table.{nameOf}
 use Rattle.parts.specs.Telling.{partOf}
 use Rattle.parts.specs.declared.What.{What}
@@ -24,7 +25,8 @@ use Rattle.labels.specs.Meanings.{meaningOf}
 use Rattle.trace.specs.Fields.{offsetOf}
 use Rattle.explanation_lines.specs.Words.{wordOf}
 use Rattle.explanation_lines.specs.declared.Word.{Word}
-use Rattle.explanation_lines.specs.declared.Word.the-variants.{Start as AStart, Message as AMessage, Arrival as AnArrival, Tag, Comma, Colon, Cut, Part as APart, Mark, Answered as AnAnswer, Fault as AFault, Hexadecimal, Named, Close, ShortestForm, CutField}
+use Rattle.explanation_lines.specs.declared.Held.{Held}
+use Rattle.explanation_lines.specs.declared.Held.the-variants.{Number as ANumber, Byte as AByte, Bytes, Left as NoPart}
 
 abbrev pub newline : List ℕ
 newline = 10 ∷ []
@@ -41,64 +43,63 @@ margin offset s start end = offsetColumn (offsetOf offset start) ++ bytesColumn 
 
 unfoldable pub tagWords : ℕ → List ℕ
 tagWords tag =
-    pick (eqb tag 1) (wordOf AStart)
-    (pick (eqb tag 2) (wordOf AMessage)
-    (pick (eqb tag 3) (wordOf AnArrival) (wordOf Tag ++ decimalOf tag)))
+    pick (eqb tag 1) (letters "start")
+    (pick (eqb tag 2) (letters "message")
+    (pick (eqb tag 3) (letters "arrival") (letters "tag " ++ decimalOf tag)))
 
 unfoldable pub fieldLine : ℕ → List ℕ → List ℕ
 fieldLine offset field =
-    margin offset field 0 3 ++ tagWords (getD field 0 0) ++ wordOf Comma ++ sizeText (length field - 3) ++ newline
+    margin offset field 0 3 ++ tagWords (getD field 0 0) ++ letters ", " ++ sizeText (length field - 3) ++ newline
 
 -- ---- the line of a part, of bytes whose first one has that offset
 
 -- two places to the right; what it is called,
 unfoldable pub called : ℕ → List ℕ → Part → List ℕ
 called offset s p =
-    margin offset s (p .start) (p .end) ++ spaces 2 ++ labelOf (p .name) (p .what) ++ wordOf Colon
+    margin offset s (p .start) (p .end) ++ spaces 2 ++ labelOf (p .name) (p .what) ++ letters ": "
 
 -- and what it holds: a type has a name, if it is known
 unfoldable pub typeText : ℕ → List ℕ
 typeText n =
-    let digits = wordOf Hexadecimal ++ hexOf n in
-    pick (ltb 0 (length (nameOf n))) (nameOf n ++ wordOf Named ++ digits ++ wordOf Close) digits
+    pick (ltb 0 (length (nameOf n))) (nameOf n ++ letters " (0x" ++ hexOf n ++ letters ")") (letters "0x" ++ hexOf n)
 
 -- a number in more bytes than it needs is shown in its shortest form too
 unfoldable pub shortestText : ℕ → ℕ → List ℕ
-shortestText used n = pick (eqb used (sizeOf n)) [] (wordOf ShortestForm ++ hexBytes (encOf n))
+shortestText used n = pick (eqb used (sizeOf n)) [] (letters ", shortest form " ++ hexBytes (encOf n))
 
-unfoldable pub numberText : Bool → Part → List ℕ
-numberText isType p =
-    pick isType (typeText (p .value)) (decimalOf (p .value)) ++ shortestText (p .end - p .start) (p .value)
+unfoldable pub numberText : Bool → ℕ → ℕ → List ℕ
+numberText isType used n = pick isType (typeText n) (decimalOf n) ++ shortestText used n
 
 -- what a part holds: a number; a byte; bytes
-abbrev pub valueBy : What → Bool → List ℕ → Part → List ℕ
-valueBy Number isType s p = numberText isType p
-valueBy Length isType s p = numberText isType p
-valueBy Count isType s p = numberText isType p
-valueBy EntryNumber isType s p = numberText isType p
-valueBy EntryLength isType s p = numberText isType p
-valueBy Byte isType s p = decimalOf (p .value)
-valueBy Content isType s p = contentText (between s (p .start) (p .end))
-valueBy EntryContent isType s p = contentText (between s (p .start) (p .end))
-valueBy Left isType s p = sizeText (p .end - p .start)
+abbrev pub heldBy : What → Held
+heldBy Number = ANumber
+heldBy Length = ANumber
+heldBy Count = ANumber
+heldBy EntryNumber = ANumber
+heldBy EntryLength = ANumber
+heldBy Byte = AByte
+heldBy Content = Bytes
+heldBy EntryContent = Bytes
+heldBy Left = NoPart
+
+abbrev pub valueText : Held → Bool → List ℕ → Part → List ℕ
+valueText ANumber isType s p = numberText isType (p .end - p .start) (p .value)
+valueText AByte isType s p = decimalOf (p .value)
+valueText Bytes isType s p = contentText (between s (p .start) (p .end))
+valueText NoPart isType s p = sizeText (p .end - p .start)
 
 unfoldable pub partLine : ℕ → List ℕ → Bool → Part → List ℕ
-partLine offset s isType p = called offset s p ++ valueBy (p .what) isType s p ++ newline
+partLine offset s isType p = called offset s p ++ valueText (heldBy (p .what)) isType s p ++ newline
 
 -- a part that the end cuts, or bytes that no part takes
-abbrev pub faultBy : What → Part → List ℕ
-faultBy Number p = wordOf Cut
-faultBy Length p = wordOf Cut
-faultBy Count p = wordOf Cut
-faultBy EntryNumber p = wordOf Cut
-faultBy EntryLength p = wordOf Cut
-faultBy Byte p = wordOf Cut
-faultBy Content p = wordOf Cut
-faultBy EntryContent p = wordOf Cut
-faultBy Left p = sizeText (p .end - p .start)
+abbrev pub faultText : Held → ℕ → List ℕ
+faultText ANumber size = letters "cut"
+faultText AByte size = letters "cut"
+faultText Bytes size = letters "cut"
+faultText NoPart size = sizeText size
 
 unfoldable pub faultyLine : ℕ → List ℕ → Part → List ℕ
-faultyLine offset s p = called offset s p ++ faultBy (p .what) p ++ newline
+faultyLine offset s p = called offset s p ++ faultText (heldBy (p .what)) (p .end - p .start) ++ newline
 
 -- bytes that are left, if there are any
 unfoldable pub leftLine : ℕ → List ℕ → ℕ → List ℕ
@@ -108,21 +109,21 @@ leftLine offset s used =
 -- ---- what is said of a part, or of a field, by document 01's number
 
 unfoldable pub numbered : ℕ → List ℕ
-numbered number = decimalOf number ++ wordOf Comma ++ meaningOf number
+numbered number = decimalOf number ++ letters ", " ++ meaningOf number
 
 -- "a refused part": the mark stands under it
 unfoldable pub markLine : ℕ → List ℕ
-markLine number = spaces 33 ++ wordOf Mark ++ numbered number ++ newline
+markLine number = spaces 33 ++ letters "^ " ++ numbered number ++ newline
 
 -- with a 13 stands its rule
 unfoldable pub ruleText : ℕ → List ℕ
 ruleText rule = pick (eqb rule 0) [] (spaces 1 ++ itemOf (Rule rule))
 
 unfoldable pub answerLine : ℕ → ℕ → List ℕ
-answerLine number rule = spaces 5 ++ wordOf AnAnswer ++ numbered number ++ ruleText rule ++ newline
+answerLine number rule = spaces 5 ++ letters "answered " ++ numbered number ++ ruleText rule ++ newline
 
 unfoldable pub faultLine : Word → List ℕ
-faultLine reason = spaces 5 ++ wordOf AFault ++ wordOf reason ++ newline
+faultLine reason = spaces 5 ++ letters "fault: " ++ wordOf reason ++ newline
 
 -- ---- the values that a trace has itself
 
@@ -142,16 +143,14 @@ unfoldable pub arrivalLines : ℕ → List ℕ → List ℕ
 arrivalLines offset s = numberLines (TrackAlias ∷ GroupId ∷ ObjectId ∷ []) offset s 0
 
 -- "part (one byte: 0 subscriber, 1 publisher), then the maximum"
-unfoldable pub startPart : ℕ → List ℕ → List ℕ
-startPart offset s = margin offset s 0 1 ++ spaces 2 ++ wordOf APart ++ wordOf Colon
-
 unfoldable pub startLines : ℕ → List ℕ → List ℕ
 startLines offset s =
-    startPart offset s ++
-    guard (ltb 0 (length s)) (wordOf Cut ++ newline ++ markLine 1)
+    margin offset s 0 1 ++ letters "  Part: " ++
+    guard (ltb 0 (length s)) (letters "cut" ++ newline ++ markLine 1)
     (decimalOf (getD s 0 0) ++ newline ++ numberLines (MaximumSubscribeId ∷ []) offset s 1)
 
 -- ---- a field that the trace's end cuts
 
 unfoldable pub cutFieldLine : ℕ → List ℕ → List ℕ
-cutFieldLine offset rest = margin offset rest 0 (length rest) ++ wordOf CutField ++ sizeText (length rest) ++ newline
+cutFieldLine offset rest =
+    margin offset rest 0 (length rest) ++ letters "cut field, " ++ sizeText (length rest) ++ newline

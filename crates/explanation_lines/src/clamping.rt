@@ -1,6 +1,7 @@
 // Bytes from an offset up to another, as far as they are there.
 ghost use mathlib.Core.Path.{_≡_};
 ghost use Prim.Native.Nat.{_-_, min};
+ghost use lib.ListN.{getD};
 ghost use Rattle.columns.specs.Columns.{bytesColumn, contentText};
 ghost use Rattle.columns.specs.Pouring.{filling, pour};
 ghost use Rattle.explanation_lines.specs.Lines.{between, margin};
@@ -13,6 +14,16 @@ pub fn size_between(start: usize, end: usize) -> usize
         return 0;
     }
     end - start
+}
+
+// The first byte, or 0 where there is none.
+pub fn first_byte(s: &[u8]) -> u8
+    ensures { λ r. ⌜ r ≡ getD (now (s .entry)) 0 0 ⌝ }
+{
+    if s.len() == 0 {
+        return 0;
+    }
+    s[0]
 }
 
 fn at_most(n: usize, most: usize) -> usize
@@ -43,7 +54,14 @@ pub fn put_content_between(out: &mut [u8], at: usize, s: &[u8], start: usize, en
 }
 
 // What a line begins with: the offset of its bytes, and the bytes.
-pub fn put_margin(out: &mut [u8], at: usize, offset: u64, s: &[u8], start: usize, end: usize) -> usize
+pub fn put_margin(
+    out: &mut [u8],
+    at: usize,
+    offset: u64,
+    s: &[u8],
+    start: usize,
+    end: usize,
+) -> usize
     ensures { λ r. ⌜ filling (now (out .exit)) r ≡ pour (filling (now (out .entry)) at)
         (margin offset (now (s .entry)) start end) ⌝ }
 {

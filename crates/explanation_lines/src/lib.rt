@@ -17,24 +17,8 @@ pub use lines::put_reason;
 pub use numbers::put_arrival;
 pub use numbers::put_start;
 
-// The words of an explanation.
+// The words that say why a trace is at fault.
 pub enum Word {
-    Start,
-    Message,
-    Arrival,
-    Tag,
-    Comma,
-    Colon,
-    Cut,
-    Part,
-    Mark,
-    Answered,
-    Fault,
-    Hexadecimal,
-    Named,
-    Close,
-    ShortestForm,
-    CutField,
     NoTag,
     NotFirst,
     SecondStart,
@@ -43,4 +27,12 @@ pub enum Word {
     NoArrival,
     EndsInside,
     NoBytes,
+}
+
+// What a part holds; or it is what no part takes.
+enum Held {
+    Number,
+    Byte,
+    Bytes,
+    Left,
 }

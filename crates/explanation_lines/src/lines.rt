@@ -1,17 +1,18 @@
 // The lines of an explanation.
 ghost use mathlib.Core.Path.{_≡_};
 ghost use mathlib.Core.List.{_++_};
-ghost use lib.ListN.{getD};
 ghost use Rattle.columns.specs.Pouring.{filling, pour};
 ghost use Rattle.columns.specs.Columns.{sizeText};
 ghost use Rattle.explanation_lines.specs.Lines.{newline, tagWords, fieldLine, called, partLine, faultyLine, leftLine, numbered, markLine, ruleText, answerLine, faultLine, cutFieldLine};
 use crate::Word;
+use crate::clamping::first_byte;
 use crate::clamping::put_margin;
 use crate::clamping::size_between;
 use crate::values::put_fault;
 use crate::values::put_value;
 use crate::words::put_word;
 use columns::put_byte;
+use columns::put_bytes;
 use columns::put_item;
 use columns::put_size;
 use columns::put_spaces;
@@ -28,11 +29,11 @@ fn put_tag(out: &mut [u8], at: usize, tag: u8) -> usize
     ensures { λ r. ⌜ filling (now (out .exit)) r ≡ pour (filling (now (out .entry)) at) (tagWords tag) ⌝ }
 {
     match tag {
-        1 => put_word(out, at, Word::Start),
-        2 => put_word(out, at, Word::Message),
-        3 => put_word(out, at, Word::Arrival),
+        1 => put_bytes(out, at, b"start"),
+        2 => put_bytes(out, at, b"message"),
+        3 => put_bytes(out, at, b"arrival"),
         _ => {
-            let next = put_word(out, at, Word::Tag);
+            let next = put_bytes(out, at, b"tag ");
             put_item(out, next, Item::Number(tag as u64))
         }
     }
@@ -46,23 +47,14 @@ fn put_sized(out: &mut [u8], at: usize, size: usize) -> usize
     put_byte(out, next, b'\n')
 }
 
-fn tag_of(field: &[u8]) -> u8
-    ensures { λ r. ⌜ r ≡ getD (now (field .entry)) 0 0 ⌝ }
-{
-    if field.len() == 0 {
-        return 0;
-    }
-    field[0]
-}
-
 // What it is by its tag, and the length of its value.
 pub fn put_field_line(out: &mut [u8], at: usize, offset: u64, field: &[u8]) -> usize
     ensures { λ r. ⌜ filling (now (out .exit)) r ≡ pour (filling (now (out .entry)) at)
         (fieldLine offset (now (field .entry))) ⌝ }
 {
     let margin = put_margin(out, at, offset, field, 0, 3);
-    let tagged = put_tag(out, margin, tag_of(field));
-    let next = put_word(out, tagged, Word::Comma);
+    let tagged = put_tag(out, margin, first_byte(field));
+    let next = put_bytes(out, tagged, b", ");
     put_sized(out, next, size_between(3, field.len()))
 }
 
@@ -78,10 +70,17 @@ fn put_called(out: &mut [u8], at: usize, offset: u64, s: &[u8], part: Part) -> u
     let name = part.name;
     let what = part.what;
     let labelled = put_label(out, indented, name, what);
-    put_word(out, labelled, Word::Colon)
+    put_bytes(out, labelled, b": ")
 }
 
-pub fn put_part_line(out: &mut [u8], at: usize, offset: u64, s: &[u8], typed: bool, part: Part) -> usize
+pub fn put_part_line(
+    out: &mut [u8],
+    at: usize,
+    offset: u64,
+    s: &[u8],
+    typed: bool,
+    part: Part,
+) -> usize
     ensures { λ r. ⌜ filling (now (out .exit)) r ≡ pour (filling (now (out .entry)) at)
         (partLine offset (now (s .entry)) typed part) ⌝ }
 {
@@ -95,7 +94,8 @@ pub fn put_faulty_line(out: &mut [u8], at: usize, offset: u64, s: &[u8], part: P
         (faultyLine offset (now (s .entry)) part) ⌝ }
 {
     let called = put_called(out, at, offset, s, part);
-    let next = put_fault(out, called, part);
+    let what = part.what;
+    let next = put_fault(out, called, what, size_between(part.start, part.end));
     put_byte(out, next, b'\n')
 }
 
@@ -123,7 +123,7 @@ fn put_numbered(out: &mut [u8], at: usize, number: u8) -> usize
     ensures { λ r. ⌜ filling (now (out .exit)) r ≡ pour (filling (now (out .entry)) at) (numbered number) ⌝ }
 {
     let first = put_item(out, at, Item::Number(number as u64));
-    let next = put_word(out, first, Word::Comma);
+    let next = put_bytes(out, first, b", ");
     put_meaning(out, next, number)
 }
 
@@ -131,8 +131,7 @@ fn put_numbered(out: &mut [u8], at: usize, number: u8) -> usize
 pub fn put_mark(out: &mut [u8], at: usize, number: u8) -> usize
     ensures { λ r. ⌜ filling (now (out .exit)) r ≡ pour (filling (now (out .entry)) at) (markLine number) ⌝ }
 {
-    let indented = put_spaces(out, at, 33);
-    let marked = put_word(out, indented, Word::Mark);
+    let marked = put_bytes(out, at, b"                                 ^ ");
     let next = put_numbered(out, marked, number);
     put_byte(out, next, b'\n')
 }
@@ -144,15 +143,14 @@ fn put_rule(out: &mut [u8], at: usize, rule: u8) -> usize
     if rule == 0 {
         return at;
     }
-    let next = put_spaces(out, at, 1);
+    let next = put_byte(out, at, b' ');
     put_item(out, next, Item::Rule(rule as u64))
 }
 
 pub fn put_answer(out: &mut [u8], at: usize, number: u8, rule: u8) -> usize
     ensures { λ r. ⌜ filling (now (out .exit)) r ≡ pour (filling (now (out .entry)) at) (answerLine number rule) ⌝ }
 {
-    let indented = put_spaces(out, at, 5);
-    let answered = put_word(out, indented, Word::Answered);
+    let answered = put_bytes(out, at, b"     answered ");
     let told = put_numbered(out, answered, number);
     let next = put_rule(out, told, rule);
     put_byte(out, next, b'\n')
@@ -162,8 +160,7 @@ pub fn put_answer(out: &mut [u8], at: usize, number: u8, rule: u8) -> usize
 pub fn put_reason(out: &mut [u8], at: usize, reason: Word) -> usize
     ensures { λ r. ⌜ filling (now (out .exit)) r ≡ pour (filling (now (out .entry)) at) (faultLine reason) ⌝ }
 {
-    let indented = put_spaces(out, at, 5);
-    let fault = put_word(out, indented, Word::Fault);
+    let fault = put_bytes(out, at, b"     fault: ");
     let next = put_word(out, fault, reason);
     put_byte(out, next, b'\n')
 }
@@ -174,6 +171,6 @@ pub fn put_cut_field(out: &mut [u8], at: usize, offset: u64, rest: &[u8]) -> usi
         (cutFieldLine offset (now (rest .entry))) ⌝ }
 {
     let margin = put_margin(out, at, offset, rest, 0, rest.len());
-    let next = put_word(out, margin, Word::CutField);
+    let next = put_bytes(out, margin, b"cut field, ");
     put_sized(out, next, rest.len())
 }

@@ -6,17 +6,16 @@ ghost use Rattle.columns.specs.Pouring.{filling, pour};
 ghost use Rattle.parts.specs.Telling.{partOf};
 ghost use Rattle.parts.specs.declared.What.the-variants.{Number};
 ghost use Rattle.layout.specs.declared.FieldName.the-variants.{MaximumSubscribeId};
-ghost use Rattle.explanation_lines.specs.Lines.{partLine, cutLines, numberLines, arrivalLines, startPart, startLines};
-use crate::Word;
+ghost use Rattle.explanation_lines.specs.Lines.{partLine, cutLines, numberLines, arrivalLines, startLines};
+use crate::clamping::first_byte;
 use crate::clamping::put_margin;
 use crate::lines::put_faulty_line;
 use crate::lines::put_left_line;
 use crate::lines::put_mark;
 use crate::lines::put_part_line;
-use crate::words::put_word;
 use columns::put_byte;
+use columns::put_bytes;
 use columns::put_item;
-use columns::put_spaces;
 use field::NumberRead;
 use layout::FieldName;
 use parts::Part;
@@ -40,8 +39,16 @@ fn put_cut(out: &mut [u8], at: usize, offset: u64, s: &[u8], name: FieldName, st
 }
 
 // A number that is there, from start up to end.
-fn put_number_line(out: &mut [u8], at: usize, offset: u64, s: &[u8], name: FieldName, n: u64, start: usize, end: usize)
-    -> usize
+fn put_number_line(
+    out: &mut [u8],
+    at: usize,
+    offset: u64,
+    s: &[u8],
+    name: FieldName,
+    n: u64,
+    start: usize,
+    end: usize,
+) -> usize
     ensures { λ r. ⌜ filling (now (out .exit)) r ≡ pour (filling (now (out .entry)) at)
         (partLine offset (now (s .entry)) false (partOf name Number n start end)) ⌝ }
 {
@@ -63,16 +70,41 @@ pub fn put_arrival(out: &mut [u8], at: usize, offset: u64, s: &[u8]) -> usize
     let NumberRead::Whole(alias, group_at) = field::read_number(s, 0) else {
         return put_cut(out, at, offset, s, FieldName::TrackAlias, 0);
     };
-    let first = put_number_line(out, at, offset, s, FieldName::TrackAlias, alias, 0, group_at);
+    let first = put_number_line(
+        out,
+        at,
+        offset,
+        s,
+        FieldName::TrackAlias,
+        alias,
+        0,
+        group_at,
+    );
     let NumberRead::Whole(group, object_at) = field::read_number(s, group_at) else {
         return put_cut(out, first, offset, s, FieldName::GroupId, group_at);
     };
-    let second = put_number_line(out, first, offset, s, FieldName::GroupId, group, group_at, object_at);
+    let second = put_number_line(
+        out,
+        first,
+        offset,
+        s,
+        FieldName::GroupId,
+        group,
+        group_at,
+        object_at,
+    );
     put_last(out, second, offset, s, FieldName::ObjectId, object_at)
 }
 
 // The last number of a value, and what is left after it.
-fn put_last(out: &mut [u8], at: usize, offset: u64, s: &[u8], name: FieldName, start: usize) -> usize
+fn put_last(
+    out: &mut [u8],
+    at: usize,
+    offset: u64,
+    s: &[u8],
+    name: FieldName,
+    start: usize,
+) -> usize
     ensures { λ r. ⌜ filling (now (out .exit)) r ≡ pour (filling (now (out .entry)) at)
         (numberLines (name ∷ []) offset (now (s .entry)) start) ⌝ }
 {
@@ -83,29 +115,18 @@ fn put_last(out: &mut [u8], at: usize, offset: u64, s: &[u8], name: FieldName, s
     put_left_line(out, next, offset, s, end)
 }
 
-// Up to what is told of the part.
-fn put_start_part(out: &mut [u8], at: usize, offset: u64, s: &[u8]) -> usize
-    ensures { λ r. ⌜ filling (now (out .exit)) r ≡ pour (filling (now (out .entry)) at)
-        (startPart offset (now (s .entry))) ⌝ }
-{
-    let margin = put_margin(out, at, offset, s, 0, 1);
-    let indented = put_spaces(out, margin, 2);
-    let next = put_word(out, indented, Word::Part);
-    put_word(out, next, Word::Colon)
-}
-
 // A part and a maximum.
 pub fn put_start(out: &mut [u8], at: usize, offset: u64, s: &[u8]) -> usize
     ensures { λ r. ⌜ filling (now (out .exit)) r ≡ pour (filling (now (out .entry)) at)
         (startLines offset (now (s .entry))) ⌝ }
 {
-    let called = put_start_part(out, at, offset, s);
+    let margin = put_margin(out, at, offset, s, 0, 1);
+    let called = put_bytes(out, margin, b"  Part: ");
     if s.len() == 0 {
-        let cut = put_word(out, called, Word::Cut);
-        let ended = put_byte(out, cut, b'\n');
-        return put_mark(out, ended, 1);
+        let next = put_bytes(out, called, b"cut\n");
+        return put_mark(out, next, 1);
     }
-    let part = put_item(out, called, Item::Number(s[0] as u64));
+    let part = put_item(out, called, Item::Number(first_byte(s) as u64));
     let next = put_byte(out, part, b'\n');
     put_last(out, next, offset, s, FieldName::MaximumSubscribeId, 1)
 }

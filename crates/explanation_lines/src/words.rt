@@ -1,4 +1,4 @@
-// The words of an explanation. They have one text, in which they stand one after the other.
+// Why a trace is at fault. The words have one text, in which they stand one after the other.
 ghost use mathlib.Core.Path.{_≡_};
 ghost use Rattle.text.specs.Parts.{partOf, LiesWithin, Stands};
 ghost use Rattle.columns.specs.Pouring.{filling, pour};
@@ -13,30 +13,14 @@ fn word_span(word: Word) -> Span
     ensures { λ r. ⌜ Stands wordsText (wordOf word) (r .0) (r .1) ⌝ }
 {
     match word {
-        Word::Start => Span(0, 5),
-        Word::Message => Span(5, 12),
-        Word::Arrival => Span(12, 19),
-        Word::Tag => Span(19, 23),
-        Word::Comma => Span(23, 25),
-        Word::Colon => Span(25, 27),
-        Word::Cut => Span(27, 30),
-        Word::Part => Span(30, 34),
-        Word::Mark => Span(34, 36),
-        Word::Answered => Span(36, 45),
-        Word::Fault => Span(45, 52),
-        Word::Hexadecimal => Span(52, 54),
-        Word::Named => Span(54, 56),
-        Word::Close => Span(56, 57),
-        Word::ShortestForm => Span(57, 73),
-        Word::CutField => Span(73, 84),
-        Word::NoTag => Span(84, 101),
-        Word::NotFirst => Span(101, 128),
-        Word::SecondStart => Span(128, 142),
-        Word::NoStart => Span(142, 179),
-        Word::NoMessage => Span(179, 200),
-        Word::NoArrival => Span(200, 231),
-        Word::EndsInside => Span(231, 263),
-        Word::NoBytes => Span(263, 271),
+        Word::NoTag => Span(0, 17),
+        Word::NotFirst => Span(17, 44),
+        Word::SecondStart => Span(44, 58),
+        Word::NoStart => Span(58, 95),
+        Word::NoMessage => Span(95, 116),
+        Word::NoArrival => Span(116, 147),
+        Word::EndsInside => Span(147, 179),
+        Word::NoBytes => Span(179, 187),
     }
 }
 
@@ -56,22 +40,6 @@ pub fn put_word(out: &mut [u8], at: usize, word: Word) -> usize
 {
     let span = word_span(word);
     let words = b"\
-        start\
-        message\
-        arrival\
-        tag \
-        , \
-        : \
-        cut\
-        Part\
-        ^ \
-        answered \
-        fault: \
-        0x\
-        \x20(\
-        )\
-        , shortest form \
-        cut field, \
         no tag of a trace\
         the first field is no start\
         a second start\

@@ -8,7 +8,4 @@ pub put-sized-spec : {M : Type 1} → statement M
 put-sized-spec =
     tie.close
     (tie.spec
-    (λ c κs. search needs)
-    (λ c κs. search needs)
-    (λ c. search needs)
-    (λ c. poured-both _ _ _ (c .before .before .before .before .before .before .put-size .ensures) (c .before .before .put-byte .ensures)))
+    (λ c κs. search needs) (λ c κs. search needs) (λ c. search needs) (λ c. search poured-both))

@@ -6,21 +6,11 @@ use Rattle.explanation_lines.proofs.NumbersPoured.{number-cut, number-p
 use Rattle.explanation_lines.proofs.numbers.put_last.Statement.{statement}
 use Rattle.explanation_lines.proofs.numbers.put_last.Tie as tie
 
-returns-2 : tie.Need-returns-2
-unfolding numberLines
-returns-2 c = number-poured [] _ _ _ _ (c .before .before .before .before .before .before .before .before .before .before .before .read-number .ensures) _ (c .before .before .before .before .before .before .before .before .before .n .given .1) (c .before .before .before .before .before .before .put-number-line .ensures) (c .before .before .put-left-line .ensures)
-
 pub put-last-spec : {M : Type 1} → statement M
+unfolding numberLines
 put-last-spec =
     tie.close
     (tie.spec
-    (λ c κs. search needs)
-    (λ c. search needs)
-    (λ c. search needs)
-    (λ c κs. search needs)
-    (λ c. search needs)
-    (λ c. number-cut _ _ _ _ _ (c .before .before .before .before .before .before .read-number .ensures) _ (c .before .before .before .before .enum-told .given .1) (c .before .before .put-cut .ensures))
-    (λ c κs. search needs)
-    (λ c κs. search needs)
-    (λ c. search needs)
-    returns-2)
+    (λ c κs. search needs) (λ c. search needs) (λ c. search needs) (λ c κs. search needs) (λ c. search needs)
+    (λ c. search number-cut) (λ c κs. search needs) (λ c κs. search needs) (λ c. search needs)
+    (λ c. number-poured [] _ _ _ _ (c .before .before .before .before .before .before .before .before .before .before .before .read-number .ensures) _ (c .before .before .before .before .before .before .before .before .before .n .given .1) (c .before .before .before .before .before .before .put-number-line .ensures) (c .before .before .put-left-line .ensures)))

@@ -6,15 +6,11 @@ use Rattle.columns.proofs.ItemAlone.{alone-length}
 use Rattle.explanation_lines.proofs.values.name_size.Statement.{statement}
 use Rattle.explanation_lines.proofs.values.name_size.Tie as tie
 
-returns : tie.Need-returns
-unfolding itemOf
-returns c = omega (arith, c .measure .ensures, alone-length _ (c .before .of1 .ensures))
-
 pub name-size-spec : {M : Type 1} → statement M
+unfolding itemOf
 name-size-spec =
     tie.close
     (tie.spec
-    (λ c κs. search needs)
-    (λ c κs. search needs)
+    (λ c κs. search needs) (λ c κs. search needs)
     (λ c. omega (arith, c .measure .ensures, alone-length _ (c .before .of1 .ensures)))
-    returns)
+    (λ c. omega (arith, c .measure .ensures, alone-length _ (c .before .of1 .ensures))))

@@ -3,7 +3,6 @@ use borrow.Author.Needs.{needs}
 use Rattle.types.specs.Letters.{letters}
 use Rattle.text.specs.Parts.{inOneText}
 use Rattle.explanation_lines.specs.Words.{wordOf, words, wordsText}
-use Rattle.explanation_lines.proofs.PouredLines.{stands-poured}
 use Rattle.explanation_lines.proofs.words.put_word.Statement.{statement}
 use Rattle.explanation_lines.proofs.words.put_word.Tie as tie
 
@@ -12,7 +11,5 @@ unfolding letters inOneText wordOf words wordsText
 put-word-spec =
     tie.close
     (tie.spec
-    (λ c κs. search needs)
-    (λ c κs. c .before .before .before .word-span .ensures .lies)
-    (λ c. search needs)
-    (λ c. stands-poured _ (c .before .before .before .before .before .before .word-span .ensures) (c .before .before .put-part .ensures)))
+    (λ c κs. search needs) (λ c κs. c .before .before .before .word-span .ensures .lies) (λ c. search needs)
+    (λ c. rw (← c .before .before .before .before .before .before .word-span .ensures .is) (c .before .before .put-part .ensures)))
