@@ -1,6 +1,4 @@
 pub mod FieldValues
-pub mod FieldsTaken
-pub mod FaultLines
 pub mod DueLines
 pub mod PrintedParts
 pub mod ReadersAnswers

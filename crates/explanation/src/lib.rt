@@ -1,15 +1,14 @@
-// What each byte of a trace, or of a control stream, is: line by line, into a lent buffer. What doesn't fit the buffer
-// is lost; a call puts at most LONGEST_LINES bytes.
+// What each byte of a field of a trace, or of a message of a control stream, is: line by line, into a lent buffer. What
+// doesn't fit the buffer is lost; a call puts at most LONGEST_LINES bytes.
 mod telling;
-mod traces;
 
 use parts::Cursor;
-use replay::Progress;
+pub use telling::begin_field;
 pub use telling::begin_message;
 pub use telling::is_over;
 pub use telling::next;
-pub use traces::put_end;
-pub use traces::tell;
+pub use telling::over;
+pub use telling::tag_of;
 
 // How many bytes a call puts at most.
 pub const LONGEST_LINES: usize = 2048;
@@ -55,12 +54,4 @@ pub struct Explaining {
 pub struct NextLines {
     pub at: usize,
     pub next: Explaining,
-}
-
-// A field that was taken: what is to be explained of it, the progress after it, and where it ends. Where no whole field
-// stands, nothing is used.
-pub struct FieldTaken {
-    pub explaining: Explaining,
-    pub progress: Progress,
-    pub used: usize,
 }

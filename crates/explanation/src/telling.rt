@@ -3,7 +3,8 @@ ghost use mathlib.Core.Path.{_≡_};
 ghost use Prim.Native.Nat.{min};
 ghost use lib.ListN.{getD};
 ghost use Rattle.columns.specs.Pouring.{filling, pour};
-ghost use Rattle.explanation.specs.Telling.{duly, onTo, valueLines, dueAfter, fieldTold, stepLines, afterStep, partTold, reasonWord, endingLine, nextTold, Tells, messageBegun, isNothing};
+ghost use Rattle.explanation.specs.Telling.{duly, onTo, valueLines, dueAfter, fieldTold, stepLines, afterStep, partTold, reasonWord, endingLine, nextTold, Tells, fieldBegun, messageBegun, isNothing};
+ghost use Rattle.explanation.specs.declared.Due.the-variants.{Nothing};
 use crate::Due;
 use crate::Ending;
 use crate::Explaining;
@@ -23,6 +24,21 @@ use parts::Cursor;
 use parts::Step;
 use parts::Subject;
 
+// A field, whose tag has that offset.
+pub fn begin_field(field: &[u8], offset: u64, ending: Ending) -> Explaining
+    ensures { λ r. ⌜ r ≡ fieldBegun (now (field .entry)) offset ending ⌝ }
+{
+    let start = at_most(3, field.len());
+    let cursor = parts::begin(Subject::Message, &field[start..]);
+    Explaining {
+        due: Due::Field,
+        cursor,
+        ending,
+        offset,
+        start: 3,
+    }
+}
+
 // A message of a control stream, whose first byte has that offset, at the front of s.
 pub fn begin_message(s: &[u8], offset: u64) -> Explaining
     ensures { λ r. ⌜ r ≡ messageBegun (now (s .entry)) offset ⌝ }
@@ -37,7 +53,7 @@ pub fn begin_message(s: &[u8], offset: u64) -> Explaining
     }
 }
 
-pub fn at_most(n: usize, most: usize) -> usize
+fn at_most(n: usize, most: usize) -> usize
     ensures { λ r. ⌜ r ≡ min n most ⌝ }
 {
     if n <= most {
@@ -60,7 +76,7 @@ pub fn is_over(e: Explaining) -> bool
 }
 
 // The same, with another line due.
-pub fn duly(e: Explaining, due: Due) -> Explaining
+fn duly(e: Explaining, due: Due) -> Explaining
     ensures { λ r. ⌜ r ≡ duly e due ⌝ }
 {
     let cursor = e.cursor;
@@ -72,6 +88,13 @@ pub fn duly(e: Explaining, due: Due) -> Explaining
         offset: e.offset,
         start: e.start,
     }
+}
+
+// With no line due: nothing of it is told.
+pub fn over(e: Explaining) -> Explaining
+    ensures { λ r. ⌜ r ≡ duly e Nothing ⌝ }
+{
+    duly(e, Due::Nothing)
 }
 
 // And with another part next.

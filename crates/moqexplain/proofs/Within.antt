@@ -15,8 +15,8 @@ use Rattle.message_writer.proofs.Theorems.{used-there}
 use Rattle.trace.specs.Fields.{fieldSize, isWhole}
 use Rattle.trace.proofs.Fed.{size-head, whole-fits}
 use Rattle.replay.specs.declared.Progress.{Progress}
-use Rattle.explanation.specs.Traces.{takenAt}
-use Rattle.explanation.specs.declared.FieldTaken.{FieldTaken}
+use Rattle.explanation_traces.specs.Traces.{takenAt}
+use Rattle.explanation_traces.specs.declared.FieldTaken.{FieldTaken}
 use Rattle.moqexplain.specs.Ending.{Ends, Within}
 use Rattle.moqexplain.specs.declared.Found.the-variants.{Whole, More, Refused}
 

@@ -73,7 +73,7 @@ fn finish(p: Progress, rest: &[u8], got: isize) {
         return;
     }
     let mut out = [0u8; explanation::LONGEST_LINES];
-    let end = explanation::put_end(&mut out, 0, p, rest);
+    let end = explanation_traces::put_end(&mut out, 0, p, rest);
     write(&out[..end]);
 }
 
@@ -86,7 +86,7 @@ fn print_fields(p: Progress, s: &[u8]) -> Printed
     let mut progress = p;
     let mut used: usize = 0;
     loop {
-        let taken = explanation::tell(progress, s, used);
+        let taken = explanation_traces::tell(progress, s, used);
         let next = taken.used;
         if next == used {
             let written = write(&out[..at]);

@@ -1,9 +1,9 @@
 -- `reason_of` meets its contract. Assumes nothing.
 use borrow.Author.Needs.{needs}
 use borrow.Author.Tests.{ne-eqb}
-use Rattle.explanation.specs.Traces.{reasonOf}
-use Rattle.explanation.proofs.traces.reason_of.Statement.{statement}
-use Rattle.explanation.proofs.traces.reason_of.Tie as tie
+use Rattle.explanation_traces.specs.Traces.{reasonOf}
+use Rattle.explanation_traces.proofs.traces.reason_of.Statement.{statement}
+use Rattle.explanation_traces.proofs.traces.reason_of.Tie as tie
 
 pub reason-of-spec : {M : Type 1} → statement M
 unfolding reasonOf

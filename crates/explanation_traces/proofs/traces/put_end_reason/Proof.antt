@@ -2,8 +2,8 @@
 use borrow.Author.Needs.{needs}
 use borrow.Author.Tests.{eq-eqb, ne-eqb}
 use Rattle.columns.specs.Pouring.{pour}
-use Rattle.explanation.proofs.traces.put_end_reason.Statement.{statement}
-use Rattle.explanation.proofs.traces.put_end_reason.Tie as tie
+use Rattle.explanation_traces.proofs.traces.put_end_reason.Statement.{statement}
+use Rattle.explanation_traces.proofs.traces.put_end_reason.Tie as tie
 
 pub put-end-reason-spec : {M : Type 1} → statement M
 unfolding pour

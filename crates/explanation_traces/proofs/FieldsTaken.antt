@@ -14,11 +14,11 @@ use Rattle.replay.specs.declared.Event.{Event}
 use Rattle.replay.specs.declared.Progress.{Progress}
 use Rattle.replay.specs.declared.Stepped.{Stepped}
 use Rattle.replay.proofs.FieldSteps.{stands, stands-none, stepped-is}
 use Rattle.explanation.specs.Telling.{duly, messageBegun}
-use Rattle.explanation.specs.Traces.{explainingBy, explainingIn, takenAt}
+use Rattle.explanation_traces.specs.Traces.{explainingBy, explainingIn, takenAt}
 use Rattle.explanation.specs.declared.Due.the-variants.{Nothing}
 use Rattle.explanation.specs.declared.Explaining.{Explaining}
-use Rattle.explanation.specs.declared.FieldTaken.{FieldTaken}
+use Rattle.explanation_traces.specs.declared.FieldTaken.{FieldTaken}
 
 module _ (p : Progress) (s : List ℕ) (at : ℕ) {r : FieldRead} (said : r ≡ fieldOf s at) where
   -- where none is whole, nothing is,

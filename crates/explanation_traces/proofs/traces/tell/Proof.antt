@@ -2,9 +2,9 @@
 use borrow.Author.Needs.{needs}
 use native.Mathlib.Omega.{arith}
 use Rattle.replay.proofs.FieldSteps.{stands}
-use Rattle.explanation.proofs.FieldsTaken.{none-taken, one-taken}
-use Rattle.explanation.proofs.traces.tell.Statement.{statement}
-use Rattle.explanation.proofs.traces.tell.Tie as tie
+use Rattle.explanation_traces.proofs.FieldsTaken.{none-taken, one-taken}
+use Rattle.explanation_traces.proofs.traces.tell.Statement.{statement}
+use Rattle.explanation_traces.proofs.traces.tell.Tie as tie
 
 pub tell-spec : {M : Type 1} → statement M
 tell-spec =

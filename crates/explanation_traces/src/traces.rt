@@ -4,45 +4,28 @@ ghost use mathlib.Core.List.{[]};
 ghost use Rattle.text.specs.Lines.{lineOf, faultLine as traceFault};
 ghost use Rattle.replay.specs.Progressing.{onFault};
 ghost use Rattle.columns.specs.Pouring.{filling, pour};
-ghost use Rattle.explanation.specs.Telling.{duly, fieldBegun, messageBegun};
+ghost use Rattle.explanation.specs.Telling.{duly, messageBegun};
 ghost use Rattle.explanation.specs.declared.Due.the-variants.{Nothing};
-ghost use Rattle.explanation.specs.Traces.{isEmpty, reasonOf, endingBy, shownIn, explainingBy, takenAt, endsInside, endReason, endText};
-use crate::Due;
-use crate::Ending;
-use crate::Explaining;
+ghost use Rattle.explanation_traces.specs.Traces.{isEmpty, reasonOf, endingBy, shownIn, explainingBy, takenAt, endsInside, endReason, endText};
 use crate::FieldTaken;
-use crate::Reason;
-use crate::telling::at_most;
-use crate::telling::begin_message;
-use crate::telling::duly;
-use crate::telling::tag_of;
 use columns::put_byte;
 use columns::put_item;
 use columns::put_spaces;
+use explanation::Ending;
+use explanation::Explaining;
+use explanation::Reason;
+use explanation::begin_field;
+use explanation::begin_message;
+use explanation::over;
+use explanation::tag_of;
 use explanation_lines::Word;
 use explanation_lines::put_cut_field;
 use explanation_lines::put_reason;
-use parts::Subject;
 use replay::Event;
 use replay::Progress;
 use replay::Stage;
 use text::Item;
 use trace::FieldRead;
-
-// A field, whose tag has that offset.
-fn begin_field(field: &[u8], offset: u64, ending: Ending) -> Explaining
-    ensures { λ r. ⌜ r ≡ fieldBegun (now (field .entry)) offset ending ⌝ }
-{
-    let start = at_most(3, field.len());
-    let cursor = parts::begin(Subject::Message, &field[start..]);
-    Explaining {
-        due: Due::Field,
-        cursor,
-        ending,
-        offset,
-        start: 3,
-    }
-}
 
 fn is_empty(stage: Stage) -> bool
     ensures { λ r. ⌜ r ≡ isEmpty stage ⌝ }
@@ -101,7 +84,7 @@ fn shown_in(stage: Stage, e: Explaining) -> Explaining
     match stage {
         Stage::Empty => e,
         Stage::Running => e,
-        Stage::Faulty(_) => duly(e, Due::Nothing),
+        Stage::Faulty(_) => over(e),
     }
 }
 
@@ -117,7 +100,7 @@ fn explain(stage: Stage, offset: u64, field: &[u8], e: Event, number: u8, rule: 
 fn explain_none(s: &[u8], offset: u64) -> Explaining
     ensures { λ r. ⌜ r ≡ duly (messageBegun (now (s .entry)) offset) Nothing ⌝ }
 {
-    duly(begin_message(s, offset), Due::Nothing)
+    over(begin_message(s, offset))
 }
 
 // The field at an offset is taken.

@@ -15,15 +15,15 @@ use Rattle.replay.specs.declared.Stage.{Stage}
 use Rattle.replay.specs.declared.Stage.the-variants.{Empty, Running, Faulty}
 use Rattle.replay.specs.declared.Progress.{Progress}
 use Rattle.explanation_lines.specs.Lines.{faultLine, cutFieldLine}
 use Rattle.explanation.specs.Telling.{duly, fieldBegun, messageBegun}
 use Rattle.explanation_lines.specs.declared.Word.the-variants.{EndsInside, NoBytes}
 use Rattle.explanation.specs.declared.Reason.{Reason}
 use Rattle.explanation.specs.declared.Reason.the-variants.{NoTag, NotFirst, SecondStart, NoStart, NoMessage, NoArrival}
 use Rattle.explanation.specs.declared.Ending.{Ending}
 use Rattle.explanation.specs.declared.Ending.the-variants.{Answered, Fault}
 use Rattle.explanation.specs.declared.Due.the-variants.{Nothing}
 use Rattle.explanation.specs.declared.Explaining.{Explaining}
-use Rattle.explanation.specs.declared.FieldTaken.{FieldTaken}
+use Rattle.explanation_traces.specs.declared.FieldTaken.{FieldTaken}
 
 -- ---- why a field is at fault: its tag; that it isn't due; or its value has another shape
 

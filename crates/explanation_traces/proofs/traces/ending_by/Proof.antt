@@ -1,7 +1,7 @@
 -- `ending_by` meets its contract. Assumes nothing.
 use borrow.Author.Needs.{needs}
-use Rattle.explanation.proofs.traces.ending_by.Statement.{statement}
-use Rattle.explanation.proofs.traces.ending_by.Tie as tie
+use Rattle.explanation_traces.proofs.traces.ending_by.Statement.{statement}
+use Rattle.explanation_traces.proofs.traces.ending_by.Tie as tie
 
 pub ending-by-spec : {M : Type 1} → statement M
 ending-by-spec =

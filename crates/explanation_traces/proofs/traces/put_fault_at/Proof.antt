@@ -1,8 +1,8 @@
 -- `put_fault_at` meets its contract. Assumes nothing.
 use borrow.Author.Needs.{needs}
-use Rattle.explanation.proofs.FaultLines.{fault-poured}
-use Rattle.explanation.proofs.traces.put_fault_at.Statement.{statement}
-use Rattle.explanation.proofs.traces.put_fault_at.Tie as tie
+use Rattle.explanation_traces.proofs.FaultLines.{fault-poured}
+use Rattle.explanation_traces.proofs.traces.put_fault_at.Statement.{statement}
+use Rattle.explanation_traces.proofs.traces.put_fault_at.Tie as tie
 
 pub put-fault-at-spec : {M : Type 1} → statement M
 put-fault-at-spec =

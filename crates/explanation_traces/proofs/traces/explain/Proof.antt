@@ -1,9 +1,9 @@
 -- `explain` meets its contract. Assumes nothing.
 use borrow.Author.Needs.{needs}
 use Rattle.trace.specs.Fields.{tagOf}
-use Rattle.explanation.specs.Traces.{explainingBy}
-use Rattle.explanation.proofs.traces.explain.Statement.{statement}
-use Rattle.explanation.proofs.traces.explain.Tie as tie
+use Rattle.explanation_traces.specs.Traces.{explainingBy}
+use Rattle.explanation_traces.proofs.traces.explain.Statement.{statement}
+use Rattle.explanation_traces.proofs.traces.explain.Tie as tie
 
 pub explain-spec : {M : Type 1} → statement M
 unfolding tagOf explainingBy

@@ -2,8 +2,8 @@
 use borrow.Author.Needs.{needs}
 use Rattle.explanation.specs.Telling.{fieldBegun}
 use Rattle.explanation.proofs.FieldValues.{value-lent}
-use Rattle.explanation.proofs.traces.begin_field.Statement.{statement}
-use Rattle.explanation.proofs.traces.begin_field.Tie as tie
+use Rattle.explanation.proofs.telling.begin_field.Statement.{statement}
+use Rattle.explanation.proofs.telling.begin_field.Tie as tie
 
 pub begin-field-spec : {M : Type 1} → statement M
 unfolding fieldBegun

@@ -2,9 +2,9 @@
 use borrow.Author.Needs.{needs}
 use Rattle.replay.specs.Progressing.{finishOf}
 use Rattle.columns.proofs.Poured.{poured-both}
-use Rattle.explanation.specs.Traces.{endText}
-use Rattle.explanation.proofs.traces.put_end.Statement.{statement}
-use Rattle.explanation.proofs.traces.put_end.Tie as tie
+use Rattle.explanation_traces.specs.Traces.{endText}
+use Rattle.explanation_traces.proofs.traces.put_end.Statement.{statement}
+use Rattle.explanation_traces.proofs.traces.put_end.Tie as tie
 
 returns : tie.Need-returns
 unfolding endText finishOf

@@ -1,8 +1,8 @@
 -- `put_ends_inside` meets its contract. Assumes nothing.
 use borrow.Author.Needs.{needs}
 use Rattle.columns.proofs.Poured.{poured-both}
-use Rattle.explanation.proofs.traces.put_ends_inside.Statement.{statement}
-use Rattle.explanation.proofs.traces.put_ends_inside.Tie as tie
+use Rattle.explanation_traces.proofs.traces.put_ends_inside.Statement.{statement}
+use Rattle.explanation_traces.proofs.traces.put_ends_inside.Tie as tie
 
 pub put-ends-inside-spec : {M : Type 1} → statement M
 put-ends-inside-spec =

@@ -2,8 +2,8 @@
 use borrow.Author.Needs.{needs}
 use Rattle.text.specs.Lines.{lineOf}
 use Rattle.columns.specs.Pouring.{pour}
-use Rattle.explanation.proofs.traces.put_trace_fault.Statement.{statement}
-use Rattle.explanation.proofs.traces.put_trace_fault.Tie as tie
+use Rattle.explanation_traces.proofs.traces.put_trace_fault.Statement.{statement}
+use Rattle.explanation_traces.proofs.traces.put_trace_fault.Tie as tie
 
 pub put-trace-fault-spec : {M : Type 1} → statement M
 unfolding pour lineOf

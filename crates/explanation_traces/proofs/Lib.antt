@@ -1,0 +1,2 @@
+pub mod FieldsTaken
+pub mod FaultLines
