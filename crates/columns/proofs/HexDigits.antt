@@ -30,7 +30,7 @@ unfolding hexAfter hexByte
 after-length [] = refl
 after-length (b ∷ s) = omega (arith, after-length s)
 
-hex-length : (s : List ℕ) → length (hexBytes s) ≡ 3 * length s - 1
+pub hex-length : (s : List ℕ) → length (hexBytes s) ≡ 3 * length s - 1
 unfolding hexBytes hexByte
 hex-length [] = refl
 hex-length (b ∷ s) = omega (arith, after-length s)

@@ -3,3 +3,4 @@ pub mod DueLines
 pub mod PrintedParts
 pub mod ReadersAnswers
 pub mod Theorems
+pub mod LongestLines

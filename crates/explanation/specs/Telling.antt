@@ -26,6 +26,10 @@ use Rattle.explanation.specs.declared.Due.the-variants.{Field as AField,
 use Rattle.explanation.specs.declared.Explaining.{Explaining}
 use Rattle.explanation.specs.declared.NextLines.{NextLines}
 
+-- how many bytes a call puts at most: the code's LONGEST_LINES
+abbrev pub longestLines : ℕ
+longestLines = 2_048
+
 -- what is put, and what is then left
 pub record Telling : Type 0 where
   pub text : List ℕ

@@ -3,3 +3,4 @@ pub mod SizePoured
 pub mod LeftOrCut
 pub mod ShortestForm
 pub mod NumbersPoured
+pub mod LineBounds

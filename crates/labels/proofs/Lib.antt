@@ -1,3 +1,4 @@
 pub mod PouredParts
 pub mod WordsFound
 pub mod Beyond
+pub mod TextBounds
