@@ -2,5 +2,5 @@ pub mod FieldValues
 pub mod DueLines
 pub mod PrintedParts
 pub mod ReadersAnswers
-pub mod Theorems
 pub mod LongestLines
+pub mod Theorems

@@ -1,7 +1,7 @@
 -- No call puts more than `longestLines` bytes. Assumes nothing.
-use Prim.Native.Nat.{ℕ, _+_, _*_, _≤_}
+use Prim.Native.Nat.{ℕ, _+_, _≤_}
 use mathlib.Core.Path.{_≡_}
-use mathlib.Core.List.{List, [], _++_}
+use mathlib.Core.List.{List, _++_}
 use native.Mathlib.Omega.{arith}
 use lib.Dec.{eqb}
 use lib.ListN.{length, take, drop, getD, length-append}
@@ -9,19 +9,11 @@ use Rattle.common.proofs.Cases.{pick-by}
 use Rattle.parts.specs.Telling.{nextOf}
 use Rattle.parts.specs.declared.Step.{Step}
 use Rattle.parts.specs.declared.Step.the-variants.{Part as APart, Refused as IsRefused, Faulty, Whole}
-use Rattle.text.specs.Lines.{lineOf, faultLine as traceFault}
-use Rattle.text.proofs.Bounds.{line-bound}
 use Rattle.trace.specs.Fields.{offsetOf}
 use Rattle.columns.specs.Pouring.{filling, pour}
 use Rattle.columns.proofs.Poured.{pour-fits}
-use Rattle.replay.specs.Progressing.{onFault, endStage}
-use Rattle.replay.specs.declared.Stage.{Stage}
-use Rattle.replay.specs.declared.Stage.the-variants.{Empty, Running, Faulty as AtFault}
-use Rattle.replay.specs.declared.Progress.{Progress}
-use Rattle.explanation_lines.specs.declared.Word.the-variants.{EndsInside, NoBytes}
-use Rattle.explanation_lines.proofs.LineBounds.{Few, longestLine, longestValue, part-bound, faulty-bound, left-bound, cut-field-bound, field-bound, mark-bound, answer-bound, fault-line-bound, arrival-bound, start-bound}
+use Rattle.explanation_lines.proofs.LineBounds.{Few, longestLine, longestValue, part-bound, faulty-bound, left-bound, field-bound, mark-bound, answer-bound, fault-line-bound, arrival-bound, start-bound}
 use Rattle.explanation.specs.Telling.{longestLines, valueLines, fieldTold, stepLines, partTold, reasonWord, endingLine, toldBy, nextTold}
-use Rattle.explanation.specs.Traces.{endsInside, endReason, endText}
 use Rattle.explanation.specs.declared.Ending.{Ending}
 use Rattle.explanation.specs.declared.Ending.the-variants.{Answered, Fault, Read}
 use Rattle.explanation.specs.declared.Due.{Due}
@@ -70,29 +62,3 @@ module _ (field : List ℕ) (e : Explaining) where
       → let text = nextTold field e .text in
       pour (filling holds at) text ≡ filling (take at holds ++ text ++ drop (at + length text) holds) (at + length text)
   all-put holds at h = pour-fits holds at (nextTold field e .text) (omega (arith, next-fits))
-
--- ---- the end of a trace
-
-inside-bound : (offset : ℕ) (rest : List ℕ) → Few (2 * longestLine) (endsInside offset rest)
-inside-bound offset rest = rw length-append (omega (arith, cut-field-bound offset rest, fault-line-bound EndsInside))
-
-reason-bound : (stage : Stage) (offset : ℕ) (rest : List ℕ) → Few (2 * longestLine) (endReason stage offset rest)
-reason-bound (AtFault at) offset rest = omega arith
-reason-bound Empty offset rest =
-    pick-by (Few (2 * longestLine)) (eqb (length rest) 0)
-    (λ e. omega (arith, fault-line-bound NoBytes))
-    (λ e. inside-bound offset rest)
-reason-bound Running offset rest =
-    pick-by (Few (2 * longestLine)) (eqb (length rest) 0) (λ e. omega arith) (λ e. inside-bound offset rest)
-
-trace-fault-bound : (stage : Stage) → Few longestLine (lineOf (onFault stage traceFault []))
-unfolding lineOf
-trace-fault-bound Empty = omega (arith, line-bound (traceFault 0))
-trace-fault-bound Running = omega arith
-trace-fault-bound (AtFault at) = omega (arith, line-bound (traceFault at))
-
-pub end-fits : (p : Progress) (rest : List ℕ) → length (endText p rest) ≤ longestLines
-unfolding endText
-end-fits p rest =
-    let fault = trace-fault-bound (endStage (p .stage) (p .offset) (length rest)) in
-    rw length-append (omega (arith, reason-bound (p .stage) (p .offset) rest, fault))

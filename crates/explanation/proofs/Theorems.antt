@@ -1,20 +1,22 @@
 -- What holds of explanations: of a message in a control stream, and of a field of a trace. Each theorem with its
 -- sentence, and nothing else. Assumes nothing.
-use Prim.Native.Nat.{ℕ, _<_, _^_}
+use Prim.Native.Nat.{ℕ, _+_, _≤_, _<_, _^_}
 use mathlib.Core.Path.{_≡_}
 use mathlib.Core.List.{List, _++_}
-use lib.ListN.{getD, drop}
+use lib.ListN.{length, getD, take, drop}
 use Rattle.common.specs.Answer.{number}
 use Rattle.message.specs.Reading.{readOf}
 use Rattle.trace.specs.Fields.{offsetOf}
 use Rattle.explained.specs.Explaining.{messageExplained}
 use Rattle.explanation_lines.specs.Lines.{fieldLine, answerLine}
-use Rattle.explanation.specs.Telling.{valueLines, endingLine, fieldBegun, messageBegun}
+use Rattle.columns.specs.Pouring.{filling, pour}
+use Rattle.explanation.specs.Telling.{longestLines, valueLines, endingLine, nextTold, fieldBegun, messageBegun}
 use Rattle.explanation.specs.Printing.{Prints, PartLines}
 use Rattle.explanation.specs.declared.Ending.{Ending}
 use Rattle.explanation.specs.declared.Explaining.{Explaining}
 use Rattle.explanation.proofs.PrintedParts as printed
 use Rattle.explanation.proofs.ReadersAnswers as readers
+use Rattle.explanation.proofs.LongestLines as longest
 
 -- 1. AN EXPLANATION IS ONE TEXT: from there on, no two texts are told of a field, or of a message.
 pub prints-once : {field : List ℕ} {e : Explaining} {a b : List ℕ} → Prints field e a → Prints field e b → a ≡ b
@@ -49,3 +51,10 @@ message-ends = readers.message-ends
 pub field-ends : (field : List ℕ) (offset : ℕ) (ending : Ending)
     → (text : List ℕ) × Prints field (fieldBegun field offset ending) text
 field-ends = readers.field-ends
+
+-- 4. NOTHING IS LOST: where there is room for `longestLines` bytes, the lines of a call are all put, and every other byte
+-- stays.
+pub all-put : (field : List ℕ) (e : Explaining) (holds : List ℕ) (at : ℕ) → at + longestLines ≤ length holds
+    → let text = nextTold field e .text in
+    pour (filling holds at) text ≡ filling (take at holds ++ text ++ drop (at + length text) holds) (at + length text)
+all-put = longest.all-put

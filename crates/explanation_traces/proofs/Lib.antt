@@ -1,2 +1,3 @@
 pub mod FieldsTaken
 pub mod FaultLines
+pub mod LongestEnd

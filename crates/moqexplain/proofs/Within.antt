@@ -15,9 +15,10 @@ use Rattle.message_writer.proofs.Theorems.{used-there}
 use Rattle.trace.specs.Fields.{fieldSize, isWhole}
 use Rattle.trace.proofs.Fed.{size-head, whole-fits}
 use Rattle.replay.specs.declared.Progress.{Progress}
+use Rattle.explanation.specs.Telling.{longestLines}
 use Rattle.explanation_traces.specs.Traces.{takenAt}
 use Rattle.explanation_traces.specs.declared.FieldTaken.{FieldTaken}
-use Rattle.moqexplain.specs.Ending.{Ends, Within}
+use Rattle.moqexplain.specs.Ending.{Ends, Rooms, Within}
 use Rattle.moqexplain.specs.declared.Found.the-variants.{Whole, More, Refused}
 
 -- what was not put has no end,
@@ -27,6 +28,13 @@ short-ends room n e = absurd (let z : _≡_ {A = ℕ} 0 1 = cc in omega arith)
 -- and what was put the one that is said
 pub done-ends : {end : ℕ} (room : ℕ) → end ≤ room → Ends (Done end) room
 done-ends {end} room h n e = let same : end ≡ n = cc in omega arith
+
+-- there is room behind it
+pub short-rooms : (room : ℕ) → Rooms TooShort room
+short-rooms room n e = absurd (let z : _≡_ {A = ℕ} 0 1 = cc in omega arith)
+
+pub done-rooms : {end : ℕ} (room : ℕ) → end ≤ room → (longestLines ≤ room → end + longestLines ≤ room) → Rooms (Done end) room
+done-rooms {end} room h k n e = let same : end ≡ n = cc in (omega arith, λ l. omega (arith, k l))
 
 -- a message that is not all there, or is refused, has no end,
 pub more-within : (at size : ℕ) → Within More at size

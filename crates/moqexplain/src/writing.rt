@@ -1,7 +1,7 @@
 // Text goes to standard output a buffer at a time.
 ghost use Prim.Native.Nat.{_≤_};
 ghost use lib.ListN.{length};
-ghost use Rattle.moqexplain.specs.Ending.{Ends};
+ghost use Rattle.moqexplain.specs.Ending.{Ends, Rooms};
 use explanation::Explaining;
 use libc::STDOUT_FILENO;
 use text::Putting;
@@ -19,7 +19,7 @@ pub fn write(s: &[u8]) -> bool {
 // too short means that they could not be written.
 fn make_room(out: &mut [u8], at: usize) -> Putting
     requires { ⌜ at ≤ length (now out) ⌝ }
-    ensures { λ r. ⌜ Ends r (length (now (out .entry))) ⌝ }
+    ensures { λ r. ⌜ Rooms r (length (now (out .entry))) ⌝ }
 {
     if out.len() - at >= explanation::LONGEST_LINES {
         return Putting::Done(at);

@@ -20,7 +20,7 @@ again c =
     let put = c .before .before .before in
     let room = put .before .before .before .before .before .before .before in
     let inv = room .before .before .before .before .before .loop .inv in
-    let front = room .make-room .ensures _ (put .before .before .before .front .given .1) in
+    let front = room .make-room .ensures _ (put .before .before .before .front .given .1) .0 in
     let told = put .next .ensures .puts in
     (omega (arith, poured-length _ _ _ told, inv .0), omega (arith, poured-within _ _ _ told (omega (arith, front, inv .0)), inv .0))
 
