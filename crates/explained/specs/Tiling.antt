@@ -36,5 +36,6 @@ pub data Tiles : ℕ → List Part → ℕ → Type 0 where
 pub data Tells (s : List ℕ) : Cursor → Explained → Type 0 where
   part : {c d : Cursor} {p : Part} {e : Explained} → nextOf s c ≡ going p d → Tells s d e → Tells s c (first p e)
   before : {c : Cursor} {number : ℕ} → nextOf s c ≡ staying (IsRefused number) c → Tells s c (refusing number)
-  here : {c : Cursor} {p : Part} {number : ℕ} → nextOf s c ≡ staying (Faulty p number) c → Tells s c (first p (refusing number))
+  here : {c : Cursor} {p : Part} {number : ℕ} → nextOf s c ≡ staying (Faulty p number) c
+      → Tells s c (first p (refusing number))
   all : {c : Cursor} {used : ℕ} → nextOf s c ≡ staying (Whole used) c → Tells s c (taking used)

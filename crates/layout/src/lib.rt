@@ -1,8 +1,8 @@
-// The grammar of layouts. It has no functions: specs/ says what bytes mean by a layout, and proofs/ has the theorems that
-// hold of every layout.
+// The grammar of layouts. It has no functions: specs/ says what bytes mean by a layout, and proofs/ has the theorems
+// that hold of every layout.
 
-// The fields of control messages and data headers, by the names that source document 004 has for them. A list, and bytes
-// with the length before them, are one field; so are a track's namespace and its name.
+// The fields of control messages and data headers, by the names that source document 004 has for them. A list, and
+// bytes with the length before them, are one field; so are a track's namespace and its name.
 pub enum FieldName {
     MessageType,
     MessageLength,

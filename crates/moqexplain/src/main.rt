@@ -5,8 +5,8 @@ mod streams;
 mod traces;
 mod writing;
 
-// What stands at an offset of a control stream: a whole message, and where it ends; one that is not all there; or one that is
-// refused, after which nothing is read.
+// What stands at an offset of a control stream: a whole message, and where it ends; one that is not all there; or one
+// that is refused, after which nothing is read.
 enum Found {
     Whole(usize),
     More,

@@ -15,8 +15,8 @@ pub fn write(s: &[u8]) -> bool {
     false
 }
 
-// Room for the next lines after at bytes of text. Where there is none, those are written, and the lines go to the front;
-// too short means that they could not be written.
+// Room for the next lines after at bytes of text. Where there is none, those are written, and the lines go to the
+// front; too short means that they could not be written.
 fn make_room(out: &mut [u8], at: usize) -> Putting
     requires { ⌜ at ≤ length (now out) ⌝ }
     ensures { λ r. ⌜ Rooms r (length (now (out .entry))) ⌝ }

@@ -1,4 +1,5 @@
-// The layouts of SUBSCRIBE_UPDATE, SUBSCRIBE, SUBSCRIBE_OK, SUBSCRIBE_ERROR and SUBSCRIBE_DONE, and that of an ID alone.
+// The layouts of SUBSCRIBE_UPDATE, SUBSCRIBE, SUBSCRIBE_OK, SUBSCRIBE_ERROR and SUBSCRIBE_DONE, and that of an ID
+// alone.
 ghost use mathlib.Core.Path.{_≡_};
 ghost use Rattle.types.specs.Subscriptions.{subscribeUpdate, openRange, closedRange, filter, delivery, subscribe, content, subscribeOk, subscribeError, subscribeDone, idOnly};
 ghost use Rattle.outline.specs.Places.{restOf, aheadOf};

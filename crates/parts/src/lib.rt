@@ -1,5 +1,5 @@
-// A message or a data header, part by part: the bytes of each part, what it is, and which field of the layout it belongs
-// to. One part is told at a time, by a cursor that the caller keeps; nothing is held of the parts before.
+// A message or a data header, part by part: the bytes of each part, what it is, and which field of the layout it
+// belongs to. One part is told at a time, by a cursor that the caller keeps; nothing is held of the parts before.
 mod advancing;
 mod cursors;
 mod expecting;

@@ -32,7 +32,8 @@ filter =
     when (eqb type 2) parameters (when (eqb type 3) openRange (when (eqb type 4) closedRange forbidden))
 
 unfoldable pub delivery : Layout
-delivery = field SubscriberPriority byte λ priority. field GroupOrder byte λ order. when (askable order) filter forbidden
+delivery =
+    field SubscriberPriority byte λ priority. field GroupOrder byte λ order. when (askable order) filter forbidden
 
 unfoldable pub subscribe : Layout
 subscribe = field SubscribeId integer λ id. field TrackAlias integer λ alias. field FullTrackName track λ _. delivery
