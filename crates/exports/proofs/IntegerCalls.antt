@@ -13,18 +13,8 @@ use Rattle.common.specs.Buffer.{over}
 use Rattle.integer.specs.Integer.{greatest, sizeOf, encOf, readOf, putForm, writeOf}
 use Rattle.integer.proofs.Laws.{length-enc}
 use Rattle.rewrite.specs.Rewriting.{Does, putting, refusing}
+use Rattle.rewrite.proofs.InfoTold.{two}
 use Rattle.exports.specs.Integers.{integerRead, integerWritten}
-
--- ---- values at the front of `info`
-
-pub one : (info : List ℕ) (a : ℕ) → 1 ≤ length info → set info 0 a ≡ over (a ∷ []) info
-one (x ∷ rest) a h = refl
-one [] a h = absurd (omega (arith, h))
-
-pub two : (info : List ℕ) (a b : ℕ) → 2 ≤ length info → set (set info 0 a) 1 b ≡ over (a ∷ b ∷ []) info
-two (x ∷ y ∷ rest) a b h = refl
-two (x ∷ []) a b h = absurd (omega (arith, h))
-two [] a b h = absurd (omega (arith, h))
 
 -- ---- reading
 

@@ -1,3 +1,2 @@
 pub mod IntegerCalls
 pub mod TraceCalls
-pub mod LedgerCalls

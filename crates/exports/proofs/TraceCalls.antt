@@ -11,7 +11,7 @@ use Rattle.text.specs.declared.Putting.{Putting}
 use Rattle.text.specs.declared.Putting.the-variants.{Done, TooShort}
 use Rattle.text.proofs.Outcomes.{done-is, short-is}
 use Rattle.exports.specs.Texts.{textPut}
-use Rattle.exports.proofs.IntegerCalls.{one}
+use Rattle.rewrite.proofs.InfoTold.{one}
 
 module _ (text out info : List ℕ) where
   pub no-info : length info < 1 → Does (textPut text out info) 7 out info

@@ -1,3 +1,2 @@
 pub mod Integers
-pub mod Ledgers
 pub mod Texts

@@ -14,3 +14,4 @@ pub mod Naming
 pub mod Places
 pub mod OneAnswer
 pub mod OneReading
+pub mod NotWhole

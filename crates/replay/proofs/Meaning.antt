@@ -5,7 +5,7 @@ use mathlib.Core.List.{List, [], _∷_}
 use native.Mathlib.Omega.{arith}
 use borrow.Author.Tests.{eq-eqb, ne-eqb}
 use denote.Enum.Declared.{tagOf}
-use types.Run.{OneOf, miss}
+use types.Run.{OneOf}
 use lib.ListN.{length, getD}
 use Rattle.common.specs.Answer.{number}
 use Rattle.field.specs.Fields.{fieldAt, integer, placeAt}
@@ -17,11 +17,12 @@ use Rattle.field.specs.declared.PlaceRead.{PlaceRead}
 use Rattle.field.specs.declared.PlaceRead.the-variants.{Whole as WholePlace, Cut as CutPlace}
 use Rattle.field.proofs.Found.{number-at}
 use Rattle.field.proofs.TwoReads.{number-missing, number-there}
-use Rattle.message.specs.Reading.{readOf, told, onWhole}
+use Rattle.message.specs.Reading.{readOf, told}
 use Rattle.message.specs.declared.Message.{Message}
 use Rattle.message.specs.declared.Reading.{Reading}
-use Rattle.message.specs.declared.Reading.the-variants.{Whole, More, Unknown, TooLong, Unfilled, Forbidden, Oversize}
+use Rattle.message.specs.declared.Reading.the-variants.{Whole}
 use Rattle.message.proofs.Reading.{the-type}
+use Rattle.message.proofs.NotWhole.{not-whole}
 use Rattle.message.proofs.OneReading.{reading-only}
 use Rattle.replay.specs.Events.{filling, partBy, startedBy, malformedBy, readingBy, controlBy, arrivedBy}
 use Rattle.replay.specs.declared.Event.{Event}
@@ -55,16 +56,6 @@ module _ (value : List ℕ) {r : NumberRead} (said : toldNumber r ≡ fieldAt in
 pub control-by : (value : List ℕ) {r v : Reading} {e : Event} → told r ≡ readOf value → r ≡ v → e ≡ readingBy value v → e ≡ controlBy value
 unfolding controlBy
 control-by value {r} said h is = is ∙ ap (readingBy value) (sym h ∙ reading-only value r said)
-
--- "every other reading ends there", by the place of its variant
-pub not-whole : {A : Type 0} (r : Reading) (taken : Message → ℕ → A) (rest : A) → OneOf (1 ∷ 2 ∷ 3 ∷ 4 ∷ 5 ∷ 6 ∷ []) (tagOf the-type r) → rest ≡ onWhole r rest taken
-not-whole (Whole m used) taken rest h = absurd (miss (1 ∷ 2 ∷ 3 ∷ 4 ∷ 5 ∷ 6 ∷ []) 0 tt h)
-not-whole More taken rest h = refl
-not-whole Unknown taken rest h = refl
-not-whole TooLong taken rest h = refl
-not-whole Unfilled taken rest h = refl
-not-whole Forbidden taken rest h = refl
-not-whole Oversize taken rest h = refl
 
 pub control-else : (value : List ℕ) (r : Reading) {e : Event} → told r ≡ readOf value → OneOf (1 ∷ 2 ∷ 3 ∷ 4 ∷ 5 ∷ 6 ∷ []) (tagOf the-type r) → e ≡ malformedBy (number (told r)) → e ≡ controlBy value
 control-else value r said h is = control-by value {r = r} said refl (is ∙ not-whole r (λ m used. filling value used (Control m)) (malformedBy (number (told r))) h)

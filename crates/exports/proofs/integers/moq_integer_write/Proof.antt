@@ -2,7 +2,8 @@
 use native.Mathlib.Omega.{arith}
 use borrow.Author.Needs.{needs}
 use Rattle.common.specs.Answer.{number}
-use Rattle.exports.proofs.IntegerCalls.{one, write-great, write-short, write-said}
+use Rattle.rewrite.proofs.InfoTold.{one}
+use Rattle.exports.proofs.IntegerCalls.{write-great, write-short, write-said}
 use Rattle.exports.proofs.integers.moq_integer_write.Statement.{statement}
 use Rattle.exports.proofs.integers.moq_integer_write.Tie as tie
 

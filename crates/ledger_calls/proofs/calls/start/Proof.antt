@@ -1,12 +1,12 @@
--- `moq_ledger_start` meets its contract. Assumes nothing.
+-- `start` meets its contract. Assumes nothing.
 use mathlib.Core.Path.{_≡_}
 use mathlib.Core.Logic.{⊎-elim}
 use native.Mathlib.Omega.{arith}
 use borrow.Author.Needs.{needs}
 use Rattle.ledger_numbers.specs.Naming.{partNamed}
-use Rattle.exports.proofs.LedgerCalls.{part-first, part-second, started-other, started-else, started-short, started-whole}
-use Rattle.exports.proofs.ledgers.moq_ledger_start.Statement.{statement}
-use Rattle.exports.proofs.ledgers.moq_ledger_start.Tie as tie
+use Rattle.ledger_calls.proofs.CallsAnswered.{part-first, part-second, started-other, started-else, started-short, started-whole}
+use Rattle.ledger_calls.proofs.calls.start.Statement.{statement}
+use Rattle.ledger_calls.proofs.calls.start.Tie as tie
 
 -- the part that its number names
 which : (c : tie.Joined2) → c .if2 .own ≡ partNamed (c .before .before .before .args .part)
@@ -25,8 +25,8 @@ returns-4 : tie.Need-returns-4
 returns-4 c =
     started-whole _ _ _ _ (c .before .before .before .before .before .before .before .start .result) (omega (arith, c .before .before .before .before .before .before .before .before .before .if1 .left)) (which (c .before .before .before .before .before .before .before .before)) (c .before .before .before .before .before .before .before .start .ensures) (c .before .before .before .before .before .before .number .ensures) (c .before .before .before .before .before .if3 .left) (c .before .before .before .before .if4 .left) (c .before .before .keep .ensures)
 
-pub moq-ledger-start-spec : {M : Type 1} → statement M
-moq-ledger-start-spec =
+pub start-spec : {M : Type 1} → statement M
+start-spec =
     tie.close
     (tie.spec
     (λ c. started-other _ _ _ _ (c .if1 .taken))

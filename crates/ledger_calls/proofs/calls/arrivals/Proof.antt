@@ -1,10 +1,10 @@
--- `moq_ledger_arrivals` meets its contract. Assumes nothing.
+-- `arrivals` meets its contract. Assumes nothing.
 use mathlib.Core.Path.{refl}
 use borrow.Author.Needs.{needs}
 use Rattle.common.specs.Answer.{number}
-use Rattle.exports.proofs.LedgerCalls.{ran}
-use Rattle.exports.proofs.ledgers.moq_ledger_arrivals.Statement.{statement}
-use Rattle.exports.proofs.ledgers.moq_ledger_arrivals.Tie as tie
+use Rattle.ledger_calls.proofs.CallsAnswered.{ran}
+use Rattle.ledger_calls.proofs.calls.arrivals.Statement.{statement}
+use Rattle.ledger_calls.proofs.calls.arrivals.Tie as tie
 
 returns : tie.Need-returns
 unfolding number
@@ -21,8 +21,8 @@ unfolding number
 returns-3 c =
     ran _ _ _ (c .before .before .before .before .before .before .before .before .before .before .unpack .ensures) (c .before .before .before .before .before .before .before .before .arrivals .ensures) (c .before .before .before .before .keep .ensures) (c .enum-told3 .given .1) refl
 
-pub moq-ledger-arrivals-spec : {M : Type 1} → statement M
-moq-ledger-arrivals-spec =
+pub arrivals-spec : {M : Type 1} → statement M
+arrivals-spec =
     tie.close
     (tie.spec
     (λ c κs. search needs) (λ c κs. search needs) (λ c κs. search needs) (λ c. search needs) (λ c. search needs) (λ c. search needs)

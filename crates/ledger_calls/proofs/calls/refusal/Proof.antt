@@ -1,8 +1,8 @@
 -- `refusal` meets its contract. Assumes nothing.
 use borrow.Author.Needs.{needs}
 use Rattle.common.specs.Answer.{number}
-use Rattle.exports.proofs.ledgers.refusal.Statement.{statement}
-use Rattle.exports.proofs.ledgers.refusal.Tie as tie
+use Rattle.ledger_calls.proofs.calls.refusal.Statement.{statement}
+use Rattle.ledger_calls.proofs.calls.refusal.Tie as tie
 
 pub refusal-spec : {M : Type 1} → statement M
 unfolding number

@@ -17,6 +17,7 @@ use Rattle.message.specs.Reading.{readOf, told as toldReading}
 use Rattle.message.specs.declared.Message.{Message}
 use Rattle.message.specs.declared.Reading.{Reading}
 use Rattle.message.proofs.Reading.{the-type}
+use Rattle.message.proofs.NotWhole.{not-whole}
 use Rattle.message.proofs.OneReading.{readingOf, reading-only}
 use Rattle.ledger.specs.Ledgers.{mostRows, emptyLedger}
 use Rattle.ledger.specs.Answers.{Came, toldAnswer, told, done}
@@ -31,10 +32,9 @@ use Rattle.ledger.specs.declared.Ran.{Ran}
 use Rattle.ledger_numbers.specs.Numbers.{ledgerNumbers, numbersOf}
 use Rattle.ledger_numbers.specs.Naming.{partNamed, unpackOf, keptIn}
 use Rattle.ledger_numbers.proofs.Storing.{numbers-length}
-use Rattle.replay.proofs.Meaning.{not-whole}
 use Rattle.rewrite.specs.Rewriting.{Does, refusing}
-use Rattle.exports.specs.Ledgers.{startCall, answeredCall, takenCall, takenBy, messageCall, arrivalsCall}
-use Rattle.exports.proofs.IntegerCalls.{two}
+use Rattle.rewrite.proofs.InfoTold.{two}
+use Rattle.ledger_calls.specs.Calls.{startCall, answeredCall, takenCall, takenBy, messageCall, arrivalsCall}
 
 -- ---- a new ledger
 

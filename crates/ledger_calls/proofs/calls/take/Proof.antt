@@ -1,9 +1,9 @@
--- `moq_ledger_take` meets its contract. Assumes nothing.
+-- `take` meets its contract. Assumes nothing.
 use native.Mathlib.Omega.{arith}
 use borrow.Author.Needs.{needs}
-use Rattle.exports.proofs.LedgerCalls.{no-ledger, not-told, taken, read-as, read-else}
-use Rattle.exports.proofs.ledgers.moq_ledger_take.Statement.{statement}
-use Rattle.exports.proofs.ledgers.moq_ledger_take.Tie as tie
+use Rattle.ledger_calls.proofs.CallsAnswered.{no-ledger, not-told, taken, read-as, read-else}
+use Rattle.ledger_calls.proofs.calls.take.Statement.{statement}
+use Rattle.ledger_calls.proofs.calls.take.Tie as tie
 
 none : tie.Need-returns-2
 none c =
@@ -20,8 +20,8 @@ whole c =
     read-as _ _ _ (c .before .before .before .before .before .before .before .before .before .before .before .before .before .before .read .ensures) (c .before .before .before .before .before .before .before .before .before .before .before .before .reading .given .1)
     (taken _ (c .before .before .before .before .before .before .before .before .before .before .before .before .before .before .before .before .before .before .args .info .now) _ _ (c .before .before .before .before .before .before .before .before .before .unpack .ensures) (c .before .before .before .before .before .before .before .before .take .result) (c .before .before .before .before .before .before .before .before .take .ensures) (c .before .before .before .before .before .before .before .number .ensures) (c .before .before .before .before .before .before .if1 .left) (c .before .before .keep .ensures) (c .before .before .before .before .broken .ensures) (omega (arith, c .before .before .before .before .before .if2 .left)))
 
-pub moq-ledger-take-spec : {M : Type 1} → statement M
-moq-ledger-take-spec =
+pub take-spec : {M : Type 1} → statement M
+take-spec =
     tie.close
     (tie.spec
     (λ c κs. search needs) (λ c. search needs) (λ c κs. search needs)
