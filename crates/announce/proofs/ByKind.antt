@@ -12,12 +12,13 @@ use Rattle.layout.specs.declared.FieldName.the-variants.{TrackNamespace, TrackN
 use Rattle.layout.proofs.Family.{behind-no, behind-whole}
 use Rattle.layout.proofs.Steps.{To, Stops}
 use Rattle.types.specs.Announces.{named}
-use Rattle.announce.specs.Kinds.{typeRow, numberOf, layoutOf, rest}
-use Rattle.announce.specs.declared.kinds.Naming.the-variants.{AnnounceOk, Unannounce, SubscribeAnnouncesOk, UnsubscribeAnnounces}
-use Rattle.announce.specs.declared.kinds.Asking.the-variants.{Announce, SubscribeAnnounces}
-use Rattle.announce.specs.declared.kinds.Refusing.the-variants.{AnnounceError, AnnounceCancel, SubscribeAnnouncesError}
-use Rattle.announce.specs.declared.kinds.AnnounceKind.{AnnounceKind}
-use Rattle.announce.specs.declared.kinds.AnnounceKind.the-variants.{Named, Asked, Refused}
+use Rattle.types.specs.AnnounceKinds.{typeRow, numberOf, layoutOf}
+use Rattle.announce.specs.AfterNamespace.{rest}
+use Rattle.types.specs.declared.kinds.Naming.the-variants.{AnnounceOk, Unannounce, SubscribeAnnouncesOk, UnsubscribeAnnounces}
+use Rattle.types.specs.declared.kinds.Asking.the-variants.{Announce, SubscribeAnnounces}
+use Rattle.types.specs.declared.kinds.Refusing.the-variants.{AnnounceError, AnnounceCancel, SubscribeAnnouncesError}
+use Rattle.types.specs.declared.kinds.AnnounceKind.{AnnounceKind}
+use Rattle.types.specs.declared.kinds.AnnounceKind.the-variants.{Named, Asked, Refused}
 
 -- its layout: a namespace, by the name that 004 has for it, and what follows it
 pub named-as : (kind : AnnounceKind) → (name : FieldName) × (layoutOf kind ≡ named name (rest kind))

@@ -11,14 +11,14 @@ use Rattle.layout.specs.Layout.{failure, parameters}
 use Rattle.layout.proofs.Every.{Every}
 use Rattle.types.specs.Table.{typedAs, ANNOUNCE, «ANNOUNCE_OK», «ANNOUNCE_ERROR», UNANNOUNCE, «ANNOUNCE_CANCEL», «SUBSCRIBE_ANNOUNCES», «SUBSCRIBE_ANNOUNCES_OK», «SUBSCRIBE_ANNOUNCES_ERROR»}
 use Rattle.types.specs.Announces.{named}
-use Rattle.announce.specs.declared.kinds.Naming.the-variants.{AnnounceOk, Unannounce, SubscribeAnnouncesOk, UnsubscribeAnnounces}
-use Rattle.announce.specs.declared.kinds.Asking.the-variants.{Announce, SubscribeAnnounces}
-use Rattle.announce.specs.declared.kinds.Refusing.the-variants.{AnnounceError, AnnounceCancel, SubscribeAnnouncesError}
-use Rattle.announce.specs.declared.kinds.AnnounceKind.{AnnounceKind}
-use Rattle.announce.specs.declared.kinds.AnnounceKind.the-variants.{Named, Asked, Refused}
+use Rattle.types.specs.declared.kinds.Naming.the-variants.{AnnounceOk, Unannounce, SubscribeAnnouncesOk, UnsubscribeAnnounces}
+use Rattle.types.specs.declared.kinds.Asking.the-variants.{Announce, SubscribeAnnounces}
+use Rattle.types.specs.declared.kinds.Refusing.the-variants.{AnnounceError, AnnounceCancel, SubscribeAnnouncesError}
+use Rattle.types.specs.declared.kinds.AnnounceKind.{AnnounceKind}
+use Rattle.types.specs.declared.kinds.AnnounceKind.the-variants.{Named, Asked, Refused}
 use Rattle.announce.specs.declared.AnnounceMessage.{AnnounceMessage}
 use Rattle.announce.specs.declared.AnnounceMessage.the-variants.{Named as ANamed, Asked as AnAsked, Refused as ARefused}
-use Rattle.announce.specs.Kinds.{typeRow}
+use Rattle.types.specs.AnnounceKinds.{typeRow}
 use Rattle.announce.specs.Told.{typedOf}
 
 -- the kind that a number stands for

@@ -1,14 +1,14 @@
 -- One possible answer: 01's number and values of a message, and of what was read, lose nothing. Assumes nothing.
 use mathlib.Core.Path.{_≡_, refl}
 use Rattle.common.proofs.Telling.{once}
-use Rattle.announce.specs.Kinds.{typeRow, numberOf}
+use Rattle.types.specs.AnnounceKinds.{typeRow, numberOf}
 use Rattle.announce.specs.Told.{typedOf, told}
 use Rattle.announce.proofs.Made.{kindOf, messageOf}
-use Rattle.announce.specs.declared.kinds.Naming.the-variants.{AnnounceOk, Unannounce, SubscribeAnnouncesOk, UnsubscribeAnnounces}
-use Rattle.announce.specs.declared.kinds.Asking.the-variants.{Announce, SubscribeAnnounces}
-use Rattle.announce.specs.declared.kinds.Refusing.the-variants.{AnnounceError, AnnounceCancel, SubscribeAnnouncesError}
-use Rattle.announce.specs.declared.kinds.AnnounceKind.{AnnounceKind}
-use Rattle.announce.specs.declared.kinds.AnnounceKind.the-variants.{Named, Asked, Refused}
+use Rattle.types.specs.declared.kinds.Naming.the-variants.{AnnounceOk, Unannounce, SubscribeAnnouncesOk, UnsubscribeAnnounces}
+use Rattle.types.specs.declared.kinds.Asking.the-variants.{Announce, SubscribeAnnounces}
+use Rattle.types.specs.declared.kinds.Refusing.the-variants.{AnnounceError, AnnounceCancel, SubscribeAnnouncesError}
+use Rattle.types.specs.declared.kinds.AnnounceKind.{AnnounceKind}
+use Rattle.types.specs.declared.kinds.AnnounceKind.the-variants.{Named, Asked, Refused}
 use Rattle.announce.specs.declared.AnnounceMessage.{AnnounceMessage}
 use Rattle.announce.specs.declared.AnnounceMessage.the-variants.{Named as ANamed, Asked as AnAsked, Refused as ARefused}
 use Rattle.announce.specs.declared.AnnounceRead.{AnnounceRead}

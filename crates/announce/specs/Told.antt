@@ -7,10 +7,10 @@ use Rattle.field.specs.declared.Piece.{Piece}
 use Rattle.field.specs.declared.Piece.the-variants.{Number, Bytes, List as Listing}
 use Rattle.layout.specs.Typed.{Typed}
 use Rattle.types.specs.Table.{typedAs}
-use Rattle.announce.specs.Kinds.{typeRow}
+use Rattle.types.specs.AnnounceKinds.{typeRow}
 use Rattle.announce.specs.declared.Announce.{Announce}
 use Rattle.announce.specs.declared.Refusal.{Refusal}
-use Rattle.announce.specs.declared.kinds.AnnounceKind.the-variants.{Named, Asked, Refused}
+use Rattle.types.specs.declared.kinds.AnnounceKind.the-variants.{Named, Asked, Refused}
 use Rattle.announce.specs.declared.AnnounceMessage.{AnnounceMessage}
 use Rattle.announce.specs.declared.AnnounceMessage.the-variants.{Named as ANamed, Asked as AnAsked, Refused as ARefused}
 use Rattle.announce.specs.declared.AnnounceRead.{AnnounceRead}

@@ -1,16 +1,15 @@
 // The messages of namespaces: ANNOUNCE and SUBSCRIBE_ANNOUNCES, and the answers to them. Each begins with a namespace,
 // or a prefix of one; by what follows there are three shapes.
-pub mod kinds;
 mod reader;
 mod writer;
 
 use field::Entries;
 use field::Failure;
 use field::Fault;
-use kinds::Asking;
-use kinds::Naming;
-use kinds::Refusing;
 pub use reader::read;
+use types::kinds::Asking;
+use types::kinds::Naming;
+use types::kinds::Refusing;
 pub use writer::fields;
 pub use writer::number;
 

@@ -2,18 +2,19 @@
 ghost use mathlib.Core.Path.{_≡_};
 ghost use Rattle.layout.specs.Layout.{scan};
 ghost use Rattle.layout.specs.Typed.{led, typed};
-ghost use Rattle.announce.specs.Kinds.{rest, numberOf, layoutOf};
+ghost use Rattle.types.specs.AnnounceKinds.{numberOf, layoutOf};
+ghost use Rattle.announce.specs.AfterNamespace.{rest};
 ghost use Rattle.announce.specs.Told.{namedPieces, told};
 use crate::Announce;
 use crate::AnnounceMessage;
 use crate::AnnounceRead;
 use crate::Refusal;
-use crate::kinds::AnnounceKind;
 use field::Entries;
 use field::FailureRead;
 use field::Fault;
 use field::Kind;
 use field::ListRead;
+use types::kinds::AnnounceKind;
 
 // The body of a message of this family, from an offset on: a namespace, and what follows it.
 pub fn read(kind: AnnounceKind, s: &[u8], at: usize) -> AnnounceRead

@@ -1,17 +1,17 @@
 // A message as its fields, in the order of its layout.
 ghost use mathlib.Core.Path.{_≡_};
 ghost use Rattle.measure.specs.Fields.{placed};
-ghost use Rattle.announce.specs.Kinds.{numberOf};
+ghost use Rattle.types.specs.AnnounceKinds.{numberOf};
 ghost use Rattle.announce.specs.Told.{typedOf};
 use crate::AnnounceMessage;
-use crate::kinds::AnnounceKind;
-use crate::kinds::Asking;
-use crate::kinds::Naming;
-use crate::kinds::Refusing;
 use field::Kind;
 use field::Piece;
 use measure::Fields;
 use measure::places;
+use types::kinds::AnnounceKind;
+use types::kinds::Asking;
+use types::kinds::Naming;
+use types::kinds::Refusing;
 
 // The number of its type.
 pub fn number(m: AnnounceMessage) -> u64

@@ -18,7 +18,8 @@ use Rattle.layout.specs.Layout.{scan}
 use Rattle.layout.specs.Typed.{Typed, typed}
 use Rattle.layout.specs.declared.FieldName.the-variants.{MessageType, MessageLength}
 use Rattle.types.specs.Table.{known, layoutOf}
-use Rattle.message.specs.Reading.{longestBody, filledBy, bodyUpTo, readUpTo, readOf}
+use Rattle.types.specs.Limits.{longestBody}
+use Rattle.message.specs.Reading.{filledBy, bodyUpTo, readUpTo, readOf}
 use Rattle.parts.specs.declared.What.the-variants.{Number, Length}
 use Rattle.explained.specs.Grammar.{partsOf}
 use Rattle.explained.specs.Explaining.{Explained, explain, fillingBy, filling, bodyExplained, messageExplained}

@@ -17,7 +17,8 @@ use Rattle.layout.specs.Layout.{Layout, scan}
 use Rattle.layout.specs.Typed.{Typed, typed}
 use Rattle.layout.specs.declared.FieldName.the-variants.{MessageType}
 use Rattle.types.specs.Table.{known, layoutOf}
-use Rattle.message.specs.Reading.{longestBody, filledBy, bodyUpTo, readUpTo, readOf}
+use Rattle.types.specs.Limits.{longestBody}
+use Rattle.message.specs.Reading.{filledBy, bodyUpTo, readUpTo, readOf}
 use Rattle.header.specs.Layouts.{layoutOf as layoutIn, InTable, listed, unlisted, onListed, datagrams, streams, subgroupObject, fetchObject}
 use Rattle.header.specs.Reading.{headedOf, endedDatagram, datagramOf, streamOf, subgroupObjectOf, fetchObjectOf}
 use Rattle.parts.specs.Telling.{partOf}

@@ -11,7 +11,7 @@ use Rattle.field.specs.Outcome.{onFound}
 use Rattle.field.specs.Entries.{numberAt}
 use Rattle.layout.specs.declared.FieldName.the-variants.{MessageType, MessageLength}
 use Rattle.types.specs.Table.{known}
-use Rattle.message.specs.Reading.{longestBody}
+use Rattle.types.specs.Limits.{longestBody}
 use Rattle.header.specs.Layouts.{layoutOf as layoutIn, InTable, listed, unlisted, onListed, datagrams, streams}
 use Rattle.outline.specs.Places.{restOf, aheadOf, laidOut, aheadAt}
 use Rattle.outline.specs.declared.Outline.{Outline}

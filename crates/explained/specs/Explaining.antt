@@ -10,7 +10,7 @@ use Rattle.field.specs.Entries.{numberAt}
 use Rattle.layout.specs.declared.FieldName.{FieldName}
 use Rattle.layout.specs.declared.FieldName.the-variants.{MessageType, MessageLength}
 use Rattle.types.specs.Table.{known, layoutOf}
-use Rattle.message.specs.Reading.{longestBody}
+use Rattle.types.specs.Limits.{longestBody}
 use Rattle.header.specs.Layouts.{«OBJECT_DATAGRAM_STATUS», InTable, onListed, datagrams, streams, subgroupObject, fetchObject}
 use Rattle.parts.specs.Telling.{partOf}
 use Rattle.parts.specs.declared.What.{What}

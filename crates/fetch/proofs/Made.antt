@@ -15,10 +15,10 @@ use Rattle.fetch.specs.declared.Range.the-variants.{Standalone, Joining}
 use Rattle.fetch.specs.declared.Fetch.{Fetch}
 use Rattle.fetch.specs.declared.FetchMessage.{FetchMessage}
 use Rattle.fetch.specs.declared.FetchMessage.the-variants.{Fetch as AFetch, FetchOk as AFetchOk, FetchError as AFetchError, FetchCancel as AFetchCancel, TrackStatusRequest as ATrackStatusRequest, TrackStatus as ATrackStatus}
-use Rattle.fetch.specs.Kinds.{typeRow}
+use Rattle.types.specs.FetchKinds.{typeRow}
 use Rattle.fetch.specs.Told.{typedOf}
-use Rattle.fetch.specs.declared.kinds.FetchKind.{FetchKind}
-use Rattle.fetch.specs.declared.kinds.FetchKind.the-variants as kinds
+use Rattle.types.specs.declared.kinds.FetchKind.{FetchKind}
+use Rattle.types.specs.declared.kinds.FetchKind.the-variants as kinds
 
 -- a FETCH: the fetch type tells what is fetched, and so where the parameters stand
 unfoldable pub fetchOf : List Piece → Fetch

@@ -1,9 +1,7 @@
 // The messages that retrieve what was published: FETCH and the answers to it, and the status of a track.
-pub mod kinds;
 mod name;
 mod parameters;
 mod reader;
-mod rules;
 mod writer;
 
 use field::Entries;
@@ -13,8 +11,6 @@ use field::Place;
 use field::Track;
 pub use name::name_of;
 pub use reader::read;
-pub use rules::is_status;
-pub use rules::may_hold;
 pub use writer::fields;
 pub use writer::is_allowed;
 pub use writer::number;

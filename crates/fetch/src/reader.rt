@@ -6,7 +6,7 @@ ghost use Rattle.layout.specs.Layout.{scan};
 ghost use Rattle.layout.specs.Typed.{led, typed};
 ghost use Rattle.types.specs.Fetches.{fetch, range, standalone, joining, fetchOk, fetchError, trackStatus, largest};
 ghost use Rattle.types.specs.Table.{FETCH, «FETCH_OK», «FETCH_ERROR», «TRACK_STATUS»};
-ghost use Rattle.fetch.specs.Kinds.{numberOf, layoutOf};
+ghost use Rattle.types.specs.FetchKinds.{numberOf, layoutOf};
 ghost use Rattle.fetch.specs.Told.{headPieces, joiningType, told};
 use crate::FetchError;
 use crate::FetchMessage;
@@ -15,12 +15,9 @@ use crate::Joining;
 use crate::Range;
 use crate::Standalone;
 use crate::TrackStatus;
-use crate::kinds::FetchKind;
 use crate::parameters::Front;
 use crate::parameters::Head;
 use crate::parameters::read_parameters;
-use crate::rules::is_status;
-use crate::rules::may_hold;
 use field::ByteRead;
 use field::FailureRead;
 use field::Fault;
@@ -29,6 +26,9 @@ use field::Place;
 use field::PlaceRead;
 use field::Track;
 use field::TrackRead;
+use types::is_track_status;
+use types::kinds::FetchKind;
+use types::may_hold;
 
 // The body of a message of this family, from an offset on.
 pub fn read(kind: FetchKind, s: &[u8], at: usize) -> FetchRead
@@ -183,7 +183,7 @@ fn read_status(s: &[u8], at: usize) -> FetchRead
             let NumberRead::Whole(status, b) = field::read_number(s, a) else {
                 return FetchRead::No(Fault::Cut);
             };
-            if !is_status(status) {
+            if !is_track_status(status) {
                 return FetchRead::No(Fault::Forbidden);
             }
             read_largest(s, b, track, status)

@@ -9,12 +9,12 @@ use crate::Fetch;
 use crate::FetchMessage;
 use crate::Range;
 use crate::TrackStatus;
-use crate::rules::is_status;
-use crate::rules::may_hold;
 use field::Kind;
 use field::Piece;
 use measure::Fields;
 use measure::places;
+use types::is_track_status;
+use types::may_hold;
 
 // The number of its type.
 pub fn number(m: FetchMessage) -> u64
@@ -146,7 +146,7 @@ fn is_status_allowed(x: TrackStatus) -> bool
 {
     let status = x.status;
     let largest = x.largest;
-    if !is_status(status) {
+    if !is_track_status(status) {
         return false;
     }
     if !may_hold(status, largest.group) {

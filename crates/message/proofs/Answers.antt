@@ -21,11 +21,12 @@ use Rattle.field.proofs.Unjudged.{found-number, cut-number}
 use Rattle.layout.specs.Layout.{scan}
 use Rattle.layout.specs.Typed.{Typed, typed}
 use Rattle.types.specs.Table.{known, layoutOf}
-use Rattle.message.specs.Types.{numberOf, typeOf, toldType}
-use Rattle.message.specs.Reading.{longestBody, filledBy, readOf}
-use Rattle.message.specs.declared.Kind.{Kind}
-use Rattle.message.specs.declared.Found.{Found}
-use Rattle.message.specs.declared.Found.the-variants.{Known, Unknown}
+use Rattle.types.specs.Kinds.{numberOf, typeOf, toldType}
+use Rattle.types.specs.Limits.{longestBody}
+use Rattle.message.specs.Reading.{filledBy, readOf}
+use Rattle.types.specs.declared.kinds.Kind.{Kind}
+use Rattle.types.specs.declared.kinds.Found.{Found}
+use Rattle.types.specs.declared.kinds.Found.the-variants.{Known, Unknown}
 use Rattle.message.proofs.Front.{Headed, no-type, unknown, no-length, too-long, missing, stopped, present, answer-is}
 
 -- ---- a type

@@ -5,27 +5,27 @@ use mathlib.Core.List.{List}
 use Rattle.field.specs.Outcome.{Outcome}
 use Rattle.layout.specs.Layout.{Layout, scan}
 use Rattle.layout.specs.Typed.{Typed, typed}
-use Rattle.subscription.specs.Kinds.{numberOf as subscriptionNumber, layoutOf as subscriptionLayout}
+use Rattle.types.specs.SubscriptionKinds.{numberOf as subscriptionNumber, layoutOf as subscriptionLayout}
 use Rattle.subscription.specs.Told.{told as subscriptionTold}
 use Rattle.subscription.specs.declared.SubscriptionRead.{SubscriptionRead}
-use Rattle.subscription.specs.declared.kinds.SubscriptionKind.{SubscriptionKind}
-use Rattle.fetch.specs.Kinds.{numberOf as fetchNumber, layoutOf as fetchLayout}
+use Rattle.types.specs.declared.kinds.SubscriptionKind.{SubscriptionKind}
+use Rattle.types.specs.FetchKinds.{numberOf as fetchNumber, layoutOf as fetchLayout}
 use Rattle.fetch.specs.Told.{told as fetchTold}
 use Rattle.fetch.specs.declared.FetchRead.{FetchRead}
-use Rattle.fetch.specs.declared.kinds.FetchKind.{FetchKind}
-use Rattle.announce.specs.Kinds.{numberOf as announceNumber, layoutOf as announceLayout}
+use Rattle.types.specs.declared.kinds.FetchKind.{FetchKind}
+use Rattle.types.specs.AnnounceKinds.{numberOf as announceNumber, layoutOf as announceLayout}
 use Rattle.announce.specs.Told.{told as announceTold}
 use Rattle.announce.specs.declared.AnnounceRead.{AnnounceRead}
-use Rattle.announce.specs.declared.kinds.AnnounceKind.{AnnounceKind}
-use Rattle.session.specs.Kinds.{numberOf as sessionNumber, layoutOf as sessionLayout}
+use Rattle.types.specs.declared.kinds.AnnounceKind.{AnnounceKind}
+use Rattle.types.specs.SessionKinds.{numberOf as sessionNumber, layoutOf as sessionLayout}
 use Rattle.session.specs.Told.{told as sessionTold}
 use Rattle.session.specs.declared.SessionRead.{SessionRead}
-use Rattle.session.specs.declared.kinds.SessionKind.{SessionKind}
+use Rattle.types.specs.declared.kinds.SessionKind.{SessionKind}
 use Rattle.types.specs.Table.{layoutOf}
-use Rattle.message.specs.Types.{numberOf}
-use Rattle.message.specs.declared.Kind.{Kind}
-use Rattle.message.specs.declared.Kind.the-variants.{Subscription, Fetch, Announce, Session}
-use Rattle.message.proofs.Layouts.{layout-subscription, layout-fetch, layout-announce, layout-session}
+use Rattle.types.specs.Kinds.{numberOf}
+use Rattle.types.specs.declared.kinds.Kind.{Kind}
+use Rattle.types.specs.declared.kinds.Kind.the-variants.{Subscription, Fetch, Announce, Session}
+use Rattle.types.proofs.KindRows.{layout-subscription, layout-fetch, layout-announce, layout-session}
 
 -- what a reader told of a kind that has this layout
 as-body : {R : Type 0} (told : R → Outcome Typed) (s : List ℕ) (at : ℕ) {kind j : Kind} {r v : R} {o : Outcome Typed} {l : Layout} → layoutOf (numberOf j) ≡ l → kind ≡ j → r ≡ v → told r ≡ typed (numberOf j) (scan l s at) → o ≡ told v → o ≡ typed (numberOf kind) (scan (layoutOf (numberOf kind)) s at)

@@ -1,6 +1,4 @@
 pub mod Made
-pub mod Layouts
-pub mod Known
 pub mod Bodies
 pub mod BodyEnd
 pub mod Front

@@ -23,7 +23,8 @@ use Rattle.fetch.specs.declared.Range.the-variants.{Standalone, Joining}
 use Rattle.fetch.specs.declared.FetchMessage.{FetchMessage}
 use Rattle.fetch.specs.declared.FetchMessage.the-variants.{Fetch, FetchOk, FetchError, FetchCancel, TrackStatusRequest, TrackStatus}
 use Rattle.message.specs.Types.{typedOf}
-use Rattle.message.specs.Reading.{longestBody, readOf}
+use Rattle.types.specs.Limits.{longestBody}
+use Rattle.message.specs.Reading.{readOf}
 use Rattle.message.specs.Names.{nameSpan, namedSpan}
 use Rattle.message.specs.declared.Message.{Message}
 use Rattle.message.specs.declared.Message.the-variants.{Subscription, Fetch as FetchM, Announce, Session}

@@ -15,10 +15,10 @@ use Rattle.fetch.specs.declared.FetchMessage.{FetchMessage}
 use Rattle.fetch.specs.declared.FetchMessage.the-variants as fetch
 use Rattle.announce.proofs.OneAnswer.{message-back as announce-back}
 use Rattle.announce.specs.Told.{typedOf as announceTyped}
-use Rattle.announce.specs.Kinds.{typeRow as announceRow}
-use Rattle.announce.specs.declared.kinds.Naming.the-variants as naming
-use Rattle.announce.specs.declared.kinds.Asking.the-variants as asking
-use Rattle.announce.specs.declared.kinds.Refusing.the-variants as refusing
+use Rattle.types.specs.AnnounceKinds.{typeRow as announceRow}
+use Rattle.types.specs.declared.kinds.Naming.the-variants as naming
+use Rattle.types.specs.declared.kinds.Asking.the-variants as asking
+use Rattle.types.specs.declared.kinds.Refusing.the-variants as refusing
 use Rattle.announce.specs.declared.AnnounceMessage.{AnnounceMessage}
 use Rattle.announce.specs.declared.AnnounceMessage.the-variants as announce
 use Rattle.session.proofs.OneAnswer.{message-back as session-back}

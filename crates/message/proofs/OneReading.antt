@@ -15,23 +15,24 @@ use Rattle.layout.specs.Layout.{forbidden, scan}
 use Rattle.layout.specs.Typed.{Typed, typed}
 use Rattle.layout.proofs.Every.{Every, every-read}
 use Rattle.types.specs.Table.{TypeRow, typedAs, messages, InTable, listed, unlisted, onListed, typeRowIn, typeRowOf, layoutOf}
-use Rattle.subscription.specs.Kinds.{typeRow as subscriptionRow}
+use Rattle.types.specs.SubscriptionKinds.{typeRow as subscriptionRow}
 use Rattle.subscription.proofs.Made.{made-says as subscription-says}
-use Rattle.subscription.specs.declared.kinds.SubscriptionKind.the-variants as subscription
-use Rattle.fetch.specs.Kinds.{typeRow as fetchRow}
+use Rattle.types.specs.declared.kinds.SubscriptionKind.the-variants as subscription
+use Rattle.types.specs.FetchKinds.{typeRow as fetchRow}
 use Rattle.fetch.proofs.Made.{made-says as fetch-says}
-use Rattle.fetch.specs.declared.kinds.FetchKind.the-variants as fetch
-use Rattle.announce.specs.Kinds.{typeRow as announceRow}
+use Rattle.types.specs.declared.kinds.FetchKind.the-variants as fetch
+use Rattle.types.specs.AnnounceKinds.{typeRow as announceRow}
 use Rattle.announce.proofs.Made.{made-says as announce-says}
-use Rattle.announce.specs.declared.kinds.AnnounceKind.the-variants.{Named, Asked, Refused}
-use Rattle.announce.specs.declared.kinds.Naming.the-variants as naming
-use Rattle.announce.specs.declared.kinds.Asking.the-variants as asking
-use Rattle.announce.specs.declared.kinds.Refusing.the-variants as refusing
-use Rattle.session.specs.Kinds.{typeRow as sessionRow}
+use Rattle.types.specs.declared.kinds.AnnounceKind.the-variants.{Named, Asked, Refused}
+use Rattle.types.specs.declared.kinds.Naming.the-variants as naming
+use Rattle.types.specs.declared.kinds.Asking.the-variants as asking
+use Rattle.types.specs.declared.kinds.Refusing.the-variants as refusing
+use Rattle.types.specs.SessionKinds.{typeRow as sessionRow}
 use Rattle.session.proofs.Made.{made-says as session-says}
-use Rattle.session.specs.declared.kinds.SessionKind.the-variants as session
+use Rattle.types.specs.declared.kinds.SessionKind.the-variants as session
 use Rattle.message.specs.Types.{typedOf}
-use Rattle.message.specs.Reading.{longestBody, filledBy, readOf, told}
+use Rattle.types.specs.Limits.{longestBody}
+use Rattle.message.specs.Reading.{filledBy, readOf, told}
 use Rattle.message.specs.declared.Reading.{Reading}
 use Rattle.message.proofs.Made.{familyOf, messageOf, refusalOf, answerOf}
 use Rattle.message.proofs.Front.{Stops, no-type, unknown, no-length, too-long, missing, Judged, stopped, present, judged}

@@ -10,6 +10,7 @@ use Rattle.field.specs.Outcome.{Outcome, whole, no, onFound, faultNumber}
 use Rattle.field.specs.Entries.{numberAt}
 use Rattle.layout.specs.Layout.{scan}
 use Rattle.layout.specs.Typed.{Typed, typed}
+use Rattle.types.specs.Limits.{longestBody}
 use Rattle.types.specs.Table.{known, layoutOf}
 use Rattle.message.specs.Types.{typedOf}
 use Rattle.message.specs.declared.BodyRead.{BodyRead}
@@ -17,10 +18,6 @@ use Rattle.message.specs.declared.BodyRead.the-variants.{Whole as WholeB
 use Rattle.message.specs.declared.Message.{Message}
 use Rattle.message.specs.declared.Reading.{Reading}
 use Rattle.message.specs.declared.Reading.the-variants.{Whole, More, Unknown, TooLong, Unfilled, Forbidden, Oversize}
-
--- the longest body
-abbrev pub longestBody : ℕ
-longestBody = 16_383
 
 -- the longest message whose body takes up to a limit: its body, after a Type and a Length of eight bytes each
 abbrev pub longestUpTo : ℕ → ℕ

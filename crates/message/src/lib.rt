@@ -1,22 +1,14 @@
 // Control messages: section 8 of source document 004. A message is Type, Length and a body of Length bytes.
-mod kinds;
 mod name;
 mod reader;
 
 use announce::AnnounceMessage;
-use announce::kinds::AnnounceKind;
 use fetch::FetchMessage;
-use fetch::kinds::FetchKind;
 use field::Fault;
 pub use name::track_name;
 pub use reader::read;
 use session::SessionMessage;
-use session::kinds::SessionKind;
 use subscription::SubscriptionMessage;
-use subscription::kinds::SubscriptionKind;
-
-// The longest body that is read or written.
-pub const LONGEST_BODY: u32 = 16_383;
 
 pub enum Message {
     Subscription(SubscriptionMessage),
@@ -35,19 +27,6 @@ pub enum Reading {
     Unfilled,
     Forbidden,
     Oversize,
-}
-
-// Which message a type number stands for.
-enum Kind {
-    Subscription(SubscriptionKind),
-    Fetch(FetchKind),
-    Announce(AnnounceKind),
-    Session(SessionKind),
-}
-
-enum Found {
-    Known(Kind),
-    Unknown,
 }
 
 // A body that was read, and where its fields end.

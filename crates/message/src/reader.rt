@@ -4,21 +4,20 @@ ghost use mathlib.Core.Path.{_≡_};
 ghost use Rattle.layout.specs.Layout.{scan};
 ghost use Rattle.layout.specs.Typed.{typed};
 ghost use Rattle.types.specs.Table.{layoutOf};
-ghost use Rattle.message.specs.Types.{numberOf};
+ghost use Rattle.types.specs.Kinds.{numberOf};
 ghost use Rattle.message.specs.Reading.{told, toldBody, filledBy, readOf};
 use crate::BodyRead;
-use crate::Found;
-use crate::Kind;
-use crate::LONGEST_BODY;
 use crate::Message;
 use crate::Reading;
-use crate::kinds::type_of;
 use announce::AnnounceRead;
 use fetch::FetchRead;
 use field::Fault;
 use field::NumberRead;
 use session::SessionRead;
 use subscription::SubscriptionRead;
+use types::LONGEST_BODY;
+use types::kinds::Found;
+use types::kinds::Kind;
 
 pub fn read(s: &[u8]) -> Reading
     ensures { λ r. ⌜ told r ≡ readOf (now (s .entry)) ⌝ }
@@ -26,7 +25,7 @@ pub fn read(s: &[u8]) -> Reading
     let NumberRead::Whole(number, a) = field::read_number(s, 0) else {
         return Reading::More;
     };
-    let Found::Known(kind) = type_of(number) else {
+    let Found::Known(kind) = types::type_of(number) else {
         return Reading::Unknown;
     };
     let NumberRead::Whole(length, b) = field::read_number(s, a) else {

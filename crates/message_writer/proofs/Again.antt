@@ -22,7 +22,8 @@ use Rattle.encode.proofs.ChecksPassed.{Passes}
 use Rattle.encode.proofs.ChecksPassed as passed
 use Rattle.types.specs.Table.{layoutOf}
 use Rattle.message.specs.Types.{typedOf}
-use Rattle.message.specs.Reading.{longestBody, readOf}
+use Rattle.types.specs.Limits.{longestBody}
+use Rattle.message.specs.Reading.{readOf}
 use Rattle.message_writer.specs.Writing.{allowedOf, writeUpTo, writeOf}
 use Rattle.message.specs.declared.Message.{Message}
 use Rattle.message.proofs.Front.{parts}

@@ -9,11 +9,11 @@ use Rattle.subscription.specs.declared.SubscriptionMessage.{SubscriptionMessage
 use Rattle.fetch.specs.Told.{typedOf as fetchTyped}
 use Rattle.fetch.specs.declared.FetchMessage.{FetchMessage}
 use Rattle.types.specs.Announces.{named}
-use Rattle.announce.specs.Kinds.{rest}
+use Rattle.announce.specs.AfterNamespace.{rest}
 use Rattle.announce.proofs.ByKind.{layout-is}
 use Rattle.announce.specs.declared.AnnounceMessage.{AnnounceMessage}
 use Rattle.announce.specs.declared.AnnounceMessage.the-variants.{Named, Asked, Refused}
-use Rattle.announce.specs.declared.kinds.AnnounceKind.the-variants.{Named as KindNamed, Asked as KindAsked, Refused as KindRefused}
+use Rattle.types.specs.declared.kinds.AnnounceKind.the-variants.{Named as KindNamed, Asked as KindAsked, Refused as KindRefused}
 use Rattle.types.specs.Sessions.{clientSetup, serverSetup, goAway}
 use Rattle.session.specs.declared.SessionMessage.{SessionMessage}
 use Rattle.session.specs.declared.SessionMessage.the-variants.{ClientSetup, ServerSetup, GoAway}
@@ -21,7 +21,7 @@ use Rattle.types.specs.Table.{messages, typeRowIn, typeRowOf, layoutOf, allowed
 use Rattle.message_writer.specs.Writing.{allowedOf}
 use Rattle.message.specs.declared.Message.{Message}
 use Rattle.message.specs.declared.Message.the-variants.{Subscription, Fetch, Announce, Session}
-use Rattle.message.proofs.Layouts.{announce-layout}
+use Rattle.types.proofs.KindRows.{announce-layout}
 
 -- a message is judged as its family judges it:
 module _ {m : Message} {a : Bool} where

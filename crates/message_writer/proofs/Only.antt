@@ -17,7 +17,8 @@ use Rattle.encode.proofs.InTheWhole.{longer-found}
 use Rattle.encode.proofs.Framed.{least-frame}
 use Rattle.types.specs.Table.{layoutOf}
 use Rattle.message.specs.Types.{typedOf}
-use Rattle.message.specs.Reading.{longestBody, readOf}
+use Rattle.types.specs.Limits.{longestBody}
+use Rattle.message.specs.Reading.{readOf}
 use Rattle.message_writer.specs.Writing.{writeOf}
 use Rattle.message.specs.declared.Message.{Message}
 use Rattle.message.proofs.Front.{parts}

@@ -29,12 +29,12 @@ use Rattle.fetch.specs.declared.Range.the-variants.{Standalone, Joining}
 use Rattle.fetch.specs.declared.FetchMessage.{FetchMessage}
 use Rattle.fetch.specs.declared.FetchMessage.the-variants.{Fetch as AFetch, FetchOk, FetchError, FetchCancel, TrackStatusRequest, TrackStatus}
 use Rattle.types.specs.Announces.{named}
-use Rattle.announce.specs.Kinds.{rest}
+use Rattle.announce.specs.AfterNamespace.{rest}
 use Rattle.announce.proofs.ByKind.{layout-is}
 use Rattle.announce.specs.Told.{typedOf as announceTyped}
 use Rattle.announce.specs.declared.AnnounceMessage.{AnnounceMessage}
 use Rattle.announce.specs.declared.AnnounceMessage.the-variants.{Named, Asked, Refused}
-use Rattle.announce.specs.declared.kinds.AnnounceKind.the-variants.{Named as KindNamed, Asked as KindAsked, Refused as KindRefused}
+use Rattle.types.specs.declared.kinds.AnnounceKind.the-variants.{Named as KindNamed, Asked as KindAsked, Refused as KindRefused}
 use Rattle.types.specs.Sessions.{clientSetup, serverSetup, goAway}
 use Rattle.session.specs.Told.{typedOf as sessionTyped}
 use Rattle.session.specs.declared.SessionMessage.{SessionMessage}
@@ -44,7 +44,7 @@ use Rattle.message.specs.Types.{typedOf}
 use Rattle.message_writer.specs.Writing.{allowedOf}
 use Rattle.message.specs.declared.Message.{Message}
 use Rattle.message.specs.declared.Message.the-variants.{Subscription, Fetch, Announce, Session}
-use Rattle.message.proofs.Layouts.{announce-known, announce-layout}
+use Rattle.types.proofs.KindRows.{announce-known, announce-layout}
 
 -- ---- the families
 

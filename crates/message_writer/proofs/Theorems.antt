@@ -20,7 +20,8 @@ use Rattle.encode.specs.Writing.{toldWriting}
 use Rattle.encode.specs.declared.Writing.{Writing}
 use Rattle.types.specs.Table.{known, layoutOf}
 use Rattle.message.specs.Types.{typedOf}
-use Rattle.message.specs.Reading.{longestBody, longestMessage, readOf, told}
+use Rattle.types.specs.Limits.{longestBody}
+use Rattle.message.specs.Reading.{longestMessage, readOf, told}
 use Rattle.message.specs.Part.{PartOf}
 use Rattle.message.specs.Names.{nameSpan, namedSpan}
 use Rattle.message_writer.specs.Writing.{writeOf}

@@ -10,7 +10,7 @@ use Rattle.encode.specs.Writing.{writtenOf, framedOf}
 use Rattle.measure.specs.declared.Fields.{Fields}
 use Rattle.measure.proofs.Placed.{fields-placed}
 use Rattle.message.specs.Types.{typedOf}
-use Rattle.message.specs.Reading.{longestBody}
+use Rattle.types.specs.Limits.{longestBody}
 use Rattle.message_writer.specs.Writing.{allowedOf, writeUpTo, writeOf}
 use Rattle.message.specs.declared.Message.{Message}
 

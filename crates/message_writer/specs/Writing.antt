@@ -11,7 +11,7 @@ use Rattle.measure.specs.Measuring.{rightAll, sizedAll, encodeAll}
 use Rattle.encode.specs.Writing.{writtenOf, frame}
 use Rattle.types.specs.Table.{allowedTyped}
 use Rattle.message.specs.Types.{typedOf}
-use Rattle.message.specs.Reading.{longestBody}
+use Rattle.types.specs.Limits.{longestBody}
 use Rattle.message.specs.declared.Message.{Message}
 
 -- "Forbidden field values (5)": what the layout of its type forbids, none of its fields holds

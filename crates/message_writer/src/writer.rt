@@ -8,8 +8,8 @@ ghost use Rattle.message.specs.Types.{typedOf};
 ghost use Rattle.message_writer.specs.Writing.{allowedOf, writeOf};
 use encode::Writing;
 use measure::Fields;
-use message::LONGEST_BODY;
 use message::Message;
+use types::LONGEST_BODY;
 
 // bytes is what the parts of the message point into.
 pub fn write(out: &mut [u8], bytes: &[u8], m: Message) -> Writing

@@ -124,7 +124,7 @@ pub fn track_status(v: &[u64]) -> Ahead
         0 => Ahead::Field(FieldName::FullTrackName, Form::Track),
         1 => number(FieldName::StatusCode),
         _ => {
-            if !fetch::is_status(v[1]) {
+            if !types::is_track_status(v[1]) {
                 return Ahead::Forbidden;
             }
             largest(v[1], &v[2..])
@@ -140,13 +140,13 @@ fn largest(status: u64, v: &[u64]) -> Ahead
     if n == 0 {
         return number(FieldName::LargestGroupId);
     }
-    if !fetch::may_hold(status, v[0]) {
+    if !types::may_hold(status, v[0]) {
         return Ahead::Forbidden;
     }
     if n == 1 {
         return number(FieldName::LargestObjectId);
     }
-    if !fetch::may_hold(status, v[1]) {
+    if !types::may_hold(status, v[1]) {
         return Ahead::Forbidden;
     }
     Ahead::Done

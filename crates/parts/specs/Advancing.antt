@@ -7,7 +7,7 @@ use Rattle.field.specs.Entries.{longestTrack, mostOf, few}
 use mathlib.Core.Bool.{true}
 use Rattle.field.specs.declared.Kind.{Kind}
 use Rattle.field.specs.declared.Kind.the-variants.{Namespace, Parameters, Versions}
-use Rattle.message.specs.Reading.{longestBody}
+use Rattle.types.specs.Limits.{longestBody}
 use Rattle.outline.specs.Places.{aheadAt}
 use Rattle.outline.specs.declared.Form.{Form}
 use Rattle.outline.specs.declared.Form.the-variants.{Integer, Byte as AByte, Bytes as SomeBytes, List as AList, Track as ATrack}

@@ -11,10 +11,10 @@ use crate::expecting::ahead_at;
 use crate::expecting::kind_in;
 use field::Kind;
 use field::LONGEST_TRACK;
-use message::LONGEST_BODY;
 use outline::Ahead;
 use outline::Form;
 use outline::Outline;
+use types::LONGEST_BODY;
 
 // What is laid out, by its type.
 fn typed_as(outline: Outline, number: u64) -> Outline

@@ -10,10 +10,10 @@ use Rattle.types.specs.Table.{typedAs, «CLIENT_SETUP», «SERVER_SETUP»}
 use Rattle.types.specs.Sessions.{clientSetup, serverSetup, goAway}
 use Rattle.session.specs.declared.SessionMessage.{SessionMessage}
 use Rattle.session.specs.declared.SessionMessage.the-variants.{ClientSetup, ServerSetup, GoAway}
-use Rattle.session.specs.Kinds.{typeRow}
+use Rattle.types.specs.SessionKinds.{typeRow}
 use Rattle.session.specs.Told.{typedOf}
-use Rattle.session.specs.declared.kinds.SessionKind.{SessionKind}
-use Rattle.session.specs.declared.kinds.SessionKind.the-variants as kinds
+use Rattle.types.specs.declared.kinds.SessionKind.{SessionKind}
+use Rattle.types.specs.declared.kinds.SessionKind.the-variants as kinds
 
 unfoldable pub messageOf : Typed → SessionMessage
 messageOf t =

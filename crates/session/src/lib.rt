@@ -1,5 +1,4 @@
 // The messages that begin and end a session: CLIENT_SETUP, SERVER_SETUP and GOAWAY.
-pub mod kinds;
 mod reader;
 mod writer;
 

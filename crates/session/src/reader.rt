@@ -4,18 +4,18 @@ ghost use Rattle.layout.specs.Layout.{scan};
 ghost use Rattle.layout.specs.Typed.{typed};
 ghost use Rattle.types.specs.Sessions.{clientSetup, serverSetup};
 ghost use Rattle.types.specs.Table.{«CLIENT_SETUP», «SERVER_SETUP»};
-ghost use Rattle.session.specs.Kinds.{numberOf, layoutOf};
+ghost use Rattle.types.specs.SessionKinds.{numberOf, layoutOf};
 ghost use Rattle.session.specs.Told.{told};
 use crate::ClientSetup;
 use crate::ServerSetup;
 use crate::SessionMessage;
 use crate::SessionRead;
-use crate::kinds::SessionKind;
 use field::BytesRead;
 use field::Fault;
 use field::Kind;
 use field::ListRead;
 use field::NumberRead;
+use types::kinds::SessionKind;
 
 // The body of a message of this family, from an offset on.
 pub fn read(kind: SessionKind, s: &[u8], at: usize) -> SessionRead

@@ -20,10 +20,10 @@ use Rattle.subscription.specs.declared.Subscribe.{Subscribe}
 use Rattle.subscription.specs.declared.SubscribeOk.{SubscribeOk}
 use Rattle.subscription.specs.declared.SubscriptionMessage.{SubscriptionMessage}
 use Rattle.subscription.specs.declared.SubscriptionMessage.the-variants.{SubscribeUpdate as ASubscribeUpdate, Subscribe as ASubscribe, SubscribeOk as ASubscribeOk, SubscribeError as ASubscribeError, Unsubscribe as AUnsubscribe, SubscribeDone as ASubscribeDone, MaxSubscribeId as AMaxSubscribeId, SubscribesBlocked as ASubscribesBlocked}
-use Rattle.subscription.specs.Kinds.{typeRow}
+use Rattle.types.specs.SubscriptionKinds.{typeRow}
 use Rattle.subscription.specs.Told.{typedOf}
-use Rattle.subscription.specs.declared.kinds.SubscriptionKind.{SubscriptionKind}
-use Rattle.subscription.specs.declared.kinds.SubscriptionKind.the-variants as kinds
+use Rattle.types.specs.declared.kinds.SubscriptionKind.{SubscriptionKind}
+use Rattle.types.specs.declared.kinds.SubscriptionKind.the-variants as kinds
 
 module _ (ps : List Piece) where
   -- of a filter, with its parameters at a place

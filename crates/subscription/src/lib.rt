@@ -1,9 +1,7 @@
 // The messages of subscriptions: SUBSCRIBE and the answers to it, and how many there may be.
-pub mod kinds;
 mod name;
 mod parameters;
 mod reader;
-mod rules;
 mod writer;
 
 use field::Entries;
@@ -14,7 +12,6 @@ use field::Span;
 use field::Track;
 pub use name::name_of;
 pub use reader::read;
-pub use rules::ends_after;
 pub use writer::fields;
 pub use writer::is_allowed;
 pub use writer::number;

@@ -6,7 +6,7 @@ ghost use Rattle.layout.specs.Layout.{scan};
 ghost use Rattle.layout.specs.Typed.{led, typed};
 ghost use Rattle.types.specs.Subscriptions.{subscribe, delivery, filter, ending, subscribeOk, content, subscribeError, subscribeUpdate, subscribeDone};
 ghost use Rattle.types.specs.Table.{SUBSCRIBE, «SUBSCRIBE_OK», «SUBSCRIBE_ERROR», «SUBSCRIBE_UPDATE», «SUBSCRIBE_DONE»};
-ghost use Rattle.subscription.specs.Kinds.{numberOf, layoutOf};
+ghost use Rattle.types.specs.SubscriptionKinds.{numberOf, layoutOf};
 ghost use Rattle.subscription.specs.Told.{headPieces, grantedPieces, told};
 use crate::Content;
 use crate::Filter;
@@ -14,12 +14,10 @@ use crate::SubscribeDone;
 use crate::SubscribeError;
 use crate::SubscriptionMessage as Message;
 use crate::SubscriptionRead as Answer;
-use crate::kinds::SubscriptionKind;
 use crate::parameters::Front;
 use crate::parameters::Granted;
 use crate::parameters::Head;
 use crate::parameters::read_parameters;
-use crate::rules::ends_after;
 use field::ByteRead;
 use field::BytesRead;
 use field::FailureRead;
@@ -29,6 +27,8 @@ use field::Place;
 use field::PlaceRead;
 use field::Track;
 use field::TrackRead;
+use types::ends_after;
+use types::kinds::SubscriptionKind;
 
 // The body of a message of this family, from an offset on.
 pub fn read(kind: SubscriptionKind, s: &[u8], at: usize) -> Answer

@@ -11,11 +11,11 @@ use crate::Subscribe;
 use crate::SubscribeOk;
 use crate::SubscribeUpdate;
 use crate::SubscriptionMessage;
-use crate::rules::ends_after;
 use field::Kind;
 use field::Piece;
 use measure::Fields;
 use measure::places;
+use types::ends_after;
 
 // The number of its type.
 pub fn number(m: SubscriptionMessage) -> u64

@@ -1,2 +1,4 @@
 pub mod Gaps
 pub mod TypedAs
+pub mod KindRows
+pub mod KnownNumbers

@@ -1,7 +1,13 @@
 pub mod Letters
+pub mod Limits
 pub mod Rules
 pub mod Sessions
 pub mod Subscriptions
 pub mod Fetches
 pub mod Announces
 pub mod Table
+pub mod SubscriptionKinds
+pub mod FetchKinds
+pub mod AnnounceKinds
+pub mod SessionKinds
+pub mod Kinds

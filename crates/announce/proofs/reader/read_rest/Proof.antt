@@ -2,7 +2,7 @@
 use borrow.Author.Needs.{needs}
 use Rattle.layout.specs.Layout.{parameters}
 use Rattle.layout.proofs.Steps.{stopping, going}
-use Rattle.announce.specs.Kinds.{rest}
+use Rattle.announce.specs.AfterNamespace.{rest}
 use Rattle.announce.proofs.ByKind.{rest-no, rest-whole}
 use Rattle.announce.proofs.reader.read_rest.Statement.{statement}
 use Rattle.announce.proofs.reader.read_rest.Tie as tie

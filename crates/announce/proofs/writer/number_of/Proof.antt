@@ -1,6 +1,6 @@
 -- `number_of` meets its contract. Assumes nothing.
 use borrow.Author.Needs.{needs}
-use Rattle.announce.specs.Kinds.{typeRow}
+use Rattle.types.specs.AnnounceKinds.{typeRow}
 use Rattle.announce.proofs.writer.number_of.Statement.{statement}
 use Rattle.announce.proofs.writer.number_of.Tie as tie
 

@@ -3,7 +3,7 @@ use borrow.Author.Needs.{needs}
 use Rattle.layout.proofs.Family.{by-reader, by-fields, by-fault}
 use Rattle.layout.proofs.Steps.{stopping, going}
 use Rattle.types.specs.Fetches.{fetchCancel, trackStatusRequest}
-use Rattle.fetch.specs.Kinds.{typeRow, numberOf, layoutOf}
+use Rattle.types.specs.FetchKinds.{typeRow, numberOf, layoutOf}
 use Rattle.fetch.proofs.reader.read.Statement.{statement}
 use Rattle.fetch.proofs.reader.read.Tie as tie
 

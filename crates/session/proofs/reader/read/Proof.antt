@@ -3,7 +3,7 @@ use borrow.Author.Needs.{needs}
 use Rattle.layout.proofs.Family.{by-reader, by-fields, by-fault}
 use Rattle.layout.proofs.Steps.{stopping, going}
 use Rattle.types.specs.Sessions.{goAway}
-use Rattle.session.specs.Kinds.{typeRow, numberOf, layoutOf}
+use Rattle.types.specs.SessionKinds.{typeRow, numberOf, layoutOf}
 use Rattle.session.proofs.reader.read.Statement.{statement}
 use Rattle.session.proofs.reader.read.Tie as tie
 

@@ -3,7 +3,7 @@ use borrow.Author.Needs.{needs}
 use Rattle.layout.proofs.Family.{by-reader, by-fields, by-fault}
 use Rattle.layout.proofs.Steps.{stopping, going}
 use Rattle.types.specs.Subscriptions.{idOnly}
-use Rattle.subscription.specs.Kinds.{typeRow, numberOf, layoutOf}
+use Rattle.types.specs.SubscriptionKinds.{typeRow, numberOf, layoutOf}
 use Rattle.subscription.proofs.reader.read.Statement.{statement}
 use Rattle.subscription.proofs.reader.read.Tie as tie
 

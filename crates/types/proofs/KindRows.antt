@@ -3,26 +3,26 @@ use Prim.Native.Nat.{ℕ}
 use mathlib.Core.Path.{_≡_, refl, sym, ap, _∙_}
 use mathlib.Core.Bool.{true, false}
 use native.Mathlib.Omega.{arith}
 use Rattle.types.proofs.Gaps.{below-the-first}
-use Rattle.subscription.specs.Kinds.{typeRow as subscriptionRow, layoutOf as subscriptionLayout}
-use Rattle.subscription.specs.declared.kinds.SubscriptionKind.{SubscriptionKind}
-use Rattle.subscription.specs.declared.kinds.SubscriptionKind.the-variants.{SubscribeUpdate, Subscribe, SubscribeOk, SubscribeError, Unsubscribe, SubscribeDone, MaxSubscribeId, SubscribesBlocked}
-use Rattle.fetch.specs.Kinds.{typeRow as fetchRow, layoutOf as fetchLayout}
-use Rattle.fetch.specs.declared.kinds.FetchKind.{FetchKind}
-use Rattle.fetch.specs.declared.kinds.FetchKind.the-variants.{Fetch as AFetch, FetchOk, FetchError, FetchCancel, TrackStatusRequest, TrackStatus}
-use Rattle.announce.specs.Kinds.{typeRow as announceRow, numberOf as announceNumber, layoutOf as announceLayout}
-use Rattle.announce.specs.declared.kinds.AnnounceKind.{AnnounceKind}
-use Rattle.announce.specs.declared.kinds.AnnounceKind.the-variants.{Named, Asked, Refused}
-use Rattle.announce.specs.declared.kinds.Naming.the-variants.{AnnounceOk, Unannounce, SubscribeAnnouncesOk, UnsubscribeAnnounces}
-use Rattle.announce.specs.declared.kinds.Asking.the-variants.{Announce as AnAnnounce, SubscribeAnnounces}
-use Rattle.announce.specs.declared.kinds.Refusing.the-variants.{AnnounceError, AnnounceCancel, SubscribeAnnouncesError}
-use Rattle.session.specs.Kinds.{typeRow as sessionRow, layoutOf as sessionLayout}
-use Rattle.session.specs.declared.kinds.SessionKind.{SessionKind}
-use Rattle.session.specs.declared.kinds.SessionKind.the-variants.{ClientSetup, ServerSetup, GoAway}
+use Rattle.types.specs.SubscriptionKinds.{typeRow as subscriptionRow, layoutOf as subscriptionLayout}
+use Rattle.types.specs.declared.kinds.SubscriptionKind.{SubscriptionKind}
+use Rattle.types.specs.declared.kinds.SubscriptionKind.the-variants.{SubscribeUpdate, Subscribe, SubscribeOk, SubscribeError, Unsubscribe, SubscribeDone, MaxSubscribeId, SubscribesBlocked}
+use Rattle.types.specs.FetchKinds.{typeRow as fetchRow, layoutOf as fetchLayout}
+use Rattle.types.specs.declared.kinds.FetchKind.{FetchKind}
+use Rattle.types.specs.declared.kinds.FetchKind.the-variants.{Fetch as AFetch, FetchOk, FetchError, FetchCancel, TrackStatusRequest, TrackStatus}
+use Rattle.types.specs.AnnounceKinds.{typeRow as announceRow, numberOf as announceNumber, layoutOf as announceLayout}
+use Rattle.types.specs.declared.kinds.AnnounceKind.{AnnounceKind}
+use Rattle.types.specs.declared.kinds.AnnounceKind.the-variants.{Named, Asked, Refused}
+use Rattle.types.specs.declared.kinds.Naming.the-variants.{AnnounceOk, Unannounce, SubscribeAnnouncesOk, UnsubscribeAnnounces}
+use Rattle.types.specs.declared.kinds.Asking.the-variants.{Announce as AnAnnounce, SubscribeAnnounces}
+use Rattle.types.specs.declared.kinds.Refusing.the-variants.{AnnounceError, AnnounceCancel, SubscribeAnnouncesError}
+use Rattle.types.specs.SessionKinds.{typeRow as sessionRow, layoutOf as sessionLayout}
+use Rattle.types.specs.declared.kinds.SessionKind.{SessionKind}
+use Rattle.types.specs.declared.kinds.SessionKind.the-variants.{ClientSetup, ServerSetup, GoAway}
 use Rattle.types.specs.Table.{TypeRow, listed, messages, typeRowIn, typeRowOf, known, layoutOf}
-use Rattle.message.specs.Types.{numberOf}
-use Rattle.message.specs.declared.Kind.{Kind}
-use Rattle.message.specs.declared.Kind.the-variants.{Subscription, Fetch, Announce, Session}
+use Rattle.types.specs.Kinds.{numberOf}
+use Rattle.types.specs.declared.kinds.Kind.{Kind}
+use Rattle.types.specs.declared.kinds.Kind.the-variants.{Subscription, Fetch, Announce, Session}
 
 -- ---- the families
 

@@ -1,9 +1,9 @@
 -- `may_hold` meets its contract. Assumes nothing.
 use native.Mathlib.Omega.{arith}
 use borrow.Author.Tests.{le-leb, lt-leb}
 use Rattle.types.specs.Rules.{mayHold}
-use Rattle.fetch.proofs.rules.may_hold.Statement.{statement}
-use Rattle.fetch.proofs.rules.may_hold.Tie as tie
+use Rattle.types.proofs.rules.may_hold.Statement.{statement}
+use Rattle.types.proofs.rules.may_hold.Tie as tie
 
 pub may-hold-spec : {M : Type 1} → statement M
 unfolding mayHold

@@ -1,9 +1,9 @@
 -- The row of the table that each kind of message stands in.
 use Prim.Native.Nat.{ℕ}
 use Rattle.layout.specs.Layout.{Layout}
 use Rattle.types.specs.Table.{TypeRow, FETCH, «FETCH_OK», «FETCH_ERROR», «FETCH_CANCEL», «TRACK_STATUS_REQUEST», «TRACK_STATUS»}
-use Rattle.fetch.specs.declared.kinds.FetchKind.{FetchKind}
-use Rattle.fetch.specs.declared.kinds.FetchKind.the-variants.{Fetch, FetchOk, FetchError, FetchCancel, TrackStatusRequest, TrackStatus}
+use Rattle.types.specs.declared.kinds.FetchKind.{FetchKind}
+use Rattle.types.specs.declared.kinds.FetchKind.the-variants.{Fetch, FetchOk, FetchError, FetchCancel, TrackStatusRequest, TrackStatus}
 
 unfoldable pub typeRow : FetchKind → TypeRow
 typeRow Fetch = FETCH

@@ -4,11 +4,11 @@ use mathlib.Core.Path.{_≡_, refl, ap, _∙_}
 use mathlib.Core.Bool.{false}
 use mathlib.Core.List.{List, [], _∷_}
 use Rattle.common.specs.Answer.{whole, refused}
 use Rattle.types.specs.Table.{messages, known}
 use Rattle.types.proofs.Gaps.{the-short-gap, Missed, unknown-missed}
-use Rattle.message.specs.Types.{numberOf, typeOf}
-use Rattle.message.specs.declared.Kind.{Kind}
-use Rattle.message.proofs.Layouts.{is-known}
+use Rattle.types.specs.Kinds.{numberOf, typeOf}
+use Rattle.types.specs.declared.kinds.Kind.{Kind}
+use Rattle.types.proofs.KindRows.{is-known}
 
 -- a number that a kind of message has,
 pub type-known : (k : Kind) {n : ℕ} → n ≡ numberOf k → whole (numberOf k) 0 ≡ typeOf n

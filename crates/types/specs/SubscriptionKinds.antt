@@ -1,9 +1,9 @@
 -- The row of the table that each kind of message stands in.
 use Prim.Native.Nat.{ℕ}
 use Rattle.layout.specs.Layout.{Layout}
 use Rattle.types.specs.Table.{TypeRow, «MAX_SUBSCRIBE_ID», «SUBSCRIBES_BLOCKED», SUBSCRIBE, «SUBSCRIBE_OK», «SUBSCRIBE_ERROR», UNSUBSCRIBE, «SUBSCRIBE_UPDATE», «SUBSCRIBE_DONE»}
-use Rattle.subscription.specs.declared.kinds.SubscriptionKind.{SubscriptionKind}
-use Rattle.subscription.specs.declared.kinds.SubscriptionKind.the-variants.{SubscribeUpdate, Subscribe, SubscribeOk, SubscribeError, Unsubscribe, SubscribeDone, MaxSubscribeId, SubscribesBlocked}
+use Rattle.types.specs.declared.kinds.SubscriptionKind.{SubscriptionKind}
+use Rattle.types.specs.declared.kinds.SubscriptionKind.the-variants.{SubscribeUpdate, Subscribe, SubscribeOk, SubscribeError, Unsubscribe, SubscribeDone, MaxSubscribeId, SubscribesBlocked}
 
 unfoldable pub typeRow : SubscriptionKind → TypeRow
 typeRow SubscribeUpdate = «SUBSCRIBE_UPDATE»

@@ -1,22 +1,22 @@
 -- `type_of` meets its contract: a known number stands for its message, and every other for none. Assumes nothing.
 use native.Mathlib.Omega.{arith}
-use Rattle.subscription.specs.declared.kinds.SubscriptionKind.the-variants as subscription
-use Rattle.fetch.specs.declared.kinds.FetchKind.the-variants as fetch
-use Rattle.announce.specs.declared.kinds.AnnounceKind.the-variants.{Named, Asked, Refused}
-use Rattle.announce.specs.declared.kinds.Naming.the-variants as naming
-use Rattle.announce.specs.declared.kinds.Asking.the-variants as asking
-use Rattle.announce.specs.declared.kinds.Refusing.the-variants as refusing
-use Rattle.session.specs.declared.kinds.SessionKind.the-variants as session
-use Rattle.subscription.specs.Kinds.{typeRow as subscriptionRow}
-use Rattle.fetch.specs.Kinds.{typeRow as fetchRow}
-use Rattle.announce.specs.Kinds.{typeRow as announceRow}
-use Rattle.session.specs.Kinds.{typeRow as sessionRow}
+use Rattle.types.specs.declared.kinds.SubscriptionKind.the-variants as subscription
+use Rattle.types.specs.declared.kinds.FetchKind.the-variants as fetch
+use Rattle.types.specs.declared.kinds.AnnounceKind.the-variants.{Named, Asked, Refused}
+use Rattle.types.specs.declared.kinds.Naming.the-variants as naming
+use Rattle.types.specs.declared.kinds.Asking.the-variants as asking
+use Rattle.types.specs.declared.kinds.Refusing.the-variants as refusing
+use Rattle.types.specs.declared.kinds.SessionKind.the-variants as session
+use Rattle.types.specs.SubscriptionKinds.{typeRow as subscriptionRow}
+use Rattle.types.specs.FetchKinds.{typeRow as fetchRow}
+use Rattle.types.specs.AnnounceKinds.{typeRow as announceRow}
+use Rattle.types.specs.SessionKinds.{typeRow as sessionRow}
 use Rattle.types.proofs.Gaps.{below-the-first}
-use Rattle.message.specs.Types.{numberOf}
-use Rattle.message.specs.declared.Kind.the-variants.{Subscription, Fetch, Announce, Session}
-use Rattle.message.proofs.Known.{type-known, type-none, type-gap, type-missed}
-use Rattle.message.proofs.kinds.type_of.Statement.{statement}
-use Rattle.message.proofs.kinds.type_of.Tie as tie
+use Rattle.types.specs.Kinds.{numberOf}
+use Rattle.types.specs.declared.kinds.Kind.the-variants.{Subscription, Fetch, Announce, Session}
+use Rattle.types.proofs.KnownNumbers.{type-known, type-none, type-gap, type-missed}
+use Rattle.types.proofs.numbers.type_of.Statement.{statement}
+use Rattle.types.proofs.numbers.type_of.Tie as tie
 
 pub type-of-spec : {M : Type 1} → statement M
 unfolding numberOf subscriptionRow fetchRow announceRow sessionRow

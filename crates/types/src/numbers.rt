@@ -1,15 +1,15 @@
-// Types fall into known numbers, gaps between them and numbers beyond the last.
+// Type numbers fall into known numbers, gaps between them and numbers beyond the last.
 ghost use mathlib.Core.Path.{_≡_};
-ghost use Rattle.message.specs.Types.{typeOf, toldType};
-use crate::Found;
-use crate::Kind;
-use announce::kinds::AnnounceKind;
-use announce::kinds::Asking;
-use announce::kinds::Naming;
-use announce::kinds::Refusing;
-use fetch::kinds::FetchKind;
-use session::kinds::SessionKind;
-use subscription::kinds::SubscriptionKind;
+ghost use Rattle.types.specs.Kinds.{typeOf, toldType};
+use crate::kinds::AnnounceKind;
+use crate::kinds::Asking;
+use crate::kinds::FetchKind;
+use crate::kinds::Found;
+use crate::kinds::Kind;
+use crate::kinds::Naming;
+use crate::kinds::Refusing;
+use crate::kinds::SessionKind;
+use crate::kinds::SubscriptionKind;
 
 // Which message a number is the type of.
 pub fn type_of(number: u64) -> Found

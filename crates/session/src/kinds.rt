@@ -1,7 +1,0 @@
-// Which messages there are.
-
-pub enum SessionKind {
-    ClientSetup,
-    ServerSetup,
-    GoAway,
-}
