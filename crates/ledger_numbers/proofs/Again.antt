@@ -7,7 +7,7 @@ use mathlib.Core.Logic.{_⊎_, inl, inr, ⊎-elim}
 use native.Mathlib.Omega.{arith}
 use borrow.Author.Tests.{eqb-true, eqb-false, eq-eqb}
 use lib.ListN.{length, take, drop, getD}
-use lib.Seq.{getD-drop, drop-drop, drop-at, take-at}
+use lib.Seq.{drop-drop, drop-at, take-at}
 use lib.Dec.{eqb, leb}
 use Rattle.common.specs.Choice.{pick}
 use Rattle.common.specs.Buffer.{over}
@@ -30,6 +30,7 @@ use Rattle.ledger.specs.declared.Ledger.{Ledger}
 use Rattle.ledger_numbers.specs.Numbers.{ownNumbers, rowNumbers, ledgerNumbers, stateNumber, rangeNumbers, greatestNumbers, numbersOfRow, numbersOfRows, partNumber, numbersOf}
 use Rattle.ledger_numbers.specs.Naming.{stateNamed, rangeNamed, greatestNamed, rowNamed, rowsNamed, partNamed, ruleNamed, sessionNamed, ledgerNamed, areSame, noLedger, unpackOf, keptIn}
 use Rattle.ledger_numbers.proofs.Storing.{row-numbers, row-length, numbers-length}
+use Rattle.ledger_numbers.proofs.RowsNamed.{row-behind}
 
 -- ---- a row
 
@@ -53,13 +54,6 @@ row-again : (r : Row) (rest : List ℕ) → rowNamed (numbersOfRow r ++ rest) 0 
 unfolding rowNamed
 row-again r rest =
     rw (row-numbers r refl refl refl, state-again (r .state), range-again (r .range), greatest-again (r .greatest))
-
--- what stands before an offset does not count
-row-behind : (ns : List ℕ) (at : ℕ) → rowNamed (drop at ns) 0 ≡ rowNamed ns at
-unfolding rowNamed
-row-behind ns at =
-    let e : at + 0 ≡ at = omega arith in
-    simp getD-drop (rw e)
 
 -- ---- rows, and what follows them
 

@@ -4,12 +4,19 @@ use mathlib.Core.Path.{_≡_, sym, ap, _∙_}
 use mathlib.Core.List.{List, [], _∷_, _++_}
 use native.Mathlib.Numerals.{add-one}
 use native.Mathlib.Omega.{arith}
-use lib.ListN.{length, take, set, length-set}
-use lib.Seq.{take-all, take-suc-set}
+use lib.ListN.{length, take, drop, set, length-set}
+use lib.Seq.{take-all, take-suc-set, getD-drop}
 use Rattle.row.specs.declared.Row.{Row}
 use Rattle.ledger.specs.Ledgers.{mostRows}
 use Rattle.ledger_numbers.specs.Numbers.{ownNumbers, rowNumbers}
 use Rattle.ledger_numbers.specs.Naming.{rowNamed, rowsNamed}
+
+-- what stands before an offset does not count
+pub row-behind : (ns : List ℕ) (at : ℕ) → rowNamed (drop at ns) 0 ≡ rowNamed ns at
+unfolding rowNamed
+row-behind ns at =
+    let e : at + 0 ≡ at = omega arith in
+    simp getD-drop (rw e)
 
 -- one more row is after the others
 pub rows-snoc : (i : ℕ) (ns : List ℕ) (at : ℕ) → rowsNamed (suc i) ns at ≡ rowsNamed i ns at ++ (rowNamed ns (at + rowNumbers * i) ∷ [])

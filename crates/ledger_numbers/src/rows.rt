@@ -1,6 +1,6 @@
 // A row as numbers.
 ghost use mathlib.Core.Path.{_≡_};
-ghost use Prim.Native.Nat.{_+_, _≤_};
+ghost use Prim.Native.Nat.{_≤_};
 ghost use lib.ListN.{length};
 ghost use Rattle.common.specs.Buffer.{Put};
 ghost use Rattle.ledger_numbers.specs.Numbers.{rowNumbers, stateNumber, rangeNumbers, greatestNumbers, numbersOfRow};
@@ -97,24 +97,20 @@ fn greatest_of(n: u64, group: u64, object: u64) -> Greatest
     }
 }
 
-pub fn row_in(numbers: &[u64], at: usize) -> Row
-    requires { ⌜ at + rowNumbers ≤ length (now numbers) ⌝ }
-    ensures { λ r. ⌜ r ≡ rowNamed (now (numbers .entry)) at ⌝ }
+// At the front of numbers.
+pub fn row_in(numbers: &[u64]) -> Row
+    requires { ⌜ rowNumbers ≤ length (now numbers) ⌝ }
+    ensures { λ r. ⌜ r ≡ rowNamed (now (numbers .entry)) 0 ⌝ }
 {
-    let state = state_of(numbers[at + 2]);
-    let range = range_of(
-        numbers[at + 3],
-        numbers[at + 4],
-        numbers[at + 5],
-        numbers[at + 6],
-    );
-    let greatest = greatest_of(numbers[at + 7], numbers[at + 8], numbers[at + 9]);
+    let state = state_of(numbers[2]);
+    let range = range_of(numbers[3], numbers[4], numbers[5], numbers[6]);
+    let greatest = greatest_of(numbers[7], numbers[8], numbers[9]);
     Row {
-        id: numbers[at],
-        alias: numbers[at + 1],
+        id: numbers[0],
+        alias: numbers[1],
         state,
         range,
         greatest,
-        count: numbers[at + 10],
+        count: numbers[10],
     }
 }

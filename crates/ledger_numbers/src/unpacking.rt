@@ -78,7 +78,8 @@ fn rows_in(numbers: &[u64]) -> [Row; MOST_ROWS]
     let mut rows = [row::unused(); MOST_ROWS];
     let mut i: usize = 0;
     while i < MOST_ROWS {
-        rows[i] = row_in(numbers, OWN_NUMBERS + ROW_NUMBERS * i);
+        let at = OWN_NUMBERS + ROW_NUMBERS * i;
+        rows[i] = row_in(&numbers[at..]);
         i += 1;
     }
     rows
