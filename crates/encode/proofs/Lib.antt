@@ -7,6 +7,7 @@ pub mod FieldsPut
 pub mod Middles
 pub mod Headings
 pub mod Written
+pub mod Framings
 pub mod OneAnswer
 pub mod Good
 pub mod Again

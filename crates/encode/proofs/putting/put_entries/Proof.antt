@@ -46,30 +46,30 @@ here : (a : tie.After-e Inv-loop μ-loop) → Turn (start (loop a) .args .kind) 
 here a = turn (loop a .loop .inv) (start (loop a) .pre .1) (a .before .before .before .loop-test .taken) (a .before .before .entry-at .ensures) (a .e .given .1)
 
 sub-n : tie.Need-sub-n Inv-loop μ-loop
-sub-n c = parts (here (c .before .before)) .ordered
+sub-n c = parts (here (c .before)) .ordered
 
 ends : tie.Need-sub-put-head Inv-loop μ-loop
-ends c = going-within (c .before .before .before .before .before .before .loop .inv .going) (c .before .before .before .before .before .before .before .before .before .pre .1)
+ends c = going-within (c .before .before .before .before .before .loop .inv .going) (c .before .before .before .before .before .before .before .before .pre .1)
 
 asks-head : tie.Need-put-head-requires Inv-loop μ-loop
-asks-head c κs = head-asks (here (c .before .before .before))
+asks-head c κs = head-asks (here (c .before .before))
 
 add-from : tie.Need-add-from Inv-loop μ-loop
-add-from c = omega (arith, head-sum (here (c .before .before .before .before .before .before)) (c .before .before .put-head .ensures))
+add-from c = omega (arith, head-sum (here (c .before .before .before .before .before)) (c .before .before .put-head .ensures))
 
 ends-head : tie.Need-sub-copy Inv-loop μ-loop
-ends-head c = omega (arith, head-within (here (c .before .before .before .before .before .before)) (c .before .before .put-head .ensures))
+ends-head c = omega (arith, head-within (here (c .before .before .before .before .before)) (c .before .before .put-head .ensures))
 
 asks-copy : tie.Need-copy-requires Inv-loop μ-loop
 asks-copy c κs =
-    let w = here (c .before .before .before .before .before .before .before) in
+    let w = here (c .before .before .before .before .before .before) in
     omega (arith, parts w, bytes-fit w (c .before .before .before .put-head .ensures))
 
 add-at : tie.Need-add-at Inv-loop μ-loop
-add-at c = omega (arith, entry-sum (here (c .before .before .before .before .before .before .before .before .before .before)) (c .before .before .before .before .before .before .put-head .ensures) (c .before .before .copy .ensures))
+add-at c = omega (arith, entry-sum (here (c .before .before .before .before .before .before .before .before .before)) (c .before .before .before .before .before .before .put-head .ensures) (c .before .before .copy .ensures))
 
 loop-again : tie.Need-loop-again Inv-loop μ-loop
-loop-again c = entry-next (here (c .before .before .before .before .before .before .before .before .before .before)) (c .before .before .before .before .before .before .put-head .ensures) (c .before .before .copy .ensures)
+loop-again c = entry-next (here (c .before .before .before .before .before .before .before .before .before)) (c .before .before .before .before .before .before .put-head .ensures) (c .before .before .copy .ensures)
 
 same-length-2 : tie.Need-same-length-2 Inv-loop μ-loop
 same-length-2 c = going-length (c .before .loop .inv .going) (c .before .before .before .before .pre .1)

@@ -35,17 +35,17 @@ known-5 c = search needs
 
 asks-4 : tie.Need-put-list-requires-2
 asks-4 c κs =
-    let a = c .before .before .before .before in
+    let a = c .before .before in
     (namespace-right _ (a .before .before .before .before .pre) (a .p5 .given .1), first-fits (track-room _ (a .before .before .before .before .args .out .now) (a .before .before .before .before .pre) (a .p5 .given .1)))
 
 sub-put-text : tie.Need-sub-put-text
 sub-put-text c =
-    let a = c .before .before .before .before .before .before .before in
+    let a = c .before .before .before .before .before in
     ends-within (track-room _ _ (a .before .before .before .before .pre) (a .p5 .given .1)) (c .before .before .put-list2 .ensures)
 
 part-put-text-start : tie.Need-part-put-text-start
 part-put-text-start c =
-    let a = c .before .before .before .before .before .before .before in
+    let a = c .before .before .before .before .before in
     ends-within (track-room _ _ (a .before .before .before .before .pre) (a .p5 .given .1)) (c .before .before .put-list2 .ensures)
 
 part-put-text-end : tie.Need-part-put-text-end
@@ -53,12 +53,12 @@ part-put-text-end c = search needs
 
 asks-5 : tie.Need-put-text-requires-2
 asks-5 c κs =
-    let a = c .before .before .before .before .before .before .before .before in
+    let a = c .before .before .before .before .before .before in
     (name-right _ (a .before .before .before .before .pre) (a .p5 .given .1), second-fits (track-room _ _ (a .before .before .before .before .pre) (a .p5 .given .1)) (c .before .before .before .put-list2 .ensures))
 
 add-result : tie.Need-add-result
 add-result c =
-    let a = c .before .before .before .before .before .before .before .before .before .before .before in
+    let a = c .before .before .before .before .before .before .before .before .before in
     omega (arith, both-fit (track-room _ _ (a .before .before .before .before .pre) (a .p5 .given .1)) (c .before .before .before .before .before .before .put-list2 .ensures) (c .before .before .put-text2 .ensures))
 
 same-length : tie.Need-same-length
@@ -90,7 +90,7 @@ same-length-5 c = search needs
 
 returns-5 : tie.Need-returns-5
 returns-5 c =
-    let a = c .before .before .before .before .before .before .before .before .before .before .before in
+    let a = c .before .before .before .before .before .before .before .before .before in
     put-both (track-room _ _ (a .before .before .before .before .pre) (a .p5 .given .1)) (c .before .before .before .before .before .before .put-list2 .ensures) (c .before .before .put-text2 .ensures)
 
 pub put-piece-spec : {M : Type 1} → statement M

@@ -1,22 +1,22 @@
--- `put_front` meets its contract: one number, and after it the other. Assumes nothing.
+-- `put_two` meets its contract: one number, and after it the other. Assumes nothing.
 use mathlib.Core.Path.{refl}
 use mathlib.Core.List.{_++_}
 use native.Mathlib.Omega.{arith}
 use borrow.Author.Needs.{needs}
 use Rattle.common.proofs.Puts.{Room, first-fits, ends-within, second-fits, both-fit, put-both}
 use Rattle.integer.specs.Integer.{encOf}
-use Rattle.encode.proofs.writer.put_front.Statement.{statement}
-use Rattle.encode.proofs.writer.put_front.Tie as tie
+use Rattle.encode.proofs.putting.put_two.Statement.{statement}
+use Rattle.encode.proofs.putting.put_two.Tie as tie
 
 -- there is room for both
-room : (a : tie.Start) → Room (encOf (a .args .number)) (encOf (a .args .n)) (encOf (a .args .number) ++ encOf (a .args .n)) (a .args .out .now)
+room : (a : tie.Start) → Room (encOf (a .args .first)) (encOf (a .args .second)) (encOf (a .args .first) ++ encOf (a .args .second)) (a .args .out .now)
 room a = record { joins = refl; fits = a .pre .1 }
 
 ends : tie.Need-sub-put-number
 ends c = ends-within (room (c .before .before .before .before .before)) (c .before .before .put-number .ensures)
 
-pub put-front-spec : {M : Type 1} → statement M
-put-front-spec =
+pub put-two-spec : {M : Type 1} → statement M
+put-two-spec =
     tie.close
     (tie.spec
     (λ c κs. (c .before .before .pre .0 .0, first-fits (room (c .before .before)))) ends ends (λ c. search needs)
