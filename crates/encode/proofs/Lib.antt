@@ -1,3 +1,4 @@
+pub mod Counts
 pub mod Copies
 pub mod EntryForms
 pub mod EntriesPut

@@ -2,7 +2,6 @@
 use Prim.Native.Nat.{_-_}
 use mathlib.Core.Path.{refl}
 use mathlib.Core.List.{[], map}
-use native.Mathlib.Omega.{arith}
 use borrow.Author.Needs.{needs}
 use lib.ListN.{length}
 use Rattle.common.proofs.PutLoop.{going-length, going-within}
@@ -10,6 +9,7 @@ use Rattle.field.specs.Value.{mean, encField}
 use Rattle.field.specs.declared.Piece.the-variants.{Number}
 use Rattle.measure.specs.Measuring.{encodeAll}
 use Rattle.measure.proofs.FieldsFrom.{numbersFrom, numbers-first, numbers-row}
+use Rattle.encode.proofs.Counts.{is-counted}
 use Rattle.encode.proofs.Pieces.{number-asks}
 use Rattle.encode.proofs.FieldsPut.{Filling, filling-start, filling-end, field-asks, field-sum, field-next}
 use Rattle.encode.proofs.heading.put_numbers.Statement.{statement}
@@ -32,7 +32,7 @@ asks c κs = number-asks _ (field-asks (numbers-row _) (c .before .before .befor
 
 add-at : tie.Need-add-at Inv-loop μ-loop
 unfolding mean encField
-add-at c = omega (arith, field-sum (numbers-row _) (c .before .before .before .before .before .before .loop .inv) (c .before .before .before .before .before .before .before .before .before .pre .1) (c .before .before .before .before .before .loop-test .taken) (c .before .before .put-number .ensures))
+add-at c = is-counted (field-sum (numbers-row _) (c .before .before .before .before .before .before .loop .inv) (c .before .before .before .before .before .before .before .before .before .pre .1) (c .before .before .before .before .before .loop-test .taken) (c .before .before .put-number .ensures)) (c .before .before .before .before .before .before .before .before .before .good .0 .0)
 
 loop-again : tie.Need-loop-again Inv-loop μ-loop
 unfolding mean encField

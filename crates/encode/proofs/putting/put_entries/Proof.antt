@@ -1,9 +1,9 @@
 -- `put_entries` meets its contract. What was put, and the entries that are left, are all of them; so an entry that is left is
 -- found. Assumes nothing.
-use native.Mathlib.Omega.{arith}
 use borrow.Author.Needs.{needs}
 use Rattle.common.proofs.PutLoop.{going-length, going-within}
 use Rattle.field.specs.Value.{entryValues, contents, encItems}
+use Rattle.encode.proofs.Counts.{is-counted}
 use Rattle.encode.proofs.EntriesPut.{Entering, Turn, entering-start, entering-end, entry-found, turn, parts, head-asks, head-sum, head-within, bytes-fit, entry-sum, entry-next}
 use Rattle.encode.proofs.putting.put_entries.Statement.{statement}
 use Rattle.encode.proofs.putting.put_entries.Tie as tie
@@ -55,18 +55,19 @@ asks-head : tie.Need-put-head-requires Inv-loop μ-loop
 asks-head c κs = head-asks (here (c .before .before))
 
 add-from : tie.Need-add-from Inv-loop μ-loop
-add-from c = omega (arith, head-sum (here (c .before .before .before .before .before)) (c .before .before .put-head .ensures))
+add-from c = is-counted (head-sum (here (c .before .before .before .before .before)) (c .before .before .put-head .ensures)) (c .before .before .before .before .before .before .before .before .before .before .before .before .good .0 .0)
 
 ends-head : tie.Need-sub-copy Inv-loop μ-loop
-ends-head c = omega (arith, head-within (here (c .before .before .before .before .before)) (c .before .before .put-head .ensures))
+ends-head c = head-within (here (c .before .before .before .before .before)) (c .before .before .put-head .ensures)
 
 asks-copy : tie.Need-copy-requires Inv-loop μ-loop
 asks-copy c κs =
     let w = here (c .before .before .before .before .before .before) in
-    omega (arith, parts w, bytes-fit w (c .before .before .before .put-head .ensures))
+    let p = parts w in
+    ((p .ordered, p .within), bytes-fit w (c .before .before .before .put-head .ensures))
 
 add-at : tie.Need-add-at Inv-loop μ-loop
-add-at c = omega (arith, entry-sum (here (c .before .before .before .before .before .before .before .before .before)) (c .before .before .before .before .before .before .put-head .ensures) (c .before .before .copy .ensures))
+add-at c = is-counted (entry-sum (here (c .before .before .before .before .before .before .before .before .before)) (c .before .before .before .before .before .before .put-head .ensures) (c .before .before .copy .ensures)) (c .before .before .before .before .before .before .before .before .before .before .before .before .before .before .before .before .good .0 .0)
 
 loop-again : tie.Need-loop-again Inv-loop μ-loop
 loop-again c = entry-next (here (c .before .before .before .before .before .before .before .before .before)) (c .before .before .before .before .before .before .put-head .ensures) (c .before .before .copy .ensures)

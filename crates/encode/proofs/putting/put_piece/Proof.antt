@@ -1,7 +1,7 @@
 -- `put_piece` meets its contract: each arm puts one kind of field. Assumes nothing.
-use native.Mathlib.Omega.{arith}
 use borrow.Author.Needs.{needs}
 use Rattle.common.proofs.Puts.{first-fits, ends-within, second-fits, both-fit, put-both, byte-put}
+use Rattle.encode.proofs.Counts.{is-counted}
 use Rattle.encode.proofs.Pieces.{number-is, byte-is, bytes-is, listing-is, number-asks, byte-asks, bytes-asks, list-asks, namespace-right, name-right, track-room}
 use Rattle.encode.proofs.putting.put_piece.Statement.{statement}
 use Rattle.encode.proofs.putting.put_piece.Tie as tie
@@ -59,7 +59,7 @@ asks-5 c κs =
 add-result : tie.Need-add-result
 add-result c =
     let a = c .before .before .before .before .before .before .before .before .before in
-    omega (arith, both-fit (track-room _ _ (a .before .before .before .before .pre) (a .p5 .given .1)) (c .before .before .before .before .before .before .put-list2 .ensures) (c .before .before .put-text2 .ensures))
+    is-counted (both-fit (track-room _ _ (a .before .before .before .before .pre) (a .p5 .given .1)) (c .before .before .before .before .before .before .put-list2 .ensures) (c .before .before .put-text2 .ensures)) (a .before .before .before .before .good .0 .0)
 
 same-length : tie.Need-same-length
 same-length c = search needs

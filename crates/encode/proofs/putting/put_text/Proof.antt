@@ -1,8 +1,8 @@
 -- `put_text` meets its contract: a length, and after it the bytes. Assumes nothing.
-use native.Mathlib.Omega.{arith}
 use borrow.Author.Needs.{needs}
 use Rattle.common.proofs.Puts.{first-fits, ends-within}
 use Rattle.measure.proofs.Spans.{lies}
+use Rattle.encode.proofs.Counts.{is-counted}
 use Rattle.encode.proofs.Copies.{text-room, bytes-fit, text-sum, text-put}
 use Rattle.encode.proofs.putting.put_text.Statement.{statement}
 use Rattle.encode.proofs.putting.put_text.Tie as tie
@@ -31,7 +31,7 @@ asks-2 c κs =
     ((l .ordered, l .within), bytes-fit _ _ _ h (c .before .before .before .put-number .ensures))
 
 add-result : tie.Need-add-result
-add-result c = omega (arith, text-sum _ _ _ (c .before .before .before .before .before .before .before .before .before .before .before .pre) (c .before .before .before .before .before .before .put-number .ensures) (c .before .before .copy .ensures))
+add-result c = is-counted (text-sum _ _ _ (c .before .before .before .before .before .before .before .before .before .before .before .pre) (c .before .before .before .before .before .before .put-number .ensures) (c .before .before .copy .ensures)) (c .before .before .before .before .before .before .before .before .before .before .before .good .0 .0)
 
 same-length : tie.Need-same-length
 same-length c = search needs

@@ -1,10 +1,10 @@
 -- `put_two` meets its contract: one number, and after it the other. Assumes nothing.
 use mathlib.Core.Path.{refl}
 use mathlib.Core.List.{_++_}
-use native.Mathlib.Omega.{arith}
 use borrow.Author.Needs.{needs}
 use Rattle.common.proofs.Puts.{Room, first-fits, ends-within, second-fits, both-fit, put-both}
 use Rattle.integer.specs.Integer.{encOf}
+use Rattle.encode.proofs.Counts.{is-counted}
 use Rattle.encode.proofs.putting.put_two.Statement.{statement}
 use Rattle.encode.proofs.putting.put_two.Tie as tie
 
@@ -21,5 +21,5 @@ put-two-spec =
     (tie.spec
     (λ c κs. (c .before .before .pre .0 .0, first-fits (room (c .before .before)))) ends ends (λ c. search needs)
     (λ c κs. (c .before .before .before .before .before .before .pre .0 .1, second-fits (room (c .before .before .before .before .before .before)) (c .before .before .before .put-number .ensures)))
-    (λ c. omega (arith, both-fit (room (c .before .before .before .before .before .before .before .before .before)) (c .before .before .before .before .before .before .put-number .ensures) (c .before .before .put-number2 .ensures)))
+    (λ c. is-counted (both-fit (room (c .before .before .before .before .before .before .before .before .before)) (c .before .before .before .before .before .before .put-number .ensures) (c .before .before .put-number2 .ensures)) (c .before .before .before .before .before .before .before .before .before .good .0 .0))
     (λ c. search needs) (λ c. put-both (room (c .before .before .before .before .before .before .before .before .before)) (c .before .before .before .before .before .before .put-number .ensures) (c .before .before .put-number2 .ensures)))

@@ -3,7 +3,8 @@
 use Prim.Native.Nat.{_-_, _≤_}
 use mathlib.Core.Path.{_≡_, sym, _∙_}
 use native.Mathlib.Omega.{arith}
-use borrow.Author.Needs.{needs}
+use borrow.Author.Needs.{needs, scaled-fits}
+use lib.Dec.{lit<}
 use lib.ListN.{length, getD, length-map}
 use Rattle.common.proofs.Puts.{first-fits, ends-within, second-fits, both-fit, put-both}
 use Rattle.integer.specs.Integer.{greatest}
@@ -11,10 +12,11 @@ use Rattle.field.specs.declared.Piece.the-variants.{Byte}
 use Rattle.measure.specs.Fields.{mostPieces, slot, fieldsOf, pieceCount}
 use Rattle.measure.specs.Measuring.{measureAll}
 use Rattle.measure.specs.declared.Slot.{Slot}
-use Rattle.measure.proofs.FieldsFrom.{Row, count-most, fieldsFrom, from-first, fields-row}
+use Rattle.measure.proofs.FieldsFrom.{Row, fieldsFrom, from-first, fields-row}
 use Rattle.measure.proofs.Numbers.{judgement, judgement-joined}
 use Rattle.measure.proofs.JudgedSoFar.{SoFar, none-judged, judged-next, judged-all}
 use Rattle.encode.specs.Writing.{framedOf}
+use Rattle.encode.proofs.Counts.{is-counted, is-used, all-used, has-place}
 use Rattle.encode.proofs.Framings.{framing-refused, framing-checked}
 use Rattle.encode.proofs.Written.{taken, done, Message, message-room}
 use Rattle.encode.proofs.writer.write_framed.Statement.{statement}
@@ -40,20 +42,20 @@ loop-holds : tie.Need-loop-holds Inv-loop μ-loop
 loop-holds c = rw (from-first (c .before .before .before .args .t3)) (none-judged _ _ _)
 
 slot-there : tie.Need-mul-slot Inv-loop μ-loop
-slot-there c = omega (arith, count-most (c .before .before .before .before .before .args .t3 .used))
+slot-there c = scaled-fits _ mostPieces _ (has-place _ (c .before .before .piece-count .ensures) (c .loop-test .taken)) (lit< tt)
 
 slot-copied : tie.Need-element-copy-out-slot Inv-loop μ-loop
-slot-copied c = omega (arith, count-most (c .before .before .before .before .before .args .t3 .used))
+slot-copied c = has-place _ (c .before .before .piece-count .ensures) (c .loop-test .taken)
 
 loop-again : tie.Need-loop-again Inv-loop μ-loop
-loop-again c = judged-next _ _ (row (c .before .before .before .before .before .before .before .before) _) (c .before .before .before .before .loop .inv) (omega arith) (judgement _ _ _ {r = c .before .measure .result} (c .before .measure .ensures)) (judgement-joined _ _ _ (c .join .ensures))
+loop-again c = judged-next _ _ (row (c .before .before .before .before .before .before .before .before) _) (c .before .before .before .before .loop .inv) (is-used (c .before .before .before .before .before .piece-count .ensures) (c .before .before .before .loop-test .taken)) (judgement _ _ _ {r = c .before .measure .result} (c .before .measure .ensures)) (judgement-joined _ _ _ (c .join .ensures))
 
 abbrev start : tie.After-loop Inv-loop μ-loop → tie.Start Inv-loop μ-loop
 start a = a .before .before .before .before .before
 
 -- all of it
 said : (a : tie.After-loop Inv-loop μ-loop) → a .before .loop .found ≡ measureAll (start a .args .bytes .now) (fieldsOf (start a .args .t3)) (start a .args .longest)
-said a = judged-all _ _ (row (start a) (record { piece = Byte 0 })) (a .before .loop .inv) (omega arith)
+said a = judged-all _ _ (row (start a) (record { piece = Byte 0 })) (a .before .loop .inv) (all-used (a .before .before .piece-count .ensures) (a .loop-test .left))
 
 -- ---- the whole against the output
 
@@ -85,7 +87,7 @@ asks-body c κs =
     (m .ready .is-right, second-fits (message-room m) (c .before .before .before .put-two .ensures))
 
 sum : tie.Need-add-t17 Inv-loop μ-loop
-sum c = omega (arith, both-fit (message-room (checked (c .before .before .before .before .before .before .before .before .before))) (c .before .before .before .before .before .before .put-two .ensures) (c .before .before .put-all .ensures))
+sum c = is-counted (both-fit (message-room (checked (c .before .before .before .before .before .before .before .before .before))) (c .before .before .before .before .before .before .put-two .ensures) (c .before .before .put-all .ensures)) (start (c .before .before .before .before .before .before .before .before .before .before .before .before) .good .0 .0)
 
 put : tie.Need-returns-2 Inv-loop μ-loop
 unfolding framedOf
