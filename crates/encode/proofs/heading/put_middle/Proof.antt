@@ -1,5 +1,6 @@
 -- `put_middle` meets its contract: each arm puts one of the four. Assumes nothing.
 use mathlib.Core.List.{[], _∷_}
+use native.Mathlib.Nat.{le-refl}
 use borrow.Author.Needs.{needs}
 use lib.ListN.{set}
 use Rattle.common.specs.Buffer.{Put}
@@ -51,5 +52,5 @@ pub put-middle-spec : {M : Type 1} → statement M
 put-middle-spec =
     tie.close
     (tie.spec
-    (λ c. search needs) (λ c. search needs) write-byte (λ c. search needs) asks-text (λ c. search needs) (λ c. first-fits (room (c .before))) ends ends (λ c. search needs)
+    (λ c. c .match .keys1) (λ c. c .match .keys2) write-byte (λ c. c .match .keys3) asks-text (λ c. c .match .keys4) (λ c. first-fits (room (c .before))) ends ends (λ c. le-refl _)
     asks-second sum (λ c. nothing-put _ _ (c .enum-told .given .1)) (λ c. search needs) returns-2 (λ c. search needs) returns-3 same-length returns-4)

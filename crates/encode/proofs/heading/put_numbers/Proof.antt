@@ -2,6 +2,7 @@
 use Prim.Native.Nat.{_-_}
 use mathlib.Core.Path.{refl}
 use mathlib.Core.List.{[], map}
+use native.Mathlib.Nat.{le-refl}
 use borrow.Author.Needs.{needs}
 use lib.ListN.{length}
 use Rattle.common.proofs.PutLoop.{going-length, going-within}
@@ -49,5 +50,5 @@ put-numbers-spec =
     tie.close
     (tie.spec
     Inv-loop μ-loop
-    loop-holds ends ends (λ c. search needs) (λ c. search needs) (λ c. search needs) asks add-at (λ c. search needs) (λ c. search needs)
+    loop-holds ends ends (λ c. le-refl _) (λ c. search needs) (λ c. search needs) asks add-at (λ c. search needs) (λ c. search needs)
     loop-again same-length returns)

@@ -1,5 +1,6 @@
 -- `write_header` meets its contract: its parts are judged, and only then put one after the other. Assumes nothing.
 use mathlib.Core.Path.{_≡_}
+use native.Mathlib.Nat.{le-refl}
 use borrow.Author.Needs.{needs}
 use lib.ListN.{length}
 use Rattle.measure.specs.Fields.{headed}
@@ -61,9 +62,9 @@ unfolding measureAll bareOf
 write-header-spec =
     tie.close
     (tie.spec
-    (λ c κs. search needs) (λ c κs. search needs) (λ c κs. search needs) (λ c κs. search needs) (λ c κs. search needs)
-    (λ c. search needs) (λ c. search needs) (λ c. search needs) (λ c. search needs)
-    asks-front ends ends (λ c. search needs) asks-middle sum ends-2 ends-2 (λ c. search needs) asks-back sum-2
+    (λ c κs. tt) (λ c κs. tt) (λ c κs. tt) (λ c κs. tt) (λ c κs. tt)
+    (λ c. c .match .keys1) (λ c. c .match .keys2) (λ c. c .match .keys3) (λ c. c .match .keys4)
+    asks-front ends ends (λ c. le-refl _) asks-middle sum ends-2 ends-2 (λ c. le-refl _) asks-back sum-2
     (λ c. bare-forbidden _ _ _ _ (said (c .before .before)) (c .enum-told .given .1))
     (λ c. bare-oversize _ _ _ _ (said (c .before .before)) (c .enum-told2 .given .1))
     (λ c. bare-over _ _ _ _ (said (c .before .before)) (c .enum-told3 .given .1))

@@ -8,7 +8,7 @@ pub put-spec : {M : Type 1} → statement M
 put-spec =
     tie.close
     (tie.spec
-    (λ c κs. search needs) (λ c. search needs)
+    (λ c κs. tt) (λ c. c .match .keys1)
     (λ c κs. takes-asks _ _ (c .before .before .before .measure .ensures) (c .before .enum-told .given .1))
     (λ c. search needs)
     (λ c. leaves-put _ _ _ (c .before .before .before .before .before .before .measure .ensures) (c .before .before .before .before .enum-told .given .1) (c .before .before .put-piece .ensures))

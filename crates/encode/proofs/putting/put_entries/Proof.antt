@@ -1,5 +1,6 @@
 -- `put_entries` meets its contract. What was put, and the entries that are left, are all of them; so an entry that is left is
 -- found. Assumes nothing.
+use native.Mathlib.Nat.{le-refl}
 use borrow.Author.Needs.{needs}
 use Rattle.common.proofs.PutLoop.{going-length, going-within}
 use Rattle.field.specs.Value.{entryValues, contents, encItems}
@@ -19,13 +20,13 @@ loop-holds : tie.Need-loop-holds Inv-loop μ-loop
 loop-holds c = entering-start _ _ _ _ (c .before .before .pre .0)
 
 asks : tie.Need-entry-at-requires Inv-loop μ-loop
-asks c κs = search needs
+asks c κs = tt
 
 known : tie.Need-enum-known-e Inv-loop μ-loop
-known c = search needs
+known c = c .match .keys1
 
 other : tie.Need-enum-told Inv-loop μ-loop
-other c = search needs
+other c = c .match .keys2
 
 same-length : tie.Need-same-length Inv-loop μ-loop
 same-length c = going-length (c .before .before .before .before .loop .inv .going) (c .before .before .before .before .before .before .before .pre .1)
@@ -84,5 +85,5 @@ put-entries-spec =
     (tie.spec
     Inv-loop μ-loop
     loop-holds asks known other same-length returns
-    sub-n ends ends (λ c. search needs) asks-head add-from ends-head ends-head (λ c. search needs) asks-copy add-at
+    sub-n ends ends (λ c. le-refl _) asks-head add-from ends-head ends-head (λ c. le-refl _) asks-copy add-at
     (λ c. search needs) (λ c. search needs) loop-again same-length-2 returns-2)

@@ -23,7 +23,7 @@ pub put-head-spec : {M : Type 1} → statement M
 put-head-spec =
     tie.close
     (tie.spec
-    (λ c. search needs) asks-field (λ c. search needs) asks-both (λ c. search needs) asks-version
+    (λ c. c .match .keys1) asks-field (λ c. c .match .keys2) asks-both (λ c. c .match .keys3) asks-version
     (λ c. search needs) (λ c. rw (field-head _ _ _ (c .before .before .before .before .enum-told .given .1)) (c .before .before .put-number .ensures))
     (λ c. search needs) (λ c. rw (parameter-head _ _ _ (c .before .before .before .before .enum-told2 .given .1)) (c .before .before .put-two .ensures))
     (λ c. search needs) (λ c. rw (version-head _ _ _ (c .before .before .before .before .enum-told3 .given .1)) (c .before .before .put-number2 .ensures)))

@@ -1,4 +1,5 @@
 -- `put_list` meets its contract: a count, and after it the entries. Assumes nothing.
+use native.Mathlib.Nat.{le-refl}
 use borrow.Author.Needs.{needs}
 use Rattle.common.proofs.Puts.{first-fits, ends-within, second-fits, both-fit, put-both}
 use Rattle.measure.proofs.Lists.{holds}
@@ -19,7 +20,7 @@ part-put-entries-start : tie.Need-part-put-entries-start
 part-put-entries-start c = ends-within (list-room _ _ _ _ (c .before .before .before .before .before .before .pre)) (c .before .before .put-number .ensures)
 
 part-put-entries-end : tie.Need-part-put-entries-end
-part-put-entries-end c = search needs
+part-put-entries-end c = le-refl _
 
 put-entries-requires : tie.Need-put-entries-requires
 put-entries-requires c κs =

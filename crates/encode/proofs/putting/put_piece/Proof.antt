@@ -1,4 +1,5 @@
 -- `put_piece` meets its contract: each arm puts one kind of field. Assumes nothing.
+use native.Mathlib.Nat.{le-refl}
 use borrow.Author.Needs.{needs}
 use Rattle.common.proofs.Puts.{first-fits, ends-within, second-fits, both-fit, put-both, byte-put}
 use Rattle.encode.proofs.Counts.{is-counted}
@@ -7,31 +8,31 @@ use Rattle.encode.proofs.putting.put_piece.Statement.{statement}
 use Rattle.encode.proofs.putting.put_piece.Tie as tie
 
 known : tie.Need-enum-known-p
-known c = search needs
+known c = c .match .keys1
 
 asks : tie.Need-put-number-requires
 asks c κs = number-asks _ (c .before .before .before .before .before .before .pre) (c .before .before .p .given .1)
 
 known-2 : tie.Need-enum-known-p-2
-known-2 c = search needs
+known-2 c = c .match .keys2
 
 slice-write-out : tie.Need-slice-write-out
 slice-write-out c = byte-asks _ (c .before .before .before .before .before .pre) (c .before .p2 .given .1)
 
 known-3 : tie.Need-enum-known-p-3
-known-3 c = search needs
+known-3 c = c .match .keys3
 
 asks-2 : tie.Need-put-text-requires
 asks-2 c κs = bytes-asks _ (c .before .before .before .before .before .before .pre) (c .before .before .p3 .given .1)
 
 known-4 : tie.Need-enum-known-p-4
-known-4 c = search needs
+known-4 c = c .match .keys4
 
 asks-3 : tie.Need-put-list-requires
 asks-3 c κs = list-asks _ (c .before .before .before .before .before .before .pre) (c .before .before .p4 .given .1)
 
 known-5 : tie.Need-enum-known-p-5
-known-5 c = search needs
+known-5 c = c .match .keys5
 
 asks-4 : tie.Need-put-list-requires-2
 asks-4 c κs =
@@ -49,7 +50,7 @@ part-put-text-start c =
     ends-within (track-room _ _ (a .before .before .before .before .pre) (a .p5 .given .1)) (c .before .before .put-list2 .ensures)
 
 part-put-text-end : tie.Need-part-put-text-end
-part-put-text-end c = search needs
+part-put-text-end c = le-refl _
 
 asks-5 : tie.Need-put-text-requires-2
 asks-5 c κs =

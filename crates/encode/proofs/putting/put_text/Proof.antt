@@ -1,4 +1,5 @@
 -- `put_text` meets its contract: a length, and after it the bytes. Assumes nothing.
+use native.Mathlib.Nat.{le-refl}
 use borrow.Author.Needs.{needs}
 use Rattle.common.proofs.Puts.{first-fits, ends-within}
 use Rattle.measure.proofs.Spans.{lies}
@@ -22,7 +23,7 @@ part-copy-start : tie.Need-part-copy-start
 part-copy-start c = ends-within (text-room _ _ _ (c .before .before .before .before .before .before .before .pre)) (c .before .before .put-number .ensures)
 
 part-copy-end : tie.Need-part-copy-end
-part-copy-end c = search needs
+part-copy-end c = le-refl _
 
 asks-2 : tie.Need-copy-requires
 asks-2 c κs =

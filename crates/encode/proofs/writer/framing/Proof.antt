@@ -21,9 +21,9 @@ framing-spec =
     tie.close
     (tie.spec
     (λ c. type-great _ _ _ (c .if1 .taken))
-    (λ c. search needs) (λ c. by-body _ _ _ (c .before .before .if1 .left) (c .enum-told .given .1))
-    (λ c. search needs) (λ c. by-body _ _ _ (c .before .before .if1 .left) (c .enum-told2 .given .1))
-    (λ c. search needs) (λ c. by-body _ _ _ (c .before .before .if1 .left) (c .enum-told3 .given .1))
-    (λ c. search needs) (λ c κs. search needs) (λ c κs. search needs) add-head add-whole
+    (λ c. c .match .keys1) (λ c. by-body _ _ _ (c .before .before .if1 .left) (c .enum-told .given .1))
+    (λ c. c .match .keys2) (λ c. by-body _ _ _ (c .before .before .if1 .left) (c .enum-told2 .given .1))
+    (λ c. c .match .keys3) (λ c. by-body _ _ _ (c .before .before .if1 .left) (c .enum-told3 .given .1))
+    (λ c. c .match .keys4) (λ c κs. tt) (λ c κs. tt) add-head add-whole
     (λ c. all-short _ _ _ (c .before .before .before .before .before .before .if1 .left) (c .before .before .before .before .found .given .1) (c .before .before .size .ensures) (c .before .size2 .ensures) (c .if2 .taken))
     (λ c. all-fits _ _ _ (c .before .before .before .before .before .before .if1 .left) (c .before .before .before .before .found .given .1) (c .before .before .size .ensures) (c .before .size2 .ensures) (c .if2 .left)))

@@ -1,6 +1,7 @@
 -- `put_all` meets its contract. What was put, and the fields from the i-th on, are all of them. Assumes nothing.
 use Prim.Native.Nat.{_-_}
 use mathlib.Core.Path.{_≡_, sym, _∙_}
+use native.Mathlib.Nat.{le-refl}
 use borrow.Author.Needs.{needs, scaled-fits}
 use lib.Dec.{lit<}
 use lib.ListN.{length, length-map}
@@ -64,5 +65,5 @@ put-all-spec =
     tie.close
     (tie.spec
     Inv-loop μ-loop
-    (λ c κs. search needs) loop-holds mul-slot element-copy-out-slot ends ends (λ c. search needs) asks add-at (λ c. search needs) (λ c. search needs)
+    (λ c κs. tt) loop-holds mul-slot element-copy-out-slot ends ends (λ c. le-refl _) asks add-at (λ c. search needs) (λ c. search needs)
     loop-again same-length returns)

@@ -3,6 +3,7 @@
 use Prim.Native.Nat.{_-_, _≤_}
 use mathlib.Core.Path.{_≡_, sym, _∙_}
 use native.Mathlib.Omega.{arith}
+use native.Mathlib.Nat.{le-refl}
 use borrow.Author.Needs.{needs, scaled-fits}
 use lib.Dec.{lit<}
 use lib.ListN.{length, getD, length-map}
@@ -100,7 +101,7 @@ write-framed-spec =
     tie.close
     (tie.spec
     Inv-loop μ-loop
-    (λ c κs. search needs) loop-holds slot-there slot-copied (λ c κs. search needs) (λ c κs. search needs) (λ c. search needs) (λ c. search needs) loop-again
-    asks-framing (λ c. search needs) refused asks-front
-    ends ends (λ c. search needs) asks-body sum
+    (λ c κs. tt) loop-holds slot-there slot-copied (λ c κs. tt) (λ c κs. tt) (λ c. search needs) (λ c. search needs) loop-again
+    asks-framing (λ c. c .match .keys1) refused asks-front
+    ends ends (λ c. le-refl _) asks-body sum
     (λ c. search needs) put)
