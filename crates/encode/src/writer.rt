@@ -67,7 +67,6 @@ pub fn write_framed(out: &mut [u8], bytes: &[u8], f: Fields, longest: u32) -> Wr
     ensures { λ r. ⌜ Leaves (framedOf longest (now (bytes .entry)) (f .number) (fieldsOf f) (now (out .entry)))
         (toldWriting r) (now (out .exit)) ⌝ }
 {
-    let number = f.number;
     let room = longest as usize;
     let count = piece_count(f.used);
     let mut found = Measured::Takes(0);
@@ -78,12 +77,12 @@ pub fn write_framed(out: &mut [u8], bytes: &[u8], f: Fields, longest: u32) -> Wr
         found = measure::join(found, measure::measure(bytes, p, room), room);
         i += 1;
     }
-    let said = framing(found, number, out.len());
+    let said = framing(found, f.number, out.len());
     let Writing::Done(n) = said else {
         return said;
     };
     // The part after Type and Length is lent to the body.
-    let at = put_two(out, number, n as u64);
+    let at = put_two(out, f.number, n as u64);
     let c = put_all(&mut out[at..], bytes, f);
     Writing::Done(at + c)
 }

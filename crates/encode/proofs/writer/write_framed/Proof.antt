@@ -24,10 +24,10 @@ use Rattle.encode.proofs.writer.write_framed.Statement.{statement}
 use Rattle.encode.proofs.writer.write_framed.Tie as tie
 
 abbrev Inv-loop : tie.InvT-loop
-Inv-loop out bytes longest f number room count found₀ i₀ found i = SoFar bytes (fieldsOf f) (fieldsFrom f i) room found
+Inv-loop out bytes longest f room count found₀ i₀ found i = SoFar bytes (fieldsOf f) (fieldsFrom f i) room found
 
 abbrev μ-loop : tie.MeasureT-loop
-μ-loop out bytes longest f number room count found₀ i₀ found i = count - i
+μ-loop out bytes longest f room count found₀ i₀ found i = count - i
 
 -- there are places for all fields,
 places : (a : tie.Start Inv-loop μ-loop) → length (a .args .t3 .at) ≡ mostPieces
@@ -87,7 +87,7 @@ asks-body c κs =
     let m = checked (c .before .before .before .before .before .before) in
     (m .ready .is-right, second-fits (message-room m) (c .before .before .before .put-two .ensures))
 
-sum : tie.Need-add-t17 Inv-loop μ-loop
+sum : tie.Need-add-t16 Inv-loop μ-loop
 sum c = is-counted (both-fit (message-room (checked (c .before .before .before .before .before .before .before .before .before))) (c .before .before .before .before .before .before .put-two .ensures) (c .before .before .put-all .ensures)) (start (c .before .before .before .before .before .before .before .before .before .before .before .before) .good .0 .0)
 
 put : tie.Need-returns-2 Inv-loop μ-loop
