@@ -47,7 +47,9 @@ pub fn is_row(row: Row) -> bool
     let g = row.greatest;
     let state = row.state;
     let count = row.count;
-    let are_small = (row.id <= integer::GREATEST) & (row.alias <= integer::GREATEST) & (count <= TOP);
+    let are_small = (row.id <= integer::GREATEST)
+        & (row.alias <= integer::GREATEST)
+        & (count <= TOP);
     are_small & is_small_range(range) & do_agree(g, count) & does_suit(state, range, count)
 }
 
