@@ -1,6 +1,7 @@
 -- `put_entries` meets its contract. What was put, and the entries that are left, are all of them; so an entry that is left is
 -- found. Assumes nothing.
 use native.Mathlib.Nat.{le-refl}
+use native.Mathlib.Omega.{arith}
 use borrow.Author.Needs.{needs}
 use Rattle.common.proofs.PutLoop.{going-length, going-within}
 use Rattle.field.specs.Value.{entryValues, contents, encItems}
@@ -59,13 +60,12 @@ add-from : tie.Need-add-from Inv-loop μ-loop
 add-from c = is-counted (head-sum (here (c .before .before .before .before .before)) (c .before .before .put-head .ensures)) (c .before .before .before .before .before .before .before .before .before .before .before .before .good .0 .0)
 
 ends-head : tie.Need-sub-copy Inv-loop μ-loop
-ends-head c = head-within (here (c .before .before .before .before .before)) (c .before .before .put-head .ensures)
+ends-head c = omega (arith, head-within (here (c .before .before .before .before .before)) (c .before .before .put-head .ensures))
 
 asks-copy : tie.Need-copy-requires Inv-loop μ-loop
 asks-copy c κs =
     let w = here (c .before .before .before .before .before .before) in
-    let p = parts w in
-    ((p .ordered, p .within), bytes-fit w (c .before .before .before .put-head .ensures))
+    omega (arith, parts w, bytes-fit w (c .before .before .before .put-head .ensures))
 
 add-at : tie.Need-add-at Inv-loop μ-loop
 add-at c = is-counted (entry-sum (here (c .before .before .before .before .before .before .before .before .before)) (c .before .before .before .before .before .before .put-head .ensures) (c .before .before .copy .ensures)) (c .before .before .before .before .before .before .before .before .before .before .before .before .before .before .before .before .good .0 .0)
