@@ -4,7 +4,6 @@ use mathlib.Core.Path.{_≡_}
 use mathlib.Core.List.{List, _++_, append-assoc, append-nil}
 use native.Mathlib.Omega.{arith}
 use lib.ListN.{length}
-use Rattle.common.proofs.Puts.{Room}
 use Rattle.integer.specs.Integer.{encOf, greatest}
 use Rattle.field.specs.Outcome.{whole}
 use Rattle.field.specs.Entries.{size, numberAt, entryAt}
@@ -30,9 +29,9 @@ module _ (kind : Kind) (number n : ℕ) where
   version-head k = rw k
 
   -- and of a parameter its type, and then its length
-  pub parameter-room : (before : List ℕ) → kind ≡ Parameters → length (encHead kind number n) ≤ length before → Room (encOf number) (encOf n) (encHead kind number n) before
+  pub parameter-head : kind ≡ Parameters → encHead kind number n ≡ encOf number ++ encOf n
   unfolding encHead
-  parameter-room before k h = record { joins = rw k; fits = h }
+  parameter-head k = rw k
 
 -- ---- and then the bytes
 

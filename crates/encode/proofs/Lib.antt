@@ -1,3 +1,4 @@
+pub mod Counts
 pub mod Copies
 pub mod EntryForms
 pub mod EntriesPut
@@ -7,6 +8,7 @@ pub mod FieldsPut
 pub mod Middles
 pub mod Headings
 pub mod Written
+pub mod Framings
 pub mod OneAnswer
 pub mod Good
 pub mod Again

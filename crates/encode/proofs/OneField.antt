@@ -1,9 +1,11 @@
 -- One field: what its writer leaves. Assumes nothing.
 use Prim.Native.Nat.{ℕ}
-use mathlib.Core.Path.{_≡_, sym, _∙_}
-use mathlib.Core.List.{List}
+use mathlib.Core.Path.{_≡_, refl, sym, _∙_}
+use mathlib.Core.List.{List, [], _∷_}
+use denote.Enum.Declared.{tagOf}
+use types.Run.{OneOf, miss}
 use lib.ListN.{length}
-use Rattle.common.specs.Answer.{refused, wrote, Leaves}
+use Rattle.common.specs.Answer.{Leaves}
 use Rattle.common.specs.Buffer.{Put}
 use Rattle.field.specs.Value.{mean, encField}
 use Rattle.field.specs.declared.Piece.{Piece}
@@ -12,6 +14,7 @@ use Rattle.measure.specs.Measuring.{measuredOf, toldMeasured}
 use Rattle.measure.specs.declared.Measured.{Measured}
 use Rattle.measure.specs.declared.Measured.the-variants.{Takes, TooLong, Oversize, Forbidden}
 use Rattle.measure.proofs.Judges.{judged-takes}
+use Rattle.measure.proofs.Measured.{the-type}
 use Rattle.measure.proofs.Numbers.{judgement}
 use Rattle.encode.specs.Writing.{putField}
 use Rattle.encode.proofs.Pieces.{Asks}
@@ -30,21 +33,16 @@ module _ (s : List ℕ) (p : Piece) (before : List ℕ) {r : Measured} (said : t
   found = judgement s p (length before) said
 
   -- it was put,
-  pub leaves-put : {n used : ℕ} {after : List ℕ} → r ≡ Takes n → Put (encField (mean s p)) before used after → Leaves (putField s p before) (wrote n) after
+  pub leaves-put : {n used : ℕ} {after : List ℕ} → r ≡ Takes n → Put (encField (mean s p)) before used after → Leaves (putField s p before) (toldMeasured r) after
   unfolding putField
   leaves-put e q =
       let t = bare-taken (right s p) (sized s p) (encField (mean s p)) before found e in
-      bare-done _ _ _ _ found e (record { count = t .counts; holds = q .holds })
+      rw e (bare-done _ _ _ _ found e (record { count = t .counts; holds = q .holds }))
 
-  -- or refused, and nothing was
-  pub kept-long : r ≡ TooLong → Leaves (putField s p before) (refused 7) before
-  unfolding putField
-  kept-long = bare-over _ _ _ _ found
-
-  pub kept-oversize : r ≡ Oversize → Leaves (putField s p before) (refused 6) before
-  unfolding putField
-  kept-oversize = bare-oversize _ _ _ _ found
-
-  pub kept-forbidden : r ≡ Forbidden → Leaves (putField s p before) (refused 5) before
-  unfolding putField
-  kept-forbidden = bare-forbidden _ _ _ _ found
+-- or refused, by the variants that are left, and nothing was
+pub leaves-kept : (s : List ℕ) (p : Piece) (before : List ℕ) (r : Measured) → toldMeasured r ≡ measuredOf s p (length before) → OneOf (1 ∷ 2 ∷ 3 ∷ []) (tagOf the-type r) → Leaves (putField s p before) (toldMeasured r) before
+unfolding putField
+leaves-kept s p before (Takes n) said h = absurd (miss (1 ∷ 2 ∷ 3 ∷ []) 0 tt h)
+leaves-kept s p before TooLong said h = bare-over _ _ _ _ (found s p before said) refl
+leaves-kept s p before Oversize said h = bare-oversize _ _ _ _ (found s p before said) refl
+leaves-kept s p before Forbidden said h = bare-forbidden _ _ _ _ (found s p before said) refl

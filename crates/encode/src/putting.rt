@@ -2,6 +2,7 @@
 // put.
 ghost use mathlib.Core.Path.{_≡_};
 ghost use mathlib.Core.Bool.{true};
+ghost use mathlib.Core.List.{_++_};
 ghost use Prim.Native.Nat.{_-_, _≤_};
 ghost use lib.ListN.{length};
 ghost use Rattle.common.specs.Answer.{Leaves};
@@ -28,6 +29,17 @@ pub fn put_number(out: &mut [u8], n: u64) -> usize
     integer::size(n)
 }
 
+// A number, and after it another: Type and Length of a message or of a parameter.
+pub fn put_two(out: &mut [u8], first: u64, second: u64) -> usize
+    requires { ⌜ (first ≤ greatest) × (second ≤ greatest) ⌝ }
+    requires { ⌜ length (encOf first ++ encOf second) ≤ length (now out) ⌝ }
+    ensures { λ r. ⌜ Put (encOf first ++ encOf second) (now (out .entry)) r (now (out .exit)) ⌝ }
+{
+    let a = put_number(out, first);
+    let b = put_number(&mut out[a..], second);
+    a + b
+}
+
 // A part of the bytes, as it is.
 fn copy(out: &mut [u8], bytes: &[u8], start: usize, end: usize)
     requires { ⌜ (start ≤ end) × (end ≤ length (now bytes)) ⌝ }
@@ -49,11 +61,9 @@ pub fn put_text(out: &mut [u8], bytes: &[u8], p: Span) -> usize
     requires { ⌜ length (encText (part (now bytes) p)) ≤ length (now out) ⌝ }
     ensures { λ r. ⌜ Put (encText (part (now (bytes .entry)) p)) (now (out .entry)) r (now (out .exit)) ⌝ }
 {
-    let start = p.start;
-    let end = p.end;
-    let n = end - start;
+    let n = p.end - p.start;
     let head = put_number(out, n as u64);
-    copy(&mut out[head..], bytes, start, end);
+    copy(&mut out[head..], bytes, p.start, p.end);
     head + n
 }
 
@@ -65,11 +75,7 @@ fn put_head(out: &mut [u8], kind: Kind, number: u64, n: u64) -> usize
 {
     match kind {
         Kind::Namespace => put_number(out, n),
-        Kind::Parameters => {
-            let a = put_number(out, number);
-            let b = put_number(&mut out[a..], n);
-            a + b
-        }
+        Kind::Parameters => put_two(out, number, n),
         Kind::Versions => put_number(out, number),
     }
 }
@@ -88,9 +94,8 @@ fn put_entries(out: &mut [u8], bytes: &[u8], kind: Kind, l: Entries) -> usize
         let EntryRead::Whole(e) = field::entry_at(bytes, kind, integer::GREATEST, here) else {
             return at;
         };
-        let p = e.bytes;
-        let start = p.start;
-        let end = p.end;
+        let start = e.bytes.start;
+        let end = e.bytes.end;
         let n = end - start;
         let head = put_head(&mut out[at..], kind, e.number, n as u64);
         let from = at + head;
@@ -109,8 +114,7 @@ fn put_list(out: &mut [u8], bytes: &[u8], kind: Kind, l: Entries) -> usize
     ensures { λ r. ⌜ Put (encList kind (contents (now (bytes .entry)) kind l)) (now (out .entry)) r
         (now (out .exit)) ⌝ }
 {
-    let count = l.count;
-    let head = put_number(out, count);
+    let head = put_number(out, l.count);
     let n = put_entries(&mut out[head..], bytes, kind, l);
     head + n
 }
@@ -130,10 +134,8 @@ pub fn put_piece(out: &mut [u8], bytes: &[u8], p: Piece) -> usize
         Piece::Bytes(b) => put_text(out, bytes, b),
         Piece::List(kind, l) => put_list(out, bytes, kind, l),
         Piece::Track(t) => {
-            let namespace = t.namespace;
-            let name = t.name;
-            let head = put_list(out, bytes, Kind::Namespace, namespace);
-            let n = put_text(&mut out[head..], bytes, name);
+            let head = put_list(out, bytes, Kind::Namespace, t.namespace);
+            let n = put_text(&mut out[head..], bytes, t.name);
             head + n
         }
     }
@@ -143,14 +145,9 @@ pub fn put_piece(out: &mut [u8], bytes: &[u8], p: Piece) -> usize
 pub fn put(out: &mut [u8], bytes: &[u8], p: Piece) -> Measured
     ensures { λ r. ⌜ Leaves (putField (now (bytes .entry)) p (now (out .entry))) (toldMeasured r) (now (out .exit)) ⌝ }
 {
-    let room = out.len();
-    match measure::measure(bytes, p, room) {
-        Measured::Takes(n) => {
-            put_piece(out, bytes, p);
-            Measured::Takes(n)
-        }
-        Measured::TooLong => Measured::TooLong,
-        Measured::Oversize => Measured::Oversize,
-        Measured::Forbidden => Measured::Forbidden,
+    let found = measure::measure(bytes, p, out.len());
+    if let Measured::Takes(_) = found {
+        put_piece(out, bytes, p);
     }
+    found
 }

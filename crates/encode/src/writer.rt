@@ -2,32 +2,22 @@
 // is a byte written.
 ghost use mathlib.Core.Path.{_≡_};
 ghost use mathlib.Core.Bool.{true};
-ghost use mathlib.Core.List.{_++_};
-ghost use Prim.Native.Nat.{_≤_};
+ghost use Prim.Native.Nat.{ℕ, _≤_};
 ghost use lib.ListN.{length};
 ghost use Rattle.common.specs.Answer.{Leaves};
 ghost use Rattle.common.specs.Buffer.{Put};
-ghost use Rattle.integer.specs.Integer.{encOf, greatest};
+ghost use Rattle.integer.specs.Integer.{greatest};
 ghost use Rattle.measure.specs.Fields.{pieceCount, fieldsOf};
 ghost use Rattle.measure.specs.Measuring.{rightAll, encodeAll};
+ghost use Rattle.measure.specs.declared.Measured.the-variants.{Takes};
+ghost use Rattle.encode.specs.Framing.{framingOf};
 ghost use Rattle.encode.specs.Writing.{framedOf, toldWriting};
 use crate::Writing;
-use crate::putting::put_number;
 use crate::putting::put_piece;
+use crate::putting::put_two;
 use measure::Fields;
 use measure::Measured;
 use measure::places::piece_count;
-
-// Type and Length; after them the body begins.
-fn put_front(out: &mut [u8], number: u64, n: u64) -> usize
-    requires { ⌜ (number ≤ greatest) × (n ≤ greatest) ⌝ }
-    requires { ⌜ length (encOf number ++ encOf n) ≤ length (now out) ⌝ }
-    ensures { λ r. ⌜ Put (encOf number ++ encOf n) (now (out .entry)) r (now (out .exit)) ⌝ }
-{
-    let a = put_number(out, number);
-    let b = put_number(&mut out[a..], n);
-    a + b
-}
 
 // The body: each field into what is left of what is lent to it.
 fn put_all(out: &mut [u8], bytes: &[u8], f: Fields) -> usize
@@ -48,16 +38,35 @@ fn put_all(out: &mut [u8], bytes: &[u8], f: Fields) -> usize
     at
 }
 
+// What is answered of a message of this number whose body was judged so, before a byte is written: Done with the bytes
+// that its body takes, where the whole fits into the room there is.
+fn framing(found: Measured, number: u64, room: usize) -> Writing
+    requires { ⌜ ((n : ℕ) → found ≡ Takes n → n ≤ greatest) ⌝ }
+    ensures { λ r. ⌜ r ≡ framingOf found number room ⌝ }
+{
+    if number > integer::GREATEST {
+        return Writing::Forbidden;
+    }
+    match found {
+        Measured::Forbidden => return Writing::Forbidden,
+        Measured::Oversize => return Writing::Oversize,
+        Measured::TooLong => return Writing::TooLong,
+        Measured::Takes(n) => {
+            let head = integer::size(number) + integer::size(n as u64);
+            if room < head + n {
+                return Writing::TooShort;
+            }
+            return Writing::Done(n);
+        }
+    }
+}
+
 // A message: its type, the length of its body, and the body, which may take longest bytes. 5, 6, 3 and 7 in this order;
 // a refusal writes nothing. (The fields are judged here, since they would be copied where they are handed on.)
 pub fn write_framed(out: &mut [u8], bytes: &[u8], f: Fields, longest: u32) -> Writing
     ensures { λ r. ⌜ Leaves (framedOf longest (now (bytes .entry)) (f .number) (fieldsOf f) (now (out .entry)))
         (toldWriting r) (now (out .exit)) ⌝ }
 {
-    let number = f.number;
-    if number > integer::GREATEST {
-        return Writing::Forbidden;
-    }
     let room = longest as usize;
     let count = piece_count(f.used);
     let mut found = Measured::Takes(0);
@@ -68,19 +77,12 @@ pub fn write_framed(out: &mut [u8], bytes: &[u8], f: Fields, longest: u32) -> Wr
         found = measure::join(found, measure::measure(bytes, p, room), room);
         i += 1;
     }
-    match found {
-        Measured::Forbidden => Writing::Forbidden,
-        Measured::Oversize => Writing::Oversize,
-        Measured::TooLong => Writing::TooLong,
-        Measured::Takes(n) => {
-            let head = integer::size(number) + integer::size(n as u64);
-            if out.len() < head + n {
-                return Writing::TooShort;
-            }
-            // The part after Type and Length is lent to the body.
-            let at = put_front(out, number, n as u64);
-            let c = put_all(&mut out[at..], bytes, f);
-            Writing::Done(at + c)
-        }
-    }
+    let said = framing(found, f.number, out.len());
+    let Writing::Done(n) = said else {
+        return said;
+    };
+    // The part after Type and Length is lent to the body.
+    let at = put_two(out, f.number, n as u64);
+    let c = put_all(&mut out[at..], bytes, f);
+    Writing::Done(at + c)
 }

@@ -1,3 +1,4 @@
+pub mod Leads
 pub mod LayoutsJoined
 pub mod Headed
 pub mod StatusDatagrams

@@ -31,12 +31,12 @@ pub fn read_datagram(s: &[u8]) -> DatagramRead
             ObjectRead::Whole(d) => {
                 let extensions = d.extensions;
                 let end = extensions.end;
-                DatagramRead::Whole(Datagram::Object(d), end)
+                return DatagramRead::Whole(Datagram::Object(d), end);
             }
-            ObjectRead::Cut => DatagramRead::Cut,
+            ObjectRead::Cut => return DatagramRead::Cut,
         },
-        OBJECT_DATAGRAM_STATUS => read_status(s, at),
-        _ => DatagramRead::Unknown,
+        OBJECT_DATAGRAM_STATUS => return read_status(s, at),
+        _ => return DatagramRead::Unknown,
     }
 }
 

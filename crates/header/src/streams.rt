@@ -19,7 +19,7 @@ pub fn read_stream(s: &[u8]) -> StreamRead
     };
     match number {
         SUBGROUP_HEADER => match read_lead(s, at) {
-            LeadRead::Whole(l, end) => StreamRead::Whole(
+            LeadRead::Whole(l, end) => return StreamRead::Whole(
                 StreamHeader::Subgroup(SubgroupHeader {
                     alias: l.first,
                     group: l.second,
@@ -28,12 +28,12 @@ pub fn read_stream(s: &[u8]) -> StreamRead
                 }),
                 end,
             ),
-            LeadRead::Cut => StreamRead::More,
+            LeadRead::Cut => return StreamRead::More,
         },
         FETCH_HEADER => match field::read_number(s, at) {
-            NumberRead::Whole(id, end) => StreamRead::Whole(StreamHeader::Fetch(id), end),
-            NumberRead::Cut => StreamRead::More,
+            NumberRead::Whole(id, end) => return StreamRead::Whole(StreamHeader::Fetch(id), end),
+            NumberRead::Cut => return StreamRead::More,
         },
-        _ => StreamRead::Unknown,
+        _ => return StreamRead::Unknown,
     }
 }

@@ -38,6 +38,15 @@ picked t a b e h = rw e h
 pub passed : {A : Type 0} (t : Bool) (a b : A) {x : A} → t ≡ false → x ≡ b → x ≡ pick t a b
 passed t a b e h = rw e h
 
+-- six tests, each made, tell what they do one after the other
+pub all-made : (a b c d e f : Bool) → both (both (both (both (both a b) c) d) e) f ≡ both a (both b (both c (both d (both e f))))
+all-made false b c d e f = refl
+all-made true false c d e f = refl
+all-made true true false d e f = refl
+all-made true true true false e f = refl
+all-made true true true true false f = refl
+all-made true true true true true f = refl
+
 pub ruleset tests = (lt-ltb, le-ltb, le-leb, lt-leb, eq-eqb, ne-eqb, kept, broken, so, not-so, against, not-against)
 
 pub ruleset checks = (fails, holds, picked, passed, tests)

@@ -12,14 +12,9 @@ pub fn contains(range: Range, p: Place) -> bool
     ensures { λ r. ⌜ r ≡ inRange range p ⌝ }
 {
     match range {
-        Range::Unknown => false,
-        Range::Open(start) => !is_before(p, start),
-        Range::Closed(start, last) => {
-            if is_before(p, start) {
-                return false;
-            }
-            p.group <= last
-        }
+        Range::Unknown => return false,
+        Range::Open(start) => return !is_before(p, start),
+        Range::Closed(start, last) => return !is_before(p, start) & (p.group <= last),
     }
 }
 
@@ -27,9 +22,9 @@ pub fn is_known(range: Range) -> bool
     ensures { λ r. ⌜ r ≡ isKnown range ⌝ }
 {
     match range {
-        Range::Unknown => false,
-        Range::Open(_) => true,
-        Range::Closed(_, _) => true,
+        Range::Unknown => return false,
+        Range::Open(_) => return true,
+        Range::Closed(_, _) => return true,
     }
 }
 
@@ -38,14 +33,9 @@ pub fn is_small_range(range: Range) -> bool
     ensures { λ r. ⌜ r ≡ smallRange range ⌝ }
 {
     match range {
-        Range::Unknown => true,
-        Range::Open(start) => is_small(start),
-        Range::Closed(start, last) => {
-            if !is_small(start) {
-                return false;
-            }
-            last <= integer::GREATEST
-        }
+        Range::Unknown => return true,
+        Range::Open(start) => return is_small(start),
+        Range::Closed(start, last) => return is_small(start) & (last <= integer::GREATEST),
     }
 }
 
@@ -54,9 +44,9 @@ pub fn asked(filter: Filter) -> Range
     ensures { λ r. ⌜ r ≡ askedOf filter ⌝ }
 {
     match filter {
-        Filter::Latest => Range::Unknown,
-        Filter::From(start) => Range::Open(start),
-        Filter::Range(start, last) => Range::Closed(start, last),
+        Filter::Latest => return Range::Unknown,
+        Filter::From(start) => return Range::Open(start),
+        Filter::Range(start, last) => return Range::Closed(start, last),
     }
 }
 

@@ -25,13 +25,8 @@ fn do_agree(g: Greatest, count: u64) -> bool
     ensures { λ r. ⌜ r ≡ countAgrees g count ⌝ }
 {
     match g {
-        Greatest::Nowhere => count == 0,
-        Greatest::At(place) => {
-            if count == 0 {
-                return false;
-            }
-            is_small(place)
-        }
+        Greatest::Nowhere => return count == 0,
+        Greatest::At(place) => return (count != 0) & is_small(place),
     }
 }
 
@@ -40,8 +35,8 @@ fn does_suit(state: State, range: Range, count: u64) -> bool
     ensures { λ r. ⌜ r ≡ suits state range count ⌝ }
 {
     match state {
-        State::Pending => count == 0,
-        State::Active => is_known(range),
+        State::Pending => return count == 0,
+        State::Active => return is_known(range),
     }
 }
 
@@ -52,22 +47,10 @@ pub fn is_row(row: Row) -> bool
     let g = row.greatest;
     let state = row.state;
     let count = row.count;
-    if row.id > integer::GREATEST {
-        return false;
-    }
-    if row.alias > integer::GREATEST {
-        return false;
-    }
-    if count > TOP {
-        return false;
-    }
-    if !is_small_range(range) {
-        return false;
-    }
-    if !do_agree(g, count) {
-        return false;
-    }
-    does_suit(state, range, count)
+    let are_small = (row.id <= integer::GREATEST)
+        & (row.alias <= integer::GREATEST)
+        & (count <= TOP);
+    are_small & is_small_range(range) & do_agree(g, count) & does_suit(state, range, count)
 }
 
 pub fn unused() -> Row
@@ -80,8 +63,8 @@ fn is_pending(state: State) -> bool
     ensures { λ r. ⌜ r ≡ isPending state ⌝ }
 {
     match state {
-        State::Pending => true,
-        State::Active => false,
+        State::Pending => return true,
+        State::Active => return false,
     }
 }
 
@@ -89,8 +72,8 @@ fn is_nowhere(g: Greatest) -> bool
     ensures { λ r. ⌜ r ≡ isNowhere g ⌝ }
 {
     match g {
-        Greatest::Nowhere => true,
-        Greatest::At(_) => false,
+        Greatest::Nowhere => return true,
+        Greatest::At(_) => return false,
     }
 }
 
@@ -100,22 +83,8 @@ pub fn is_unused(row: Row) -> bool
     let state = row.state;
     let range = row.range;
     let g = row.greatest;
-    if row.id != 0 {
-        return false;
-    }
-    if row.alias != 0 {
-        return false;
-    }
-    if row.count != 0 {
-        return false;
-    }
-    if !is_pending(state) {
-        return false;
-    }
-    if is_known(range) {
-        return false;
-    }
-    is_nowhere(g)
+    let is_zero = (row.id == 0) & (row.alias == 0) & (row.count == 0);
+    is_zero & is_pending(state) & !is_known(range) & is_nowhere(g)
 }
 
 // ---- what becomes of a row
@@ -138,12 +107,12 @@ fn greater_of(g: Greatest, place: Place) -> Place
     ensures { λ r. ⌜ r ≡ greater g place ⌝ }
 {
     match g {
-        Greatest::Nowhere => place,
+        Greatest::Nowhere => return place,
         Greatest::At(held) => {
             if is_before(held, place) {
                 return place;
             }
-            held
+            return held;
         }
     }
 }

@@ -1,6 +1,6 @@
 -- `put_middle` meets its contract: each arm puts one of the four. Assumes nothing.
 use mathlib.Core.List.{[], _∷_}
-use native.Mathlib.Omega.{arith}
+use native.Mathlib.Nat.{le-refl}
 use borrow.Author.Needs.{needs}
 use lib.ListN.{set}
 use Rattle.common.specs.Buffer.{Put}
@@ -8,6 +8,7 @@ use Rattle.common.proofs.Puts.{put-length, Room, first-fits, ends-within, secon
 use Rattle.field.specs.Value.{part, encText}
 use Rattle.measure.specs.Fields.{middlePieces}
 use Rattle.measure.specs.Measuring.{encodeAll}
+use Rattle.encode.proofs.Counts.{is-counted}
 use Rattle.encode.proofs.Middles.{nothing-put, one-byte-is, some-bytes-is, one-byte-asks, some-bytes-ask, both-room, both-right}
 use Rattle.encode.proofs.heading.put_middle.Statement.{statement}
 use Rattle.encode.proofs.heading.put_middle.Tie as tie
@@ -33,7 +34,7 @@ asks-second : tie.Need-put-text-requires-2
 asks-second c κs = (both-right _ (c .before .before .before .before .before .before .pre) (c .before .before .m3 .given .1), second-fits (room (c .before .before)) (first (c .before .before)))
 
 sum : tie.Need-add-result
-sum c = omega (arith, both-fit (room (c .before .before .before .before .before)) (first (c .before .before .before .before .before)) (c .before .before .put-text2 .ensures))
+sum c = is-counted (both-fit (room (c .before .before .before .before .before)) (first (c .before .before .before .before .before)) (c .before .before .put-text2 .ensures)) (c .before .before .before .before .before .before .before .before .before .good .0 .0)
 
 returns-2 : tie.Need-returns-2
 returns-2 c = rw (one-byte-is _ (c .before .m .given .1)) (byte-put _ _ (one-byte-asks _ (c .before .before .before .before .before .pre) (c .before .m .given .1)))
@@ -51,5 +52,5 @@ pub put-middle-spec : {M : Type 1} → statement M
 put-middle-spec =
     tie.close
     (tie.spec
-    (λ c. search needs) (λ c. search needs) write-byte (λ c. search needs) asks-text (λ c. search needs) (λ c. first-fits (room (c .before))) ends ends (λ c. search needs)
+    (λ c. c .match .keys1) (λ c. c .match .keys2) write-byte (λ c. c .match .keys3) asks-text (λ c. c .match .keys4) (λ c. first-fits (room (c .before))) ends ends (λ c. le-refl _)
     asks-second sum (λ c. nothing-put _ _ (c .enum-told .given .1)) (λ c. search needs) returns-2 (λ c. search needs) returns-3 same-length returns-4)

@@ -2,7 +2,7 @@
 use Prim.Native.Nat.{_-_}
 use mathlib.Core.Path.{refl}
 use mathlib.Core.List.{[], map}
-use native.Mathlib.Omega.{arith}
+use native.Mathlib.Nat.{le-refl}
 use borrow.Author.Needs.{needs}
 use lib.ListN.{length}
 use Rattle.common.proofs.PutLoop.{going-length, going-within}
@@ -10,6 +10,7 @@ use Rattle.field.specs.Value.{mean, encField}
 use Rattle.field.specs.declared.Piece.the-variants.{Number}
 use Rattle.measure.specs.Measuring.{encodeAll}
 use Rattle.measure.proofs.FieldsFrom.{numbersFrom, numbers-first, numbers-row}
+use Rattle.encode.proofs.Counts.{is-counted}
 use Rattle.encode.proofs.Pieces.{number-asks}
 use Rattle.encode.proofs.FieldsPut.{Filling, filling-start, filling-end, field-asks, field-sum, field-next}
 use Rattle.encode.proofs.heading.put_numbers.Statement.{statement}
@@ -32,7 +33,7 @@ asks c κs = number-asks _ (field-asks (numbers-row _) (c .before .before .befor
 
 add-at : tie.Need-add-at Inv-loop μ-loop
 unfolding mean encField
-add-at c = omega (arith, field-sum (numbers-row _) (c .before .before .before .before .before .before .loop .inv) (c .before .before .before .before .before .before .before .before .before .pre .1) (c .before .before .before .before .before .loop-test .taken) (c .before .before .put-number .ensures))
+add-at c = is-counted (field-sum (numbers-row _) (c .before .before .before .before .before .before .loop .inv) (c .before .before .before .before .before .before .before .before .before .pre .1) (c .before .before .before .before .before .loop-test .taken) (c .before .before .put-number .ensures)) (c .before .before .before .before .before .before .before .before .before .good .0 .0)
 
 loop-again : tie.Need-loop-again Inv-loop μ-loop
 unfolding mean encField
@@ -49,5 +50,5 @@ put-numbers-spec =
     tie.close
     (tie.spec
     Inv-loop μ-loop
-    loop-holds ends ends (λ c. search needs) (λ c. search needs) (λ c. search needs) asks add-at (λ c. search needs) (λ c. search needs)
+    loop-holds ends ends (λ c. le-refl _) (λ c. search needs) (λ c. search needs) asks add-at (λ c. search needs) (λ c. search needs)
     loop-again same-length returns)

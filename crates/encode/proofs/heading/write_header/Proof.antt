@@ -1,12 +1,13 @@
 -- `write_header` meets its contract: its parts are judged, and only then put one after the other. Assumes nothing.
 use mathlib.Core.Path.{_≡_}
-use native.Mathlib.Omega.{arith}
+use native.Mathlib.Nat.{le-refl}
 use borrow.Author.Needs.{needs}
 use lib.ListN.{length}
 use Rattle.measure.specs.Fields.{headed}
 use Rattle.measure.specs.Measuring.{measureAll}
 use Rattle.measure.proofs.Numbers.{judgement-all, judgement-joined}
 use Rattle.encode.specs.Writing.{bareOf}
+use Rattle.encode.proofs.Counts.{is-counted}
 use Rattle.encode.proofs.FieldsPut.{AllAsk}
 use Rattle.encode.proofs.Headings.{headed-judged, front-asks, front-within, middle-asks, middle-sum, middle-within, back-asks, back-sum, headed-put}
 use Rattle.encode.proofs.Written.{taken, bare-forbidden, bare-oversize, bare-over, bare-done}
@@ -41,7 +42,7 @@ asks-middle : tie.Need-put-middle-requires
 asks-middle c κs = middle-asks _ _ _ _ _ (ready (c .before .before .before .before .before)) (c .before .before .before .put-numbers .ensures)
 
 sum : tie.Need-add-at
-sum c = omega (arith, middle-sum _ _ _ _ _ (ready (c .before .before .before .before .before .before .before .before)) (c .before .before .before .before .before .before .put-numbers .ensures) (c .before .before .put-middle .ensures))
+sum c = is-counted (middle-sum _ _ _ _ _ (ready (c .before .before .before .before .before .before .before .before)) (c .before .before .before .before .before .before .put-numbers .ensures) (c .before .before .put-middle .ensures)) (start (judged (c .before .before .before .before .before .before .before .before)) .good .0 .0)
 
 ends-2 : tie.Need-sub-put-numbers
 ends-2 c = middle-within _ _ _ _ _ (ready (c .before .before .before .before .before .before .before .before)) (c .before .before .before .before .before .before .put-numbers .ensures) (c .before .before .put-middle .ensures)
@@ -50,7 +51,7 @@ asks-back : tie.Need-put-numbers-requires-2
 asks-back c κs = back-asks _ _ _ _ _ (ready (c .before .before .before .before .before .before .before .before .before)) (c .before .before .before .before .before .before .before .put-numbers .ensures) (c .before .before .before .put-middle .ensures)
 
 sum-2 : tie.Need-add-t20
-sum-2 c = omega (arith, back-sum _ _ _ _ _ (ready (c .before .before .before .before .before .before .before .before .before .before .before .before)) (c .before .before .before .before .before .before .before .before .before .before .put-numbers .ensures) (c .before .before .before .before .before .before .put-middle .ensures) (c .before .before .put-numbers2 .ensures))
+sum-2 c = is-counted (back-sum _ _ _ _ _ (ready (c .before .before .before .before .before .before .before .before .before .before .before .before)) (c .before .before .before .before .before .before .before .before .before .before .put-numbers .ensures) (c .before .before .before .before .before .before .put-middle .ensures) (c .before .before .put-numbers2 .ensures)) (start (judged (c .before .before .before .before .before .before .before .before .before .before .before .before)) .good .0 .0)
 
 returns : tie.Need-returns-4
 unfolding measureAll bareOf
@@ -61,9 +62,9 @@ unfolding measureAll bareOf
 write-header-spec =
     tie.close
     (tie.spec
-    (λ c κs. search needs) (λ c κs. search needs) (λ c κs. search needs) (λ c κs. search needs) (λ c κs. search needs)
-    (λ c. search needs) (λ c. search needs) (λ c. search needs) (λ c. search needs)
-    asks-front ends ends (λ c. search needs) asks-middle sum ends-2 ends-2 (λ c. search needs) asks-back sum-2
+    (λ c κs. tt) (λ c κs. tt) (λ c κs. tt) (λ c κs. tt) (λ c κs. tt)
+    (λ c. c .match .keys1) (λ c. c .match .keys2) (λ c. c .match .keys3) (λ c. c .match .keys4)
+    asks-front ends ends (λ c. le-refl _) asks-middle sum ends-2 ends-2 (λ c. le-refl _) asks-back sum-2
     (λ c. bare-forbidden _ _ _ _ (said (c .before .before)) (c .enum-told .given .1))
     (λ c. bare-oversize _ _ _ _ (said (c .before .before)) (c .enum-told2 .given .1))
     (λ c. bare-over _ _ _ _ (said (c .before .before)) (c .enum-told3 .given .1))

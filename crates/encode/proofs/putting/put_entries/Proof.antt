@@ -1,9 +1,11 @@
 -- `put_entries` meets its contract. What was put, and the entries that are left, are all of them; so an entry that is left is
 -- found. Assumes nothing.
+use native.Mathlib.Nat.{le-refl}
 use native.Mathlib.Omega.{arith}
 use borrow.Author.Needs.{needs}
 use Rattle.common.proofs.PutLoop.{going-length, going-within}
 use Rattle.field.specs.Value.{entryValues, contents, encItems}
+use Rattle.encode.proofs.Counts.{is-counted}
 use Rattle.encode.proofs.EntriesPut.{Entering, Turn, entering-start, entering-end, entry-found, turn, parts, head-asks, head-sum, head-within, bytes-fit, entry-sum, entry-next}
 use Rattle.encode.proofs.putting.put_entries.Statement.{statement}
 use Rattle.encode.proofs.putting.put_entries.Tie as tie
@@ -19,13 +21,13 @@ loop-holds : tie.Need-loop-holds Inv-loop μ-loop
 loop-holds c = entering-start _ _ _ _ (c .before .before .pre .0)
 
 asks : tie.Need-entry-at-requires Inv-loop μ-loop
-asks c κs = search needs
+asks c κs = tt
 
 known : tie.Need-enum-known-e Inv-loop μ-loop
-known c = search needs
+known c = c .match .keys1
 
 other : tie.Need-enum-told Inv-loop μ-loop
-other c = search needs
+other c = c .match .keys2
 
 same-length : tie.Need-same-length Inv-loop μ-loop
 same-length c = going-length (c .before .before .before .before .loop .inv .going) (c .before .before .before .before .before .before .before .pre .1)
@@ -46,30 +48,30 @@ here : (a : tie.After-e Inv-loop μ-loop) → Turn (start (loop a) .args .kind) 
 here a = turn (loop a .loop .inv) (start (loop a) .pre .1) (a .before .before .before .loop-test .taken) (a .before .before .entry-at .ensures) (a .e .given .1)
 
 sub-n : tie.Need-sub-n Inv-loop μ-loop
-sub-n c = parts (here (c .before .before)) .ordered
+sub-n c = parts (here (c .before)) .ordered
 
 ends : tie.Need-sub-put-head Inv-loop μ-loop
-ends c = going-within (c .before .before .before .before .before .before .loop .inv .going) (c .before .before .before .before .before .before .before .before .before .pre .1)
+ends c = going-within (c .before .before .before .before .before .loop .inv .going) (c .before .before .before .before .before .before .before .before .pre .1)
 
 asks-head : tie.Need-put-head-requires Inv-loop μ-loop
-asks-head c κs = head-asks (here (c .before .before .before))
+asks-head c κs = head-asks (here (c .before .before))
 
 add-from : tie.Need-add-from Inv-loop μ-loop
-add-from c = omega (arith, head-sum (here (c .before .before .before .before .before .before)) (c .before .before .put-head .ensures))
+add-from c = is-counted (head-sum (here (c .before .before .before .before .before)) (c .before .before .put-head .ensures)) (c .before .before .before .before .before .before .before .before .before .before .before .before .good .0 .0)
 
 ends-head : tie.Need-sub-copy Inv-loop μ-loop
-ends-head c = omega (arith, head-within (here (c .before .before .before .before .before .before)) (c .before .before .put-head .ensures))
+ends-head c = omega (arith, head-within (here (c .before .before .before .before .before)) (c .before .before .put-head .ensures))
 
 asks-copy : tie.Need-copy-requires Inv-loop μ-loop
 asks-copy c κs =
-    let w = here (c .before .before .before .before .before .before .before) in
+    let w = here (c .before .before .before .before .before .before) in
     omega (arith, parts w, bytes-fit w (c .before .before .before .put-head .ensures))
 
 add-at : tie.Need-add-at Inv-loop μ-loop
-add-at c = omega (arith, entry-sum (here (c .before .before .before .before .before .before .before .before .before .before)) (c .before .before .before .before .before .before .put-head .ensures) (c .before .before .copy .ensures))
+add-at c = is-counted (entry-sum (here (c .before .before .before .before .before .before .before .before .before)) (c .before .before .before .before .before .before .put-head .ensures) (c .before .before .copy .ensures)) (c .before .before .before .before .before .before .before .before .before .before .before .before .before .before .before .before .good .0 .0)
 
 loop-again : tie.Need-loop-again Inv-loop μ-loop
-loop-again c = entry-next (here (c .before .before .before .before .before .before .before .before .before .before)) (c .before .before .before .before .before .before .put-head .ensures) (c .before .before .copy .ensures)
+loop-again c = entry-next (here (c .before .before .before .before .before .before .before .before .before)) (c .before .before .before .before .before .before .put-head .ensures) (c .before .before .copy .ensures)
 
 same-length-2 : tie.Need-same-length-2 Inv-loop μ-loop
 same-length-2 c = going-length (c .before .loop .inv .going) (c .before .before .before .before .pre .1)
@@ -83,5 +85,5 @@ put-entries-spec =
     (tie.spec
     Inv-loop μ-loop
     loop-holds asks known other same-length returns
-    sub-n ends ends (λ c. search needs) asks-head add-from ends-head ends-head (λ c. search needs) asks-copy add-at
+    sub-n ends ends (λ c. le-refl _) asks-head add-from ends-head ends-head (λ c. le-refl _) asks-copy add-at
     (λ c. search needs) (λ c. search needs) loop-again same-length-2 returns-2)

@@ -1,8 +1,9 @@
 -- `put_list` meets its contract: a count, and after it the entries. Assumes nothing.
-use native.Mathlib.Omega.{arith}
+use native.Mathlib.Nat.{le-refl}
 use borrow.Author.Needs.{needs}
 use Rattle.common.proofs.Puts.{first-fits, ends-within, second-fits, both-fit, put-both}
 use Rattle.measure.proofs.Lists.{holds}
+use Rattle.encode.proofs.Counts.{is-counted}
 use Rattle.encode.proofs.Pieces.{list-room}
 use Rattle.encode.proofs.putting.put_list.Statement.{statement}
 use Rattle.encode.proofs.putting.put_list.Tie as tie
@@ -19,7 +20,7 @@ part-put-entries-start : tie.Need-part-put-entries-start
 part-put-entries-start c = ends-within (list-room _ _ _ _ (c .before .before .before .before .before .before .pre)) (c .before .before .put-number .ensures)
 
 part-put-entries-end : tie.Need-part-put-entries-end
-part-put-entries-end c = search needs
+part-put-entries-end c = le-refl _
 
 put-entries-requires : tie.Need-put-entries-requires
 put-entries-requires c κs =
@@ -27,7 +28,7 @@ put-entries-requires c κs =
     (a .pre .0, second-fits (list-room _ _ _ _ (a .pre)) (c .before .before .before .put-number .ensures))
 
 add-result : tie.Need-add-result
-add-result c = omega (arith, both-fit (list-room _ _ _ _ (c .before .before .before .before .before .before .before .before .before .before .pre)) (c .before .before .before .before .before .before .put-number .ensures) (c .before .before .put-entries .ensures))
+add-result c = is-counted (both-fit (list-room _ _ _ _ (c .before .before .before .before .before .before .before .before .before .before .pre)) (c .before .before .before .before .before .before .put-number .ensures) (c .before .before .put-entries .ensures)) (c .before .before .before .before .before .before .before .before .before .before .good .0 .0)
 
 same-length : tie.Need-same-length
 same-length c = search needs

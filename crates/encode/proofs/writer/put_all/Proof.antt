@@ -1,14 +1,16 @@
 -- `put_all` meets its contract. What was put, and the fields from the i-th on, are all of them. Assumes nothing.
 use Prim.Native.Nat.{_-_}
 use mathlib.Core.Path.{_≡_, sym, _∙_}
-use native.Mathlib.Omega.{arith}
-use borrow.Author.Needs.{needs}
+use native.Mathlib.Nat.{le-refl}
+use borrow.Author.Needs.{needs, scaled-fits}
+use lib.Dec.{lit<}
 use lib.ListN.{length, length-map}
 use Rattle.common.proofs.PutLoop.{going-length, going-within}
 use Rattle.field.specs.declared.Piece.the-variants.{Byte}
 use Rattle.measure.specs.Fields.{mostPieces, fieldsOf}
 use Rattle.measure.specs.Measuring.{encodeAll}
-use Rattle.measure.proofs.FieldsFrom.{count-most, fieldsFrom, from-first, fields-row}
+use Rattle.measure.proofs.FieldsFrom.{fieldsFrom, from-first, fields-row}
+use Rattle.encode.proofs.Counts.{is-counted, is-used, all-used, has-place}
 use Rattle.encode.proofs.FieldsPut.{Filling, filling-start, filling-end, field-asks, field-sum, field-next}
 use Rattle.encode.proofs.writer.put_all.Statement.{statement}
 use Rattle.encode.proofs.writer.put_all.Tie as tie
@@ -27,10 +29,10 @@ loop-holds : tie.Need-loop-holds Inv-loop μ-loop
 loop-holds c = rw (from-first (c .before .before .before .args .t3)) (filling-start _ (c .before .before .before .pre .0))
 
 mul-slot : tie.Need-mul-slot Inv-loop μ-loop
-mul-slot c = omega (arith, count-most (c .before .before .before .before .before .args .t3 .used))
+mul-slot c = scaled-fits _ mostPieces _ (has-place _ (c .before .before .piece-count .ensures) (c .loop-test .taken)) (lit< tt)
 
 element-copy-out-slot : tie.Need-element-copy-out-slot Inv-loop μ-loop
-element-copy-out-slot c = omega (arith, count-most (c .before .before .before .before .before .args .t3 .used))
+element-copy-out-slot c = has-place _ (c .before .before .piece-count .ensures) (c .loop-test .taken)
 
 ends : tie.Need-sub-put-piece Inv-loop μ-loop
 ends c = going-within (c .before .before .loop .inv .going) (c .before .before .before .before .before .before .pre .1)
@@ -38,17 +40,17 @@ ends c = going-within (c .before .before .loop .inv .going) (c .before .before .
 asks : tie.Need-put-piece-requires Inv-loop μ-loop
 asks c κs =
     let a = c .before .before .before .before .before .before .before in
-    field-asks (fields-row _ _ (places a)) (c .before .before .before .loop .inv) (a .pre .1) (omega arith)
+    field-asks (fields-row _ _ (places a)) (c .before .before .before .loop .inv) (a .pre .1) (is-used (c .before .before .before .before .piece-count .ensures) (c .before .before .loop-test .taken))
 
 add-at : tie.Need-add-at Inv-loop μ-loop
 add-at c =
     let a = c .before .before .before .before .before .before .before .before .before .before in
-    omega (arith, field-sum (fields-row _ _ (places a)) (c .before .before .before .before .before .before .loop .inv) (a .pre .1) (omega arith) (c .before .before .put-piece .ensures))
+    is-counted (field-sum (fields-row _ _ (places a)) (c .before .before .before .before .before .before .loop .inv) (a .pre .1) (is-used (c .before .before .before .before .before .before .before .piece-count .ensures) (c .before .before .before .before .before .loop-test .taken)) (c .before .before .put-piece .ensures)) (a .good .0 .0)
 
 loop-again : tie.Need-loop-again Inv-loop μ-loop
 loop-again c =
     let a = c .before .before .before .before .before .before .before .before .before .before in
-    field-next (fields-row _ _ (places a)) (c .before .before .before .before .before .before .loop .inv) (a .pre .1) (omega arith) (c .before .before .put-piece .ensures)
+    field-next (fields-row _ _ (places a)) (c .before .before .before .before .before .before .loop .inv) (a .pre .1) (is-used (c .before .before .before .before .before .before .before .piece-count .ensures) (c .before .before .before .before .before .loop-test .taken)) (c .before .before .put-piece .ensures)
 
 same-length : tie.Need-same-length Inv-loop μ-loop
 same-length c = going-length (c .before .loop .inv .going) (c .before .before .before .before .before .pre .1)
@@ -56,12 +58,12 @@ same-length c = going-length (c .before .loop .inv .going) (c .before .before .b
 returns : tie.Need-returns Inv-loop μ-loop
 returns c =
     let a = c .before .before .before .before .before in
-    filling-end (fields-row _ (record { piece = Byte 0 }) (places a)) (c .before .loop .inv) (a .pre .1) (omega arith)
+    filling-end (fields-row _ (record { piece = Byte 0 }) (places a)) (c .before .loop .inv) (a .pre .1) (all-used (c .before .before .piece-count .ensures) (c .loop-test .left))
 
 pub put-all-spec : {M : Type 1} → statement M
 put-all-spec =
     tie.close
     (tie.spec
     Inv-loop μ-loop
-    (λ c κs. search needs) loop-holds mul-slot element-copy-out-slot ends ends (λ c. search needs) asks add-at (λ c. search needs) (λ c. search needs)
+    (λ c κs. tt) loop-holds mul-slot element-copy-out-slot ends ends (λ c. le-refl _) asks add-at (λ c. search needs) (λ c. search needs)
     loop-again same-length returns)

@@ -13,9 +13,8 @@ unfolding datagrams
 read-datagram-spec =
     tie.close
     (tie.spec
-    (λ c κs. search needs) (λ c. search needs) (λ c. search needs) (λ c. is-open _ (search (headed-cut 4 datagrams)) refl)
-    (λ c κs. search needs) (λ c. search needs) (λ c. search needs) (λ c κs. search needs)
-    (λ c. is-open _ (search (headed-by 4 datagrams toldObject)) refl)
-    (λ c. is-open _ (search (headed-by 4 datagrams toldObject)) refl)
-    (λ c. search has-status)
+    (λ c κs. tt) (λ c. search needs) (λ c. search needs) (λ c. is-open _ (search (headed-cut 4 datagrams)) refl)
+    (λ c κs. tt) (λ c. search needs) (λ c. is-open _ (search (headed-by 4 datagrams toldObject)) refl)
+    (λ c. search needs) (λ c. is-open _ (search (headed-by 4 datagrams toldObject)) refl)
+    (λ c κs. tt) (λ c. search has-status)
     (λ c. is-open _ (search (headed-unknown 4 datagrams, no-datagram)) refl))

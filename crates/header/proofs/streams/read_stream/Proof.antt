@@ -14,13 +14,14 @@ unfolding streamOf streams fetchHeader
 read-stream-spec =
     tie.close
     (tie.spec
-    (λ c κs. search needs) (λ c. search needs) (λ c. search needs) (λ c. search (headed-cut 1 streams))
-    (λ c κs. search needs) (λ c. search needs) (λ c. search needs) (λ c κs. search needs) (λ c. search needs) (λ c. search needs)
-    (λ c. search (headed-by 1 streams toldLead))
-    (λ c. search (headed-by 1 streams toldLead))
+    (λ c κs. tt) (λ c. search needs) (λ c. search needs) (λ c. search (headed-cut 1 streams))
+    (λ c κs. tt) (λ c. search needs) (λ c. search (headed-by 1 streams toldLead))
+    (λ c. search needs) (λ c. search (headed-by 1 streams toldLead))
+    (λ c κs. tt) (λ c. search needs)
     (λ c.
     let r = c .before .before .before .before .before .before in
     headed-fields 1 streams _ (r .before .before .read-number .ensures) (r .number .given .1) (c .before .before .before .before .match2 .keys2) refl (search going depth 10))
+    (λ c. search needs)
     (λ c.
     let r = c .before .before .before .before .before in
     headed-short 1 streams _ (r .before .before .read-number .ensures) (r .number .given .1) (c .before .before .before .match2 .keys2) refl (search stopping depth 10))

@@ -9,9 +9,6 @@ pub asked-spec : {M : Type 1} → statement M
 asked-spec =
     tie.close
     (tie.spec
-    (λ c. search needs)
-    (λ c. search needs)
-    (λ c. search needs)
-    (λ c. search needs)
-    (λ c. search (told-of askedOf))
-    (λ c. search (told-of askedOf)))
+    (λ c. search needs) (λ c. search needs)
+    (λ c. search needs) (λ c. search (told-of askedOf))
+    (λ c. search needs) (λ c. search (told-of askedOf)))

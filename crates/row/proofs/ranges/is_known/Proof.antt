@@ -10,9 +10,6 @@ unfolding isKnown
 is-known-spec =
     tie.close
     (tie.spec
-    (λ c. search needs)
-    (λ c. search needs)
-    (λ c. search needs)
-    (λ c. search (told-of isKnown))
-    (λ c. search (told-of isKnown))
-    (λ c. search (told-of isKnown)))
+    (λ c. search needs) (λ c. search (told-of isKnown))
+    (λ c. search needs) (λ c. search (told-of isKnown))
+    (λ c. search needs) (λ c. search (told-of isKnown)))

@@ -1,6 +1,5 @@
 -- `is_small_range` meets its contract. Assumes nothing.
 use borrow.Author.Needs.{needs}
-use Rattle.row.proofs.Checks.{checks}
 use Rattle.row.specs.Places.{small}
 use Rattle.row.specs.Ranges.{smallRange}
 use Rattle.row.proofs.ranges.is_small_range.Statement.{statement}
@@ -11,12 +10,6 @@ unfolding small smallRange
 is-small-range-spec =
     tie.close
     (tie.spec
-    (λ c. search needs)
-    (λ c. search needs)
-    (λ c κs. search needs)
-    (λ c. search needs)
-    (λ c κs. search needs)
-    (λ c. rw (c .before .before .before .range2 .given .1) (search checks))
-    (λ c. rw (c .enum-told .given .1))
-    (λ c. rw (c .before .before .range .given .1) (c .is-small .ensures))
-    (λ c. rw (c .before .before .before .range2 .given .1) (search checks)))
+    (λ c. search needs) (λ c. rw (c .enum-told .given .1))
+    (λ c. search needs) (λ c κs. tt) (λ c. rw (c .before .before .range .given .1) (c .is-small .ensures))
+    (λ c. search needs) (λ c κs. tt) (λ c. rw (c .before .before .range2 .given .1, c .is-small2 .ensures)))

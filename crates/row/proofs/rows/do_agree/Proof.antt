@@ -1,6 +1,5 @@
 -- `do_agree` meets its contract. Assumes nothing.
 use borrow.Author.Needs.{needs}
-use Rattle.row.proofs.Checks.{checks}
 use Rattle.row.specs.Rows.{countAgrees}
 use Rattle.row.proofs.rows.do_agree.Statement.{statement}
 use Rattle.row.proofs.rows.do_agree.Tie as tie
@@ -10,9 +9,5 @@ unfolding countAgrees
 do-agree-spec =
     tie.close
     (tie.spec
-    (λ c. search needs)
-    (λ c. search needs)
-    (λ c. rw (c .before .before .g .given .1) (search checks))
-    (λ c κs. search needs)
-    (λ c. rw (c .enum-told .given .1))
-    (λ c. rw (c .before .before .before .g .given .1) (search checks)))
+    (λ c. search needs) (λ c. rw (c .enum-told .given .1))
+    (λ c. search needs) (λ c κs. tt) (λ c. rw (c .before .before .g .given .1, c .is-small .ensures)))

@@ -9,8 +9,5 @@ unfolding suits
 does-suit-spec =
     tie.close
     (tie.spec
-    (λ c. search needs)
-    (λ c. search needs)
-    (λ c κs. search needs)
-    (λ c. rw (c .enum-told .given .1))
-    (λ c. rw (c .before .enum-told2 .given .1) (c .is-known .ensures)))
+    (λ c. search needs) (λ c. rw (c .enum-told .given .1))
+    (λ c. search needs) (λ c κs. tt) (λ c. rw (c .before .enum-told2 .given .1) (c .is-known .ensures)))

@@ -10,9 +10,7 @@ unfolding greater
 greater-of-spec =
     tie.close
     (tie.spec
-    (λ c. search needs)
-    (λ c. search needs)
-    (λ c κs. search needs)
+    (λ c. search needs) (λ c. rw (c .enum-told .given .1))
+    (λ c. search needs) (λ c κs. tt)
     (λ c. rw (c .before .before .before .g .given .1) (search checks))
-    (λ c. rw (c .enum-told .given .1))
     (λ c. rw (c .before .before .before .g .given .1) (search checks)))

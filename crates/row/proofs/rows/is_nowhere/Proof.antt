@@ -10,7 +10,5 @@ unfolding isNowhere
 is-nowhere-spec =
     tie.close
     (tie.spec
-    (λ c. search needs)
-    (λ c. search needs)
-    (λ c. search (told-of isNowhere))
-    (λ c. search (told-of isNowhere)))
+    (λ c. search needs) (λ c. search (told-of isNowhere))
+    (λ c. search needs) (λ c. search (told-of isNowhere)))

@@ -10,7 +10,5 @@ unfolding isPending
 is-pending-spec =
     tie.close
     (tie.spec
-    (λ c. search needs)
-    (λ c. search needs)
-    (λ c. search (told-of isPending))
-    (λ c. search (told-of isPending)))
+    (λ c. search needs) (λ c. search (told-of isPending))
+    (λ c. search needs) (λ c. search (told-of isPending)))

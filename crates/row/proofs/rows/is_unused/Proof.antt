@@ -1,7 +1,9 @@
 -- `is_unused` meets its contract. Assumes nothing.
-use borrow.Author.Needs.{needs}
-use Rattle.row.proofs.Checks.{checks}
-use Rattle.row.specs.Rows.{isUnused}
+use mathlib.Core.Bool.{not}
+use lib.Dec.{eqb}
+use Rattle.row.specs.Ranges.{isKnown}
+use Rattle.row.proofs.Checks.{all-made}
+use Rattle.row.specs.Rows.{isPending, isNowhere, isUnused}
 use Rattle.row.proofs.rows.is_unused.Statement.{statement}
 use Rattle.row.proofs.rows.is_unused.Tie as tie
 
@@ -10,6 +12,5 @@ unfolding isUnused
 is-unused-spec =
     tie.close
     (tie.spec
-    (λ c. search checks depth 12) (λ c. search checks depth 12) (λ c. search checks depth 12)
-    (λ c κs. search needs) (λ c. search checks depth 12) (λ c κs. search needs)
-    (λ c. search checks depth 12) (λ c κs. search needs) (λ c. search checks depth 12))
+    (λ c κs. tt) (λ c κs. tt) (λ c κs. tt)
+    (λ c. let row = c .before .before .before .before .before .before .args .row in rw (c .before .before .is-pending .ensures, c .before .is-known .ensures, c .is-nowhere .ensures) (all-made (eqb (row .id) 0) (eqb (row .alias) 0) (eqb (row .count) 0) (isPending (row .state)) (not (isKnown (row .range))) (isNowhere (row .greatest)))))
