@@ -11,9 +11,7 @@ use Rattle.field.specs.declared.Arrival.{Arrival}
 use Rattle.subscription.specs.declared.Content.{Content}
 use Rattle.subscription.specs.declared.Subscribe.{Subscribe}
 use Rattle.subscription.specs.declared.SubscriptionMessage.{SubscriptionMessage}
-use Rattle.message_writer.specs.Sound.{soundOf}
 use Rattle.message.specs.declared.Message.{Message}
-use Rattle.message.specs.declared.Message.the-variants.{Subscription}
 use Rattle.row.specs.Ranges.{askedOf}
 use Rattle.row.specs.Rows.{pendingRow, AtRow, arriveOf, openOf, mayEnd, toldArriving, toldOpening}
 use Rattle.row.specs.declared.Range.{Range}
@@ -24,10 +22,10 @@ use Rattle.row.specs.declared.Opening.{Opening}
 use Rattle.row.specs.declared.Opening.the-variants.{Refused, Opened}
 use Rattle.row.specs.declared.Ending.{Ending}
 use Rattle.ledger.specs.Ledgers.{held, hasAlias, isLedger}
-use Rattle.ledger.specs.Answers.{Came, ruleNumber, noRule, same, done, isOwn, gated}
+use Rattle.ledger.specs.Answers.{Came, ruleNumber, noRule, same, done, isOwn}
 use Rattle.ledger.specs.Keys.{gone, now}
 use Rattle.ledger.specs.Views.{standingOf, viewOf, cameOf}
-use Rattle.ledger.specs.Steps.{idOf, aliasOf, newRow, answer, broken, RowStep, replied, unchanged, withHighest, noRow, breaksR6, okAt, endAt, arriveAt, byId, subscribeStep, maximumStep, arrivalStep, messageStep, takeOf}
+use Rattle.ledger.specs.Steps.{idOf, aliasOf, newRow, answer, broken, RowStep, replied, unchanged, withHighest, noRow, breaksR6, okAt, endAt, arriveAt, byId, subscribeStep, maximumStep, arrivalStep, subscriptionStep, messageStep}
 use Rattle.ledger.specs.Arrays.{find, rowAt, changed, added, freed}
 use Rattle.ledger.specs.declared.Part.{Part}
 use Rattle.ledger.specs.declared.Part.the-variants.{Subscriber, Publisher}
@@ -212,14 +210,10 @@ module _ (l : Ledger) (w : isLedger l ≡ true) where
               ∙ added-kept l shape (newRow m) (omega (arith, room))
               ∙ ap cameOf (sym (taken h))
 
--- ---- any message
+-- ---- any message, by its kind
 
-module _ (l : Ledger) (m : Message) {came : Came} where
-  -- by its kind
-  pub of-kind : {x v : SubscriptionMessage} → came ≡ takeOf l (Subscription v) → m ≡ Subscription x → x ≡ v → came ≡ takeOf l m
-  of-kind h e k = h ∙ rw (e, k)
+pub of-part : (l : Ledger) {m v : Message} {came : Came} → came ≡ cameOf (messageStep (viewOf l) v) → m ≡ v → came ≡ cameOf (messageStep (viewOf l) m)
+of-part l h e = h ∙ ap (λ x. cameOf (messageStep (viewOf l) x)) (sym e)
 
-  -- or it isn't kept
-  pub not-kept : {v : Message} → came ≡ gated l (soundOf v) (cameOf (unchanged (viewOf l) 9)) → messageStep (viewOf l) v ≡ unchanged (viewOf l) 9 → m ≡ v → came ≡ takeOf l m
-  unfolding takeOf
-  not-kept {v} h k e = h ∙ ap (λ s. gated l (soundOf v) (cameOf s)) (sym k) ∙ rw e
+pub of-kind : (l : Ledger) {m v : SubscriptionMessage} {came : Came} → came ≡ cameOf (subscriptionStep (viewOf l) v) → m ≡ v → came ≡ cameOf (subscriptionStep (viewOf l) m)
+of-kind l h e = h ∙ ap (λ x. cameOf (subscriptionStep (viewOf l) x)) (sym e)
