@@ -83,9 +83,9 @@ module _ (l : Ledger) (w : isLedger l ≡ true) where
   -- ---- MAX_SUBSCRIBE_ID
 
   module _ (id : ℕ) where
-    pub not-larger : {own : Bool} {came : Came} → id ≤ l .maximum → own ≡ isOwn (l .part) Publisher → came ≡ cameOf (replied (viewOf l) own (broken R7)) → came ≡ cameOf (maximumStep (viewOf l) id)
+    pub not-larger : {came : Came} → id ≤ l .maximum → came ≡ cameOf (replied (viewOf l) (isOwn (l .part) Publisher) (broken R7)) → came ≡ cameOf (maximumStep (viewOf l) id)
     unfolding maximumStep
-    not-larger h own e = e ∙ rw (own, le-leb _ _ h)
+    not-larger h e = e ∙ rw (le-leb _ _ h)
 
     pub raised : l .maximum < id → done (raisedTo l id) ≡ cameOf (maximumStep (viewOf l) id)
     unfolding maximumStep held
@@ -129,10 +129,9 @@ module _ (l : Ledger) (w : isLedger l ≡ true) where
 
     module _ {i : ℕ} (here : f ≡ At i) where
       -- R6
-      refused : {own : Bool} {came : Came} → at (rowAt l i) ≡ breaksR6 (rowAt l i) → own ≡ isOwn (l .part) by → came ≡ cameOf (replied (viewOf l) own (broken R6)) → came ≡ cameOf (byId (viewOf l) by id at)
-      refused e own h =
+      refused : {came : Came} → at (rowAt l i) ≡ breaksR6 (rowAt l i) → came ≡ cameOf (replied (viewOf l) (isOwn (l .part) by) (broken R6)) → came ≡ cameOf (byId (viewOf l) by id at)
+      refused e h =
           h
-          ∙ ap (λ (b : Bool). cameOf (replied (viewOf l) b (broken R6))) own
           ∙ same-kept-at l shape idOf id _ (noRow (standingOf l) id) at (found-first idOf id l found here) e
 
       changes : {r : Row} {next : Ledger} → at (rowAt l i) ≡ record { reply = answer 8; row = now r } → next ≡ changed l i r → done next ≡ cameOf (byId (viewOf l) by id at)
@@ -150,7 +149,7 @@ module _ (l : Ledger) (w : isLedger l ≡ true) where
         ap (λ (at : AtRow). record { reply = pick (eqb (at .number) 8) (answer 8) (broken R6); row = now (at .row) })
         (sym opening ∙ ap (λ (v : Opening). toldOpening v (rowAt l i)) e)
 
-    pub ok-refused : {own : Bool} {came : Came} → o ≡ Refused → own ≡ isOwn (l .part) Publisher → came ≡ cameOf (replied (viewOf l) own (broken R6)) → came ≡ cameOf (byId (viewOf l) Publisher id (okAt content))
+    pub ok-refused : {came : Came} → o ≡ Refused → came ≡ cameOf (replied (viewOf l) (isOwn (l .part) Publisher) (broken R6)) → came ≡ cameOf (byId (viewOf l) Publisher id (okAt content))
     ok-refused e = refused Publisher id (okAt content) found here (opens-as e)
 
     pub ok-opened : {r : Row} {next : Ledger} → o ≡ Opened r → next ≡ changed l i r → done next ≡ cameOf (byId (viewOf l) Publisher id (okAt content))
@@ -167,28 +166,28 @@ module _ (l : Ledger) (w : isLedger l ≡ true) where
     pub end-freed : {next : Ledger} → b ≡ true → next ≡ freed l i → done next ≡ cameOf (byId (viewOf l) by id (endAt ending))
     end-freed e = frees by id (endAt ending) found here (ends-as e)
 
-    pub end-refused : {own : Bool} {came : Came} → b ≡ false → own ≡ isOwn (l .part) by → came ≡ cameOf (replied (viewOf l) own (broken R6)) → came ≡ cameOf (byId (viewOf l) by id (endAt ending))
+    pub end-refused : {came : Came} → b ≡ false → came ≡ cameOf (replied (viewOf l) (isOwn (l .part) by) (broken R6)) → came ≡ cameOf (byId (viewOf l) by id (endAt ending))
     end-refused e = refused by id (endAt ending) found here (ends-as e)
 
   -- ---- SUBSCRIBE
 
-  module _ (m : Subscribe) {own : Bool} (o : own ≡ isOwn (l .part) Subscriber) where
-    pub not-higher : {came : Came} → m .id < l .next → came ≡ cameOf (replied (viewOf l) own (broken R2)) → came ≡ cameOf (subscribeStep (viewOf l) m)
+  module _ (m : Subscribe) where
+    pub not-higher : {came : Came} → m .id < l .next → came ≡ cameOf (replied (viewOf l) (isOwn (l .part) Subscriber) (broken R2)) → came ≡ cameOf (subscribeStep (viewOf l) m)
     unfolding subscribeStep
-    not-higher h e = e ∙ rw (o, lt-ltb _ _ h)
+    not-higher h e = e ∙ rw (lt-ltb _ _ h)
 
     module _ (above : l .next ≤ m .id) where
-      pub not-lower : {came : Came} → l .maximum ≤ m .id → came ≡ cameOf (replied (viewOf l) own (broken R3)) → came ≡ cameOf (subscribeStep (viewOf l) m)
+      pub not-lower : {came : Came} → l .maximum ≤ m .id → came ≡ cameOf (replied (viewOf l) (isOwn (l .part) Subscriber) (broken R3)) → came ≡ cameOf (subscribeStep (viewOf l) m)
       unfolding subscribeStep
-      not-lower h e = e ∙ rw (o, le-ltb _ _ above, le-leb _ _ h)
+      not-lower h e = e ∙ rw (le-ltb _ _ above, le-leb _ _ h)
 
       module _ (below : m .id < l .maximum) {f : Found} (found : f ≡ find aliasOf (m .alias) 0 (held l)) where
         has : hasAlias (m .alias) (held l) ≡ isFound f
         has = has-found (m .alias) 0 (held l) ∙ ap isFound (sym found)
 
-        pub alias-held : {i : ℕ} {came : Came} → f ≡ At i → came ≡ cameOf (replied (viewOf l) own (broken R4)) → came ≡ cameOf (subscribeStep (viewOf l) m)
+        pub alias-held : {i : ℕ} {came : Came} → f ≡ At i → came ≡ cameOf (replied (viewOf l) (isOwn (l .part) Subscriber) (broken R4)) → came ≡ cameOf (subscribeStep (viewOf l) m)
         unfolding subscribeStep
-        alias-held at e = e ∙ rw (o, le-ltb _ _ above, lt-leb _ _ below, has, at)
+        alias-held at e = e ∙ rw (le-ltb _ _ above, lt-leb _ _ below, has, at)
 
         module _ (missing : f ≡ Missing) where
           full : l .capacity ≤ l .used → subscribeStep (viewOf l) m ≡ unchanged (viewOf l) 11

@@ -19,7 +19,7 @@ use crate::arrivals::is_small;
 use crate::endings::end;
 use crate::gating::gate;
 use crate::rules::break_rule;
-use crate::rules::is_own;
+use crate::rules::breaks;
 use crate::subscribing::accept;
 use crate::subscribing::add;
 use field::Arrival;
@@ -111,10 +111,10 @@ impl Ledger {
             };
         }
         match m {
-            Message::Subscription(x) => keep(self, x),
-            Message::Fetch(_) => other(self),
-            Message::Announce(_) => other(self),
-            Message::Session(_) => other(self),
+            Message::Subscription(x) => return keep(self, x),
+            Message::Fetch(_) => return other(self),
+            Message::Announce(_) => return other(self),
+            Message::Session(_) => return other(self),
         }
     }
 }
@@ -125,24 +125,29 @@ fn keep(l: Ledger, m: SubscriptionMessage) -> Taken
     ensures { λ r. ⌜ told r ≡ cameOf (subscriptionStep (viewOf l) m) ⌝ }
 {
     match m {
-        SubscriptionMessage::Subscribe(x) => add(l, x),
-        SubscriptionMessage::SubscribeOk(x) => accept(l, x),
-        SubscriptionMessage::SubscribeError(x) => end(
+        SubscriptionMessage::Subscribe(x) => return add(l, x),
+        SubscriptionMessage::SubscribeOk(x) => return accept(l, x),
+        SubscriptionMessage::SubscribeError(x) => return end(
             l,
             Part::Publisher,
             Ending::SubscribeError,
             x.id,
         ),
-        SubscriptionMessage::SubscribeDone(x) => end(
+        SubscriptionMessage::SubscribeDone(x) => return end(
             l,
             Part::Publisher,
             Ending::SubscribeDone,
             x.id,
         ),
-        SubscriptionMessage::Unsubscribe(id) => end(l, Part::Subscriber, Ending::Unsubscribe, id),
-        SubscriptionMessage::MaxSubscribeId(id) => raise(l, id),
-        SubscriptionMessage::SubscribeUpdate(_) => other(l),
-        SubscriptionMessage::SubscribesBlocked(_) => other(l),
+        SubscriptionMessage::Unsubscribe(id) => return end(
+            l,
+            Part::Subscriber,
+            Ending::Unsubscribe,
+            id,
+        ),
+        SubscriptionMessage::MaxSubscribeId(id) => return raise(l, id),
+        SubscriptionMessage::SubscribeUpdate(_) => return other(l),
+        SubscriptionMessage::SubscribesBlocked(_) => return other(l),
     }
 }
 
@@ -163,8 +168,7 @@ fn raise(l: Ledger, id: u64) -> Taken
     ensures { λ r. ⌜ told r ≡ cameOf (maximumStep (viewOf l) id) ⌝ }
 {
     if id <= l.maximum {
-        let part = l.part;
-        return break_rule(l, is_own(part, Part::Publisher), Rule::R7);
+        return breaks(l, Part::Publisher, Rule::R7);
     }
     let mut next = l;
     next.maximum = id;
