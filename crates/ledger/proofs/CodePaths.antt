@@ -5,13 +5,19 @@ use mathlib.Core.Bool.{Bool, true, false}
 use mathlib.Core.List.{[], _∷_, _++_}
 use native.Mathlib.Omega.{arith}
 use borrow.Author.Tests.{lt-ltb, le-ltb, le-leb, lt-leb}
+use types.Run.{OneOf, miss}
+use denote.Enum.Declared.{tagOf}
 use lib.Dec.{eqb}
 use Rattle.common.specs.Choice.{pick}
 use Rattle.field.specs.declared.Arrival.{Arrival}
 use Rattle.subscription.specs.declared.Content.{Content}
 use Rattle.subscription.specs.declared.Subscribe.{Subscribe}
 use Rattle.subscription.specs.declared.SubscriptionMessage.{SubscriptionMessage}
+use Rattle.subscription.specs.declared.SubscriptionMessage.the-variants.{SubscribeUpdate as ASubscribeUpdate, Subscribe as ASubscribe, SubscribeOk as ASubscribeOk, SubscribeError as ASubscribeError, Unsubscribe as AUnsubscribe, SubscribeDone as ASubscribeDone, MaxSubscribeId as AMaxSubscribeId, SubscribesBlocked as ASubscribesBlocked}
+use Rattle.subscription.proofs.SubscriptionMessage.{the-type as subscription-type}
 use Rattle.message.specs.declared.Message.{Message}
+use Rattle.message.specs.declared.Message.the-variants.{Subscription, Fetch, Announce, Session}
+use Rattle.message.proofs.Message.{the-type as message-type}
 use Rattle.row.specs.Ranges.{askedOf}
 use Rattle.row.specs.Rows.{pendingRow, AtRow, arriveOf, openOf, mayEnd, toldArriving, toldOpening}
 use Rattle.row.specs.declared.Range.{Range}
@@ -24,7 +30,7 @@ use Rattle.row.specs.declared.Ending.{Ending}
 use Rattle.ledger.specs.Ledgers.{held, hasAlias, isLedger}
 use Rattle.ledger.specs.Answers.{Came, ruleNumber, noRule, same, done, isOwn}
 use Rattle.ledger.specs.Keys.{gone, now}
-use Rattle.ledger.specs.Views.{standingOf, viewOf, cameOf}
+use Rattle.ledger.specs.Views.{View, standingOf, viewOf, cameOf}
 use Rattle.ledger.specs.Steps.{idOf, aliasOf, newRow, answer, broken, RowStep, replied, unchanged, withHighest, noRow, breaksR6, okAt, endAt, arriveAt, byId, subscribeStep, maximumStep, arrivalStep, subscriptionStep, messageStep}
 use Rattle.ledger.specs.Arrays.{find, rowAt, changed, added, freed}
 use Rattle.ledger.specs.declared.Part.{Part}
@@ -216,3 +222,20 @@ of-part l h e = h ∙ ap (λ x. cameOf (messageStep (viewOf l) x)) (sym e)
 
 pub of-kind : (l : Ledger) {m v : SubscriptionMessage} {came : Came} → came ≡ cameOf (subscriptionStep (viewOf l) v) → m ≡ v → came ≡ cameOf (subscriptionStep (viewOf l) m)
 of-kind l h e = h ∙ ap (λ x. cameOf (subscriptionStep (viewOf l) x)) (sym e)
+
+-- all others aren't kept; a kind is told by its place among all kinds
+pub other-part : (v : View) (m : Message) → OneOf (1 ∷ 2 ∷ 3 ∷ []) (tagOf message-type m) → unchanged v 9 ≡ messageStep v m
+other-part v (Subscription x) h = absurd (miss (1 ∷ 2 ∷ 3 ∷ []) 0 Prim.tt h)
+other-part v (Fetch x) h = refl
+other-part v (Announce x) h = refl
+other-part v (Session x) h = refl
+
+pub other-kind : (v : View) (m : SubscriptionMessage) → OneOf (0 ∷ 7 ∷ []) (tagOf subscription-type m) → unchanged v 9 ≡ subscriptionStep v m
+other-kind v (ASubscribeUpdate x) h = refl
+other-kind v (ASubscribe x) h = absurd (miss (0 ∷ 7 ∷ []) 1 Prim.tt h)
+other-kind v (ASubscribeOk x) h = absurd (miss (0 ∷ 7 ∷ []) 2 Prim.tt h)
+other-kind v (ASubscribeError x) h = absurd (miss (0 ∷ 7 ∷ []) 3 Prim.tt h)
+other-kind v (AUnsubscribe x) h = absurd (miss (0 ∷ 7 ∷ []) 4 Prim.tt h)
+other-kind v (ASubscribeDone x) h = absurd (miss (0 ∷ 7 ∷ []) 5 Prim.tt h)
+other-kind v (AMaxSubscribeId x) h = absurd (miss (0 ∷ 7 ∷ []) 6 Prim.tt h)
+other-kind v (ASubscribesBlocked x) h = refl

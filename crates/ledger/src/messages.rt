@@ -112,9 +112,7 @@ impl Ledger {
         }
         match m {
             Message::Subscription(x) => return keep(self, x),
-            Message::Fetch(_) => return other(self),
-            Message::Announce(_) => return other(self),
-            Message::Session(_) => return other(self),
+            _ => return other(self),
         }
     }
 }
@@ -146,8 +144,7 @@ fn keep(l: Ledger, m: SubscriptionMessage) -> Taken
             id,
         ),
         SubscriptionMessage::MaxSubscribeId(id) => return raise(l, id),
-        SubscriptionMessage::SubscribeUpdate(_) => return other(l),
-        SubscriptionMessage::SubscribesBlocked(_) => return other(l),
+        _ => return other(l),
     }
 }
 

@@ -1,8 +1,10 @@
 -- `take` meets its contract. Assumes nothing.
 use borrow.Author.Needs.{needs}
+use mathlib.Core.Path.{ap, _∙_}
+use Rattle.ledger.specs.Views.{viewOf, cameOf}
 use Rattle.ledger.specs.Steps.{takeOf}
 use Rattle.ledger.proofs.Gates.{stopped, went, went-ledger}
-use Rattle.ledger.proofs.CodePaths.{of-part}
+use Rattle.ledger.proofs.CodePaths.{of-part, other-part}
 use Rattle.ledger.proofs.Ledger.take.Statement.{statement}
 use Rattle.ledger.proofs.Ledger.take.Tie as tie
 
@@ -19,12 +21,5 @@ take-spec =
     (λ c. search needs)
     (λ c κs. went-ledger _ (c .before .before .before .before .before .before .is-sound .ensures) (c .before .before .before .before .before .gate .ensures) (c .before .before .before .enum-told .given .1))
     (λ c. went _ (c .before .before .before .before .before .before .before .is-sound .ensures) (c .before .before .before .before .before .before .gate .ensures) (c .before .before .before .before .enum-told .given .1) (of-part _ (c .keep .ensures) (c .before .before .m .given .1)))
-    (λ c. search needs)
-    (λ c κs. went-ledger _ (c .before .before .before .before .before .is-sound .ensures) (c .before .before .before .before .gate .ensures) (c .before .before .enum-told .given .1))
-    (λ c. went _ (c .before .before .before .before .before .before .is-sound .ensures) (c .before .before .before .before .before .gate .ensures) (c .before .before .before .enum-told .given .1) (of-part _ (c .other .ensures) (c .before .enum-told2 .given .1)))
-    (λ c. search needs)
-    (λ c κs. went-ledger _ (c .before .before .before .before .before .is-sound .ensures) (c .before .before .before .before .gate .ensures) (c .before .before .enum-told .given .1))
-    (λ c. went _ (c .before .before .before .before .before .before .is-sound .ensures) (c .before .before .before .before .before .gate .ensures) (c .before .before .before .enum-told .given .1) (of-part _ (c .other2 .ensures) (c .before .enum-told3 .given .1)))
-    (λ c. search needs)
-    (λ c κs. went-ledger _ (c .before .before .before .before .before .is-sound .ensures) (c .before .before .before .before .gate .ensures) (c .before .before .enum-told .given .1))
-    (λ c. went _ (c .before .before .before .before .before .before .is-sound .ensures) (c .before .before .before .before .before .gate .ensures) (c .before .before .before .enum-told .given .1) (of-part _ (c .other3 .ensures) (c .before .enum-told4 .given .1))))
+    (λ c κs. went-ledger _ (c .before .before .before .before .is-sound .ensures) (c .before .before .before .gate .ensures) (c .before .enum-told .given .1))
+    (λ c. went _ (c .before .before .before .before .before .is-sound .ensures) (c .before .before .before .before .gate .ensures) (c .before .before .enum-told .given .1) (c .other .ensures ∙ ap cameOf (other-part (viewOf (c .before .before .before .before .before .before .args .self)) (c .before .before .before .before .before .before .args .m) (c .before .match2 .keys2)))))

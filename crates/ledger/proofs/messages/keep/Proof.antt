@@ -1,6 +1,8 @@
 -- `keep` meets its contract. Assumes nothing.
 use borrow.Author.Needs.{needs}
-use Rattle.ledger.proofs.CodePaths.{of-kind}
+use mathlib.Core.Path.{ap, _∙_}
+use Rattle.ledger.specs.Views.{viewOf, cameOf}
+use Rattle.ledger.proofs.CodePaths.{of-kind, other-kind}
 use Rattle.ledger.proofs.messages.keep.Statement.{statement}
 use Rattle.ledger.proofs.messages.keep.Tie as tie
 
@@ -26,9 +28,5 @@ keep-spec =
     (λ c. search needs)
     (λ c κs. search needs)
     (λ c. of-kind _ (c .raise .ensures) (c .before .before .m6 .given .1))
-    (λ c. search needs)
     (λ c κs. search needs)
-    (λ c. of-kind _ (c .other .ensures) (c .before .enum-told .given .1))
-    (λ c. search needs)
-    (λ c κs. search needs)
-    (λ c. of-kind _ (c .other2 .ensures) (c .before .enum-told2 .given .1)))
+    (λ c. c .other .ensures ∙ ap cameOf (other-kind (viewOf (c .before .before .args .l)) (c .before .before .args .m) (c .before .match .keys7))))
