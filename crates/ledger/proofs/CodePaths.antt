@@ -5,15 +5,19 @@ use mathlib.Core.Bool.{Bool, true, false}
 use mathlib.Core.List.{[], _∷_, _++_}
 use native.Mathlib.Omega.{arith}
 use borrow.Author.Tests.{lt-ltb, le-ltb, le-leb, lt-leb}
+use types.Run.{OneOf, miss}
+use denote.Enum.Declared.{tagOf}
 use lib.Dec.{eqb}
 use Rattle.common.specs.Choice.{pick}
 use Rattle.field.specs.declared.Arrival.{Arrival}
 use Rattle.subscription.specs.declared.Content.{Content}
 use Rattle.subscription.specs.declared.Subscribe.{Subscribe}
 use Rattle.subscription.specs.declared.SubscriptionMessage.{SubscriptionMessage}
-use Rattle.message_writer.specs.Sound.{soundOf}
+use Rattle.subscription.specs.declared.SubscriptionMessage.the-variants.{SubscribeUpdate as ASubscribeUpdate, Subscribe as ASubscribe, SubscribeOk as ASubscribeOk, SubscribeError as ASubscribeError, Unsubscribe as AUnsubscribe, SubscribeDone as ASubscribeDone, MaxSubscribeId as AMaxSubscribeId, SubscribesBlocked as ASubscribesBlocked}
+use Rattle.subscription.proofs.SubscriptionMessage.{the-type as subscription-type}
 use Rattle.message.specs.declared.Message.{Message}
-use Rattle.message.specs.declared.Message.the-variants.{Subscription}
+use Rattle.message.specs.declared.Message.the-variants.{Subscription, Fetch, Announce, Session}
+use Rattle.message.proofs.Message.{the-type as message-type}
 use Rattle.row.specs.Ranges.{askedOf}
 use Rattle.row.specs.Rows.{pendingRow, AtRow, arriveOf, openOf, mayEnd, toldArriving, toldOpening}
 use Rattle.row.specs.declared.Range.{Range}
@@ -24,10 +28,10 @@ use Rattle.row.specs.declared.Opening.{Opening}
 use Rattle.row.specs.declared.Opening.the-variants.{Refused, Opened}
 use Rattle.row.specs.declared.Ending.{Ending}
 use Rattle.ledger.specs.Ledgers.{held, hasAlias, isLedger}
-use Rattle.ledger.specs.Answers.{Came, ruleNumber, noRule, same, done, isOwn, gated}
+use Rattle.ledger.specs.Answers.{Came, ruleNumber, noRule, same, done, isOwn}
 use Rattle.ledger.specs.Keys.{gone, now}
-use Rattle.ledger.specs.Views.{standingOf, viewOf, cameOf}
-use Rattle.ledger.specs.Steps.{idOf, aliasOf, newRow, answer, broken, RowStep, replied, unchanged, withHighest, noRow, breaksR6, okAt, endAt, arriveAt, byId, subscribeStep, maximumStep, arrivalStep, messageStep, takeOf}
+use Rattle.ledger.specs.Views.{View, standingOf, viewOf, cameOf}
+use Rattle.ledger.specs.Steps.{idOf, aliasOf, newRow, answer, broken, RowStep, replied, unchanged, withHighest, noRow, breaksR6, okAt, endAt, arriveAt, byId, subscribeStep, maximumStep, arrivalStep, subscriptionStep, messageStep}
 use Rattle.ledger.specs.Arrays.{find, rowAt, changed, added, freed}
 use Rattle.ledger.specs.declared.Part.{Part}
 use Rattle.ledger.specs.declared.Part.the-variants.{Subscriber, Publisher}
@@ -85,9 +89,9 @@ module _ (l : Ledger) (w : isLedger l ≡ true) where
   -- ---- MAX_SUBSCRIBE_ID
 
   module _ (id : ℕ) where
-    pub not-larger : {own : Bool} {came : Came} → id ≤ l .maximum → own ≡ isOwn (l .part) Publisher → came ≡ cameOf (replied (viewOf l) own (broken R7)) → came ≡ cameOf (maximumStep (viewOf l) id)
+    pub not-larger : {came : Came} → id ≤ l .maximum → came ≡ cameOf (replied (viewOf l) (isOwn (l .part) Publisher) (broken R7)) → came ≡ cameOf (maximumStep (viewOf l) id)
     unfolding maximumStep
-    not-larger h own e = e ∙ rw (own, le-leb _ _ h)
+    not-larger h e = e ∙ rw (le-leb _ _ h)
 
     pub raised : l .maximum < id → done (raisedTo l id) ≡ cameOf (maximumStep (viewOf l) id)
     unfolding maximumStep held
@@ -131,10 +135,9 @@ module _ (l : Ledger) (w : isLedger l ≡ true) where
 
     module _ {i : ℕ} (here : f ≡ At i) where
       -- R6
-      refused : {own : Bool} {came : Came} → at (rowAt l i) ≡ breaksR6 (rowAt l i) → own ≡ isOwn (l .part) by → came ≡ cameOf (replied (viewOf l) own (broken R6)) → came ≡ cameOf (byId (viewOf l) by id at)
-      refused e own h =
+      refused : {came : Came} → at (rowAt l i) ≡ breaksR6 (rowAt l i) → came ≡ cameOf (replied (viewOf l) (isOwn (l .part) by) (broken R6)) → came ≡ cameOf (byId (viewOf l) by id at)
+      refused e h =
           h
-          ∙ ap (λ (b : Bool). cameOf (replied (viewOf l) b (broken R6))) own
           ∙ same-kept-at l shape idOf id _ (noRow (standingOf l) id) at (found-first idOf id l found here) e
 
       changes : {r : Row} {next : Ledger} → at (rowAt l i) ≡ record { reply = answer 8; row = now r } → next ≡ changed l i r → done next ≡ cameOf (byId (viewOf l) by id at)
@@ -152,7 +155,7 @@ module _ (l : Ledger) (w : isLedger l ≡ true) where
         ap (λ (at : AtRow). record { reply = pick (eqb (at .number) 8) (answer 8) (broken R6); row = now (at .row) })
         (sym opening ∙ ap (λ (v : Opening). toldOpening v (rowAt l i)) e)
 
-    pub ok-refused : {own : Bool} {came : Came} → o ≡ Refused → own ≡ isOwn (l .part) Publisher → came ≡ cameOf (replied (viewOf l) own (broken R6)) → came ≡ cameOf (byId (viewOf l) Publisher id (okAt content))
+    pub ok-refused : {came : Came} → o ≡ Refused → came ≡ cameOf (replied (viewOf l) (isOwn (l .part) Publisher) (broken R6)) → came ≡ cameOf (byId (viewOf l) Publisher id (okAt content))
     ok-refused e = refused Publisher id (okAt content) found here (opens-as e)
 
     pub ok-opened : {r : Row} {next : Ledger} → o ≡ Opened r → next ≡ changed l i r → done next ≡ cameOf (byId (viewOf l) Publisher id (okAt content))
@@ -169,28 +172,28 @@ module _ (l : Ledger) (w : isLedger l ≡ true) where
     pub end-freed : {next : Ledger} → b ≡ true → next ≡ freed l i → done next ≡ cameOf (byId (viewOf l) by id (endAt ending))
     end-freed e = frees by id (endAt ending) found here (ends-as e)
 
-    pub end-refused : {own : Bool} {came : Came} → b ≡ false → own ≡ isOwn (l .part) by → came ≡ cameOf (replied (viewOf l) own (broken R6)) → came ≡ cameOf (byId (viewOf l) by id (endAt ending))
+    pub end-refused : {came : Came} → b ≡ false → came ≡ cameOf (replied (viewOf l) (isOwn (l .part) by) (broken R6)) → came ≡ cameOf (byId (viewOf l) by id (endAt ending))
     end-refused e = refused by id (endAt ending) found here (ends-as e)
 
   -- ---- SUBSCRIBE
 
-  module _ (m : Subscribe) {own : Bool} (o : own ≡ isOwn (l .part) Subscriber) where
-    pub not-higher : {came : Came} → m .id < l .next → came ≡ cameOf (replied (viewOf l) own (broken R2)) → came ≡ cameOf (subscribeStep (viewOf l) m)
+  module _ (m : Subscribe) where
+    pub not-higher : {came : Came} → m .id < l .next → came ≡ cameOf (replied (viewOf l) (isOwn (l .part) Subscriber) (broken R2)) → came ≡ cameOf (subscribeStep (viewOf l) m)
     unfolding subscribeStep
-    not-higher h e = e ∙ rw (o, lt-ltb _ _ h)
+    not-higher h e = e ∙ rw (lt-ltb _ _ h)
 
     module _ (above : l .next ≤ m .id) where
-      pub not-lower : {came : Came} → l .maximum ≤ m .id → came ≡ cameOf (replied (viewOf l) own (broken R3)) → came ≡ cameOf (subscribeStep (viewOf l) m)
+      pub not-lower : {came : Came} → l .maximum ≤ m .id → came ≡ cameOf (replied (viewOf l) (isOwn (l .part) Subscriber) (broken R3)) → came ≡ cameOf (subscribeStep (viewOf l) m)
       unfolding subscribeStep
-      not-lower h e = e ∙ rw (o, le-ltb _ _ above, le-leb _ _ h)
+      not-lower h e = e ∙ rw (le-ltb _ _ above, le-leb _ _ h)
 
       module _ (below : m .id < l .maximum) {f : Found} (found : f ≡ find aliasOf (m .alias) 0 (held l)) where
         has : hasAlias (m .alias) (held l) ≡ isFound f
         has = has-found (m .alias) 0 (held l) ∙ ap isFound (sym found)
 
-        pub alias-held : {i : ℕ} {came : Came} → f ≡ At i → came ≡ cameOf (replied (viewOf l) own (broken R4)) → came ≡ cameOf (subscribeStep (viewOf l) m)
+        pub alias-held : {i : ℕ} {came : Came} → f ≡ At i → came ≡ cameOf (replied (viewOf l) (isOwn (l .part) Subscriber) (broken R4)) → came ≡ cameOf (subscribeStep (viewOf l) m)
         unfolding subscribeStep
-        alias-held at e = e ∙ rw (o, le-ltb _ _ above, lt-leb _ _ below, has, at)
+        alias-held at e = e ∙ rw (le-ltb _ _ above, lt-leb _ _ below, has, at)
 
         module _ (missing : f ≡ Missing) where
           full : l .capacity ≤ l .used → subscribeStep (viewOf l) m ≡ unchanged (viewOf l) 11
@@ -212,14 +215,27 @@ module _ (l : Ledger) (w : isLedger l ≡ true) where
               ∙ added-kept l shape (newRow m) (omega (arith, room))
               ∙ ap cameOf (sym (taken h))
 
--- ---- any message
+-- ---- any message, by its kind
 
-module _ (l : Ledger) (m : Message) {came : Came} where
-  -- by its kind
-  pub of-kind : {x v : SubscriptionMessage} → came ≡ takeOf l (Subscription v) → m ≡ Subscription x → x ≡ v → came ≡ takeOf l m
-  of-kind h e k = h ∙ rw (e, k)
+pub of-part : (l : Ledger) {m v : Message} {came : Came} → came ≡ cameOf (messageStep (viewOf l) v) → m ≡ v → came ≡ cameOf (messageStep (viewOf l) m)
+of-part l h e = h ∙ ap (λ x. cameOf (messageStep (viewOf l) x)) (sym e)
 
-  -- or it isn't kept
-  pub not-kept : {v : Message} → came ≡ gated l (soundOf v) (cameOf (unchanged (viewOf l) 9)) → messageStep (viewOf l) v ≡ unchanged (viewOf l) 9 → m ≡ v → came ≡ takeOf l m
-  unfolding takeOf
-  not-kept {v} h k e = h ∙ ap (λ s. gated l (soundOf v) (cameOf s)) (sym k) ∙ rw e
+pub of-kind : (l : Ledger) {m v : SubscriptionMessage} {came : Came} → came ≡ cameOf (subscriptionStep (viewOf l) v) → m ≡ v → came ≡ cameOf (subscriptionStep (viewOf l) m)
+of-kind l h e = h ∙ ap (λ x. cameOf (subscriptionStep (viewOf l) x)) (sym e)
+
+-- all others aren't kept; a kind is told by its place among all kinds
+pub other-part : (v : View) (m : Message) → OneOf (1 ∷ 2 ∷ 3 ∷ []) (tagOf message-type m) → unchanged v 9 ≡ messageStep v m
+other-part v (Subscription x) h = absurd (miss (1 ∷ 2 ∷ 3 ∷ []) 0 Prim.tt h)
+other-part v (Fetch x) h = refl
+other-part v (Announce x) h = refl
+other-part v (Session x) h = refl
+
+pub other-kind : (v : View) (m : SubscriptionMessage) → OneOf (0 ∷ 7 ∷ []) (tagOf subscription-type m) → unchanged v 9 ≡ subscriptionStep v m
+other-kind v (ASubscribeUpdate x) h = refl
+other-kind v (ASubscribe x) h = absurd (miss (0 ∷ 7 ∷ []) 1 Prim.tt h)
+other-kind v (ASubscribeOk x) h = absurd (miss (0 ∷ 7 ∷ []) 2 Prim.tt h)
+other-kind v (ASubscribeError x) h = absurd (miss (0 ∷ 7 ∷ []) 3 Prim.tt h)
+other-kind v (AUnsubscribe x) h = absurd (miss (0 ∷ 7 ∷ []) 4 Prim.tt h)
+other-kind v (ASubscribeDone x) h = absurd (miss (0 ∷ 7 ∷ []) 5 Prim.tt h)
+other-kind v (AMaxSubscribeId x) h = absurd (miss (0 ∷ 7 ∷ []) 6 Prim.tt h)
+other-kind v (ASubscribesBlocked x) h = refl

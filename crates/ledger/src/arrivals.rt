@@ -11,6 +11,7 @@ use crate::Key;
 use crate::Ledger;
 use crate::Taken;
 use crate::finding::find_row;
+use crate::finding::row_at;
 use crate::subscribing::with_row;
 use field::Arrival;
 use row::Arriving;
@@ -37,17 +38,17 @@ pub fn count(l: Ledger, a: Arrival) -> Taken
             ledger: l,
         };
     };
-    let row = l.rows[i];
+    let row = row_at(l, i);
     match row::arrive(row, place) {
-        Arriving::Waiting => Taken {
+        Arriving::Waiting => return Taken {
             answer: Answer::StillPending,
             ledger: l,
         },
-        Arriving::Outside => Taken {
+        Arriving::Outside => return Taken {
             answer: Answer::Outside,
             ledger: l,
         },
-        Arriving::Counted(counted) => Taken {
+        Arriving::Counted(counted) => return Taken {
             answer: Answer::Counted,
             ledger: with_row(l, i, counted),
         },

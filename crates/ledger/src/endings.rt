@@ -16,8 +16,8 @@ use crate::Part;
 use crate::Rule;
 use crate::Taken;
 use crate::finding::find_row;
-use crate::rules::break_rule;
-use crate::rules::is_own;
+use crate::finding::row_at;
+use crate::rules::breaks;
 use crate::subscribing::no_row;
 use row::Ending;
 
@@ -32,7 +32,7 @@ pub fn end(l: Ledger, by: Part, ending: Ending, id: u64) -> Taken
     let Found::At(i) = find_row(l, Key::Id, id) else {
         return no_row(l, by, id);
     };
-    let row = l.rows[i];
+    let row = row_at(l, i);
     let state = row.state;
     if row::may_end(ending, state) {
         return Taken {
@@ -40,8 +40,7 @@ pub fn end(l: Ledger, by: Part, ending: Ending, id: u64) -> Taken
             ledger: without(l, i),
         };
     }
-    let part = l.part;
-    break_rule(l, is_own(part, by), Rule::R6)
+    breaks(l, by, Rule::R6)
 }
 
 // The row is removed, and the rows after it move up one place.

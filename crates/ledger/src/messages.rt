@@ -5,10 +5,9 @@ ghost use mathlib.Core.Bool.{true};
 ghost use Rattle.message.specs.declared.Message.the-variants.{Subscription};
 ghost use Rattle.subscription.specs.declared.SubscriptionMessage.the-variants.{Subscribe as ASubscribe, SubscribeOk as ASubscribeOk, SubscribeError as ASubscribeError, Unsubscribe as AUnsubscribe, SubscribeDone as ASubscribeDone, MaxSubscribeId as AMaxSubscribeId};
 ghost use Rattle.ledger.specs.Ledgers.{isLedger};
-ghost use Rattle.message_writer.specs.Sound.{soundOf};
-ghost use Rattle.ledger.specs.Answers.{told, gated};
+ghost use Rattle.ledger.specs.Answers.{told};
 ghost use Rattle.ledger.specs.Views.{viewOf, cameOf};
-ghost use Rattle.ledger.specs.Steps.{unchanged, maximumStep, takeOf, malformedOf, arrivalOf};
+ghost use Rattle.ledger.specs.Steps.{unchanged, maximumStep, subscriptionStep, takeOf, malformedOf, arrivalOf};
 use crate::Answer;
 use crate::Gate;
 use crate::Ledger;
@@ -20,7 +19,7 @@ use crate::arrivals::is_small;
 use crate::endings::end;
 use crate::gating::gate;
 use crate::rules::break_rule;
-use crate::rules::is_own;
+use crate::rules::breaks;
 use crate::subscribing::accept;
 use crate::subscribing::add;
 use field::Arrival;
@@ -43,79 +42,37 @@ impl Ledger {
     pub fn subscribe(self, x: Subscribe) -> Taken
         ensures { λ r. ⌜ told r ≡ takeOf self (Subscription (ASubscribe x)) ⌝ }
     {
-        let m = Message::Subscription(SubscriptionMessage::Subscribe(x));
-        if let Gate::Stop(answer) = gate(self, message_writer::is_sound(m)) {
-            return Taken {
-                answer,
-                ledger: self,
-            };
-        }
-        add(self, x)
+        self.take(Message::Subscription(SubscriptionMessage::Subscribe(x)))
     }
 
     pub fn subscribe_ok(self, x: SubscribeOk) -> Taken
         ensures { λ r. ⌜ told r ≡ takeOf self (Subscription (ASubscribeOk x)) ⌝ }
     {
-        let m = Message::Subscription(SubscriptionMessage::SubscribeOk(x));
-        if let Gate::Stop(answer) = gate(self, message_writer::is_sound(m)) {
-            return Taken {
-                answer,
-                ledger: self,
-            };
-        }
-        accept(self, x)
+        self.take(Message::Subscription(SubscriptionMessage::SubscribeOk(x)))
     }
 
     pub fn subscribe_error(self, x: SubscribeError) -> Taken
         ensures { λ r. ⌜ told r ≡ takeOf self (Subscription (ASubscribeError x)) ⌝ }
     {
-        let m = Message::Subscription(SubscriptionMessage::SubscribeError(x));
-        if let Gate::Stop(answer) = gate(self, message_writer::is_sound(m)) {
-            return Taken {
-                answer,
-                ledger: self,
-            };
-        }
-        end(self, Part::Publisher, Ending::SubscribeError, x.id)
+        self.take(Message::Subscription(SubscriptionMessage::SubscribeError(x)))
     }
 
     pub fn subscribe_done(self, x: SubscribeDone) -> Taken
         ensures { λ r. ⌜ told r ≡ takeOf self (Subscription (ASubscribeDone x)) ⌝ }
     {
-        let m = Message::Subscription(SubscriptionMessage::SubscribeDone(x));
-        if let Gate::Stop(answer) = gate(self, message_writer::is_sound(m)) {
-            return Taken {
-                answer,
-                ledger: self,
-            };
-        }
-        end(self, Part::Publisher, Ending::SubscribeDone, x.id)
+        self.take(Message::Subscription(SubscriptionMessage::SubscribeDone(x)))
     }
 
     pub fn unsubscribe(self, id: u64) -> Taken
         ensures { λ r. ⌜ told r ≡ takeOf self (Subscription (AUnsubscribe id)) ⌝ }
     {
-        let m = Message::Subscription(SubscriptionMessage::Unsubscribe(id));
-        if let Gate::Stop(answer) = gate(self, message_writer::is_sound(m)) {
-            return Taken {
-                answer,
-                ledger: self,
-            };
-        }
-        end(self, Part::Subscriber, Ending::Unsubscribe, id)
+        self.take(Message::Subscription(SubscriptionMessage::Unsubscribe(id)))
     }
 
     pub fn max_subscribe_id(self, id: u64) -> Taken
         ensures { λ r. ⌜ told r ≡ takeOf self (Subscription (AMaxSubscribeId id)) ⌝ }
     {
-        let m = Message::Subscription(SubscriptionMessage::MaxSubscribeId(id));
-        if let Gate::Stop(answer) = gate(self, message_writer::is_sound(m)) {
-            return Taken {
-                answer,
-                ledger: self,
-            };
-        }
-        raise(self, id)
+        self.take(Message::Subscription(SubscriptionMessage::MaxSubscribeId(id)))
     }
 
     // Bytes of the peer's that are no message.
@@ -143,35 +100,59 @@ impl Ledger {
         count(self, a)
     }
 
-    // Any whole message, by its kind.
+    // Any whole message.
     pub fn take(self, m: Message) -> Taken
         ensures { λ r. ⌜ told r ≡ takeOf self m ⌝ }
     {
+        if let Gate::Stop(answer) = gate(self, message_writer::is_sound(m)) {
+            return Taken {
+                answer,
+                ledger: self,
+            };
+        }
         match m {
-            Message::Subscription(x) => match x {
-                SubscriptionMessage::Subscribe(s) => self.subscribe(s),
-                SubscriptionMessage::SubscribeOk(s) => self.subscribe_ok(s),
-                SubscriptionMessage::SubscribeError(s) => self.subscribe_error(s),
-                SubscriptionMessage::SubscribeDone(s) => self.subscribe_done(s),
-                SubscriptionMessage::Unsubscribe(id) => self.unsubscribe(id),
-                SubscriptionMessage::MaxSubscribeId(id) => self.max_subscribe_id(id),
-                SubscriptionMessage::SubscribeUpdate(_) => other(self, m),
-                SubscriptionMessage::SubscribesBlocked(_) => other(self, m),
-            },
-            Message::Fetch(_) => other(self, m),
-            Message::Announce(_) => other(self, m),
-            Message::Session(_) => other(self, m),
+            Message::Subscription(x) => return keep(self, x),
+            _ => return other(self),
         }
     }
 }
 
-// A message that the ledger doesn't keep.
-fn other(l: Ledger, m: Message) -> Taken
-    ensures { λ r. ⌜ told r ≡ gated l (soundOf m) (cameOf (unchanged (viewOf l) 9)) ⌝ }
+// A message about a subscription, by its kind.
+fn keep(l: Ledger, m: SubscriptionMessage) -> Taken
+    requires { ⌜ isLedger l ≡ true ⌝ }
+    ensures { λ r. ⌜ told r ≡ cameOf (subscriptionStep (viewOf l) m) ⌝ }
 {
-    if let Gate::Stop(answer) = gate(l, message_writer::is_sound(m)) {
-        return Taken { answer, ledger: l };
+    match m {
+        SubscriptionMessage::Subscribe(x) => return add(l, x),
+        SubscriptionMessage::SubscribeOk(x) => return accept(l, x),
+        SubscriptionMessage::SubscribeError(x) => return end(
+            l,
+            Part::Publisher,
+            Ending::SubscribeError,
+            x.id,
+        ),
+        SubscriptionMessage::SubscribeDone(x) => return end(
+            l,
+            Part::Publisher,
+            Ending::SubscribeDone,
+            x.id,
+        ),
+        SubscriptionMessage::Unsubscribe(id) => return end(
+            l,
+            Part::Subscriber,
+            Ending::Unsubscribe,
+            id,
+        ),
+        SubscriptionMessage::MaxSubscribeId(id) => return raise(l, id),
+        _ => return other(l),
     }
+}
+
+// A message that the ledger doesn't keep.
+fn other(l: Ledger) -> Taken
+    requires { ⌜ isLedger l ≡ true ⌝ }
+    ensures { λ r. ⌜ told r ≡ cameOf (unchanged (viewOf l) 9) ⌝ }
+{
     Taken {
         answer: Answer::NotKept,
         ledger: l,
@@ -184,8 +165,7 @@ fn raise(l: Ledger, id: u64) -> Taken
     ensures { λ r. ⌜ told r ≡ cameOf (maximumStep (viewOf l) id) ⌝ }
 {
     if id <= l.maximum {
-        let part = l.part;
-        return break_rule(l, is_own(part, Part::Publisher), Rule::R7);
+        return breaks(l, Part::Publisher, Rule::R7);
     }
     let mut next = l;
     next.maximum = id;

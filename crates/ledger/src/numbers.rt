@@ -28,21 +28,10 @@ pub fn number(answer: Answer) -> u8
 pub fn broken(answer: Answer) -> u8
     ensures { λ r. ⌜ r ≡ toldAnswer answer .rule ⌝ }
 {
-    match answer {
-        Answer::Breaks(rule) => rule_number(rule),
-        Answer::Forbidden => 0,
-        Answer::Done => 0,
-        Answer::NotKept => 0,
-        Answer::AlreadyClosed => 0,
-        Answer::Full => 0,
-        Answer::Stale => 0,
-        Answer::NotALedger => 0,
-        Answer::StartRefused => 0,
-        Answer::Counted => 0,
-        Answer::Outside => 0,
-        Answer::NoRow => 0,
-        Answer::StillPending => 0,
+    if let Answer::Breaks(rule) = answer {
+        return rule_number(rule);
     }
+    0
 }
 
 pub fn rule_number(rule: Rule) -> u8

@@ -13,7 +13,7 @@ use crate::Session;
 use crate::Taken;
 
 // Whether what the sender sends is this end's own.
-pub fn is_own(part: Part, sender: Part) -> bool
+fn is_own(part: Part, sender: Part) -> bool
     ensures { λ r. ⌜ r ≡ isOwn part sender ⌝ }
 {
     match part {
@@ -53,6 +53,15 @@ pub fn break_rule(l: Ledger, own: bool, rule: Rule) -> Taken
             used: l.used,
         },
     }
+}
+
+// A message of the sender's that breaks a rule.
+pub fn breaks(l: Ledger, sender: Part, rule: Rule) -> Taken
+    requires { ⌜ isLedger l ≡ true ⌝ }
+    ensures { λ r. ⌜ told r ≡ cameOf (replied (viewOf l) (isOwn (l .part) sender) (broken rule)) ⌝ }
+{
+    let part = l.part;
+    break_rule(l, is_own(part, sender), rule)
 }
 
 // The code that a session is closed with: table 1 of source document 004.

@@ -16,8 +16,8 @@ use crate::Part;
 use crate::Rule;
 use crate::Taken;
 use crate::finding::find_row;
-use crate::rules::break_rule;
-use crate::rules::is_own;
+use crate::finding::row_at;
+use crate::rules::breaks;
 use row::Opening;
 use row::Row;
 use subscription::Subscribe;
@@ -27,16 +27,14 @@ pub fn add(l: Ledger, m: Subscribe) -> Taken
     requires { ⌜ isLedger l ≡ true ⌝ }
     ensures { λ r. ⌜ told r ≡ cameOf (subscribeStep (viewOf l) m) ⌝ }
 {
-    let part = l.part;
-    let own = is_own(part, Part::Subscriber);
     if m.id < l.next {
-        return break_rule(l, own, Rule::R2);
+        return breaks(l, Part::Subscriber, Rule::R2);
     }
     if m.id >= l.maximum {
-        return break_rule(l, own, Rule::R3);
+        return breaks(l, Part::Subscriber, Rule::R3);
     }
     if let Found::At(_) = find_row(l, Key::Alias, m.alias) {
-        return break_rule(l, own, Rule::R4);
+        return breaks(l, Part::Subscriber, Rule::R4);
     }
     if l.used >= l.capacity {
         return Taken {
@@ -85,8 +83,7 @@ pub fn no_row(l: Ledger, sender: Part, id: u64) -> Taken
             ledger: l,
         };
     }
-    let part = l.part;
-    break_rule(l, is_own(part, sender), Rule::R5)
+    breaks(l, sender, Rule::R5)
 }
 
 pub fn accept(l: Ledger, m: SubscribeOk) -> Taken
@@ -97,10 +94,9 @@ pub fn accept(l: Ledger, m: SubscribeOk) -> Taken
         return no_row(l, Part::Publisher, m.id);
     };
     let content = m.content;
-    let row = l.rows[i];
+    let row = row_at(l, i);
     let Opening::Opened(opened) = row::open(row, content) else {
-        let part = l.part;
-        return break_rule(l, is_own(part, Part::Publisher), Rule::R6);
+        return breaks(l, Part::Publisher, Rule::R6);
     };
     Taken {
         answer: Answer::Done,

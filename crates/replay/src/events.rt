@@ -14,10 +14,10 @@ pub fn event_of(tag: u8, value: &[u8]) -> Event
     ensures { λ r. ⌜ r ≡ eventOf tag (now (value .entry)) ⌝ }
 {
     match tag {
-        1 => started(value),
-        2 => control(value),
-        3 => arrived(value),
-        _ => Event::Fault,
+        1 => return started(value),
+        2 => return control(value),
+        3 => return arrived(value),
+        _ => return Event::Fault,
     }
 }
 
@@ -33,9 +33,9 @@ fn started(value: &[u8]) -> Event
     }
     let part = value[0];
     match part {
-        0 => Event::Start(Part::Subscriber, maximum),
-        1 => Event::Start(Part::Publisher, maximum),
-        _ => Event::Fault,
+        0 => return Event::Start(Part::Subscriber, maximum),
+        1 => return Event::Start(Part::Publisher, maximum),
+        _ => return Event::Fault,
     }
 }
 
@@ -58,13 +58,13 @@ fn malformed(reading: Reading) -> Event
     ensures { λ r. ⌜ r ≡ malformedBy (number (told reading)) ⌝ }
 {
     match reading {
-        Reading::Whole(_, _) => Event::Fault,
-        Reading::More => Event::Fault,
-        Reading::Unknown => Event::Malformed(2),
-        Reading::TooLong => Event::Malformed(3),
-        Reading::Unfilled => Event::Malformed(4),
-        Reading::Forbidden => Event::Malformed(5),
-        Reading::Oversize => Event::Malformed(6),
+        Reading::Whole(_, _) => return Event::Fault,
+        Reading::More => return Event::Fault,
+        Reading::Unknown => return Event::Malformed(2),
+        Reading::TooLong => return Event::Malformed(3),
+        Reading::Unfilled => return Event::Malformed(4),
+        Reading::Forbidden => return Event::Malformed(5),
+        Reading::Oversize => return Event::Malformed(6),
     }
 }
 

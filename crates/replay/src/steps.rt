@@ -71,15 +71,15 @@ fn due(stage: Stage, e: Event) -> Event
             if start {
                 return e;
             }
-            Event::Fault
+            return Event::Fault;
         }
         Stage::Running => {
             if start {
                 return Event::Fault;
             }
-            e
+            return e;
         }
-        Stage::Faulty(_) => Event::Fault,
+        Stage::Faulty(_) => return Event::Fault,
     }
 }
 
@@ -88,10 +88,7 @@ fn is_start(e: Event) -> bool
 {
     match e {
         Event::Start(_, _) => true,
-        Event::Control(_) => false,
-        Event::Malformed(_) => false,
-        Event::Arrived(_) => false,
-        Event::Fault => false,
+        _ => false,
     }
 }
 
@@ -102,11 +99,11 @@ fn hear(p: Progress, e: Event) -> Heard
     let l = p.ledger;
     let stage = p.stage;
     match e {
-        Event::Start(part, maximum) => heard(ledger::start(part, MOST_ROWS, maximum)),
-        Event::Control(m) => heard(l.take(m)),
-        Event::Malformed(_) => heard(l.malformed()),
-        Event::Arrived(a) => heard(l.arrival(a)),
-        Event::Fault => Heard {
+        Event::Start(part, maximum) => return heard(ledger::start(part, MOST_ROWS, maximum)),
+        Event::Control(m) => return heard(l.take(m)),
+        Event::Malformed(_) => return heard(l.malformed()),
+        Event::Arrived(a) => return heard(l.arrival(a)),
+        Event::Fault => return Heard {
             number: 0,
             rule: 0,
             ledger: l,

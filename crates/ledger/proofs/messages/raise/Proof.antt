@@ -9,6 +9,5 @@ raise-spec =
     tie.close
     (tie.spec
     (λ c κs. search needs)
-    (λ c κs. search needs)
-    (λ c. not-larger _ (c .before .before .before .before .pre) _ (c .before .before .if1 .taken) (c .before .is-own .ensures) (c .break-rule .ensures))
+    (λ c. not-larger _ (c .before .before .before .pre) _ (c .before .if1 .taken) (c .breaks .ensures))
     (λ c. raised _ (c .before .before .pre) _ (c .if1 .left)))

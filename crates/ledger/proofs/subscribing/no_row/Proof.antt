@@ -14,5 +14,4 @@ no-row-spec =
     (tie.spec
     (λ c. stays _ (c .before .before .pre) _ ∙ rw (lt-leb _ _ (c .if1 .taken)))
     (λ c κs. search needs)
-    (λ c κs. search needs)
-    (λ c. c .break-rule .ensures ∙ rw (c .before .is-own .ensures, le-leb _ _ (c .before .before .if1 .left))))
+    (λ c. c .breaks .ensures ∙ rw (le-leb _ _ (c .before .if1 .left))))

@@ -11,8 +11,10 @@ unfolding eventOf
 event-of-spec =
     tie.close
     (tie.spec
-    (λ c κs. search needs) (λ c κs. search needs) (λ c κs. search needs)
+    (λ c κs. search needs)
     (λ c. c .started .ensures ∙ rw (c .before .match .keys1))
+    (λ c κs. search needs)
     (λ c. c .control .ensures ∙ rw (c .before .match .keys2))
+    (λ c κs. search needs)
     (λ c. c .arrived .ensures ∙ rw (c .before .match .keys3))
     (λ c. rw (ne-eqb _ _ (c .match .rest .0 .0 .1), ne-eqb _ _ (c .match .rest .0 .1), ne-eqb _ _ (c .match .rest .1))))
