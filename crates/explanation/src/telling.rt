@@ -1,9 +1,8 @@
 // Which line comes next.
 ghost use mathlib.Core.Path.{_≡_};
-ghost use Prim.Native.Nat.{min};
 ghost use lib.ListN.{getD};
 ghost use Rattle.columns.specs.Pouring.{filling, pour};
-ghost use Rattle.explanation.specs.Telling.{duly, onTo, valueLines, dueAfter, fieldTold, stepLines, afterStep, partTold, reasonWord, endingLine, nextTold, Tells, fieldBegun, messageBegun, isNothing};
+ghost use Rattle.explanation.specs.Telling.{duly, onTo, valueLines, dueAfter, fieldTold, afterStep, partTold, reasonWord, endingLine, nextTold, Tells, fieldBegun, messageBegun, isNothing};
 ghost use Rattle.explanation.specs.declared.Due.the-variants.{Nothing};
 use crate::Due;
 use crate::Ending;
@@ -11,15 +10,13 @@ use crate::Explaining;
 use crate::NextLines;
 use crate::Reason;
 use explanation_lines::Word;
+use explanation_lines::at_most;
 use explanation_lines::put_answer;
 use explanation_lines::put_arrival;
-use explanation_lines::put_faulty_line;
 use explanation_lines::put_field_line;
-use explanation_lines::put_left_line;
-use explanation_lines::put_mark;
-use explanation_lines::put_part_line;
 use explanation_lines::put_reason;
 use explanation_lines::put_start;
+use explanation_lines::put_step;
 use parts::NextPart;
 use parts::Step;
 use parts::Subject;
@@ -51,15 +48,6 @@ pub fn begin_message(s: &[u8], offset: u64) -> Explaining
         offset,
         start: 0,
     }
-}
-
-fn at_most(n: usize, most: usize) -> usize
-    ensures { λ r. ⌜ r ≡ min n most ⌝ }
-{
-    if n <= most {
-        return n;
-    }
-    most
 }
 
 // Whether nothing is left to be explained.
@@ -183,22 +171,6 @@ fn tell_part(out: &mut [u8], at: usize, field: &[u8], e: Explaining) -> NextLine
     NextLines {
         at: put_step(out, at, offset, value, step),
         next: after_step(e, told),
-    }
-}
-
-// The lines of what was told. A message begins with its type, and a refused part is marked.
-fn put_step(out: &mut [u8], at: usize, offset: u64, s: &[u8], step: Step) -> usize
-    ensures { λ r. ⌜ filling (now (out .exit)) r ≡ pour (filling (now (out .entry)) at)
-        (stepLines step offset (now (s .entry))) ⌝ }
-{
-    match step {
-        Step::Part(part) => put_part_line(out, at, offset, s, part.start == 0, part),
-        Step::Refused(number) => put_mark(out, at, number),
-        Step::Faulty(part, number) => {
-            let line = put_faulty_line(out, at, offset, s, part);
-            put_mark(out, line, number)
-        }
-        Step::Whole(used) => put_left_line(out, at, offset, s, used),
     }
 }
 
