@@ -14,7 +14,7 @@ use Rattle.parts.specs.declared.Step.{Step}
 use Rattle.parts.specs.declared.Step.the-variants.{Part as APart, Refused as IsRefused, Faulty, Whole}
 use Rattle.trace.specs.Fields.{offsetOf}
 use Rattle.columns.specs.Pouring.{filling, pour}
-use Rattle.explanation_lines.specs.Lines.{fieldLine, partLine, faultyLine, leftLine, markLine, answerLine, faultLine, arrivalLines, startLines}
+use Rattle.explanation_lines.specs.Lines.{fieldLine, stepLines, answerLine, faultLine, arrivalLines, startLines}
 use Rattle.explanation_lines.specs.declared.Word.{Word}
 use Rattle.explanation_lines.specs.declared.Word.the-variants.{NoTag as SaysNoTag, NotFirst as SaysNotFirst, SecondStart as SaysSecondStart, NoStart as SaysNoStart, NoMessage as SaysNoMessage, NoArrival as SaysNoArrival}
 use Rattle.explanation.specs.declared.Reason.{Reason}
@@ -66,14 +66,7 @@ fieldTold field e =
 
 -- ---- a part
 
--- a message begins with its type; a refused part is marked,
-abbrev pub stepLines : Step → ℕ → List ℕ → List ℕ
-stepLines (APart p) offset s = partLine offset s (eqb (p .start) 0) p
-stepLines (IsRefused number) offset s = markLine number
-stepLines (Faulty p number) offset s = faultyLine offset s p ++ markLine number
-stepLines (Whole used) offset s = leftLine offset s used
-
--- and nothing is shown after it
+-- nothing is shown after a refused part
 abbrev pub afterStep : Step → Cursor → Explaining → Explaining
 afterStep (APart p) c e = onTo e c
 afterStep (IsRefused number) c e = duly e (TheEnding number)

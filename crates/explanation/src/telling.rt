@@ -1,9 +1,8 @@
 // Which line comes next.
 ghost use mathlib.Core.Path.{_≡_};
-ghost use Prim.Native.Nat.{min};
 ghost use lib.ListN.{getD};
 ghost use Rattle.columns.specs.Pouring.{filling, pour};
-ghost use Rattle.explanation.specs.Telling.{duly, onTo, valueLines, dueAfter, fieldTold, stepLines, afterStep, partTold, reasonWord, endingLine, nextTold, Tells, fieldBegun, messageBegun, isNothing};
+ghost use Rattle.explanation.specs.Telling.{duly, onTo, valueLines, dueAfter, fieldTold, afterStep, partTold, reasonWord, endingLine, nextTold, Tells, fieldBegun, messageBegun, isNothing};
 ghost use Rattle.explanation.specs.declared.Due.the-variants.{Nothing};
 use crate::Due;
 use crate::Ending;
@@ -11,16 +10,14 @@ use crate::Explaining;
 use crate::NextLines;
 use crate::Reason;
 use explanation_lines::Word;
+use explanation_lines::at_most;
 use explanation_lines::put_answer;
 use explanation_lines::put_arrival;
-use explanation_lines::put_faulty_line;
 use explanation_lines::put_field_line;
-use explanation_lines::put_left_line;
-use explanation_lines::put_mark;
-use explanation_lines::put_part_line;
 use explanation_lines::put_reason;
 use explanation_lines::put_start;
-use parts::Cursor;
+use explanation_lines::put_step;
+use parts::NextPart;
 use parts::Step;
 use parts::Subject;
 
@@ -51,15 +48,6 @@ pub fn begin_message(s: &[u8], offset: u64) -> Explaining
         offset,
         start: 0,
     }
-}
-
-fn at_most(n: usize, most: usize) -> usize
-    ensures { λ r. ⌜ r ≡ min n most ⌝ }
-{
-    if n <= most {
-        return n;
-    }
-    most
 }
 
 // Whether nothing is left to be explained.
@@ -97,19 +85,14 @@ pub fn over(e: Explaining) -> Explaining
     duly(e, Due::Nothing)
 }
 
-// And with another part next.
-fn on_to(e: Explaining, cursor: Cursor) -> Explaining
-    ensures { λ r. ⌜ r ≡ onTo e cursor ⌝ }
+// The same, with another part next.
+fn on_to(e: Explaining, told: NextPart) -> Explaining
+    ensures { λ r. ⌜ r ≡ onTo e (told .cursor) ⌝ }
 {
-    let due = e.due;
-    let ending = e.ending;
-    Explaining {
-        due,
-        cursor,
-        ending,
-        offset: e.offset,
-        start: e.start,
-    }
+    let cursor = told.cursor;
+    let mut next = e;
+    next.cursor = cursor;
+    next
 }
 
 // The next lines of a field, or of a message of a control stream.
@@ -143,6 +126,7 @@ fn tell_field(out: &mut [u8], at: usize, field: &[u8], e: Explaining) -> NextLin
     }
 }
 
+// The value of a start, or of an arrival; a message's is told part by part.
 fn put_value(out: &mut [u8], at: usize, tag: u8, offset: u64, s: &[u8]) -> usize
     ensures { λ r. ⌜ filling (now (out .exit)) r ≡ pour (filling (now (out .entry)) at)
         (valueLines tag offset (now (s .entry))) ⌝ }
@@ -154,6 +138,7 @@ fn put_value(out: &mut [u8], at: usize, tag: u8, offset: u64, s: &[u8]) -> usize
     }
 }
 
+// What is due behind the line of a field.
 fn due_after(tag: u8) -> Due
     ensures { λ r. ⌜ r ≡ dueAfter tag ⌝ }
 {
@@ -163,6 +148,7 @@ fn due_after(tag: u8) -> Due
     Due::Ending(0)
 }
 
+// The tag of a field, or 0 where there is none.
 pub fn tag_of(field: &[u8]) -> u8
     ensures { λ r. ⌜ r ≡ getD (now (field .entry)) 0 0 ⌝ }
 {
@@ -172,44 +158,29 @@ pub fn tag_of(field: &[u8]) -> u8
     field[0]
 }
 
-// A part.
+// The part at the cursor.
 fn tell_part(out: &mut [u8], at: usize, field: &[u8], e: Explaining) -> NextLines
     ensures { λ r. ⌜ Tells (partTold (now (field .entry)) e) (now (out .entry)) at r (now (out .exit)) ⌝ }
 {
     let start = at_most(e.start, field.len());
     let offset = std::num::wrapping_add_u64(e.offset, e.start as u64);
+    let value = &field[start..];
     let cursor = e.cursor;
-    let told = parts::next(&field[start..], cursor);
+    let told = parts::next(value, cursor);
     let step = told.step;
-    let next = told.cursor;
     NextLines {
-        at: put_step(out, at, offset, &field[start..], step),
-        next: after_step(e, step, next),
+        at: put_step(out, at, offset, value, step),
+        next: after_step(e, told),
     }
 }
 
-// What was told of it. A message begins with its type. A refused part is marked,
-fn put_step(out: &mut [u8], at: usize, offset: u64, s: &[u8], step: Step) -> usize
-    ensures { λ r. ⌜ filling (now (out .exit)) r ≡ pour (filling (now (out .entry)) at)
-        (stepLines step offset (now (s .entry))) ⌝ }
+// What is left then: after a refused part, only the ending.
+fn after_step(e: Explaining, told: NextPart) -> Explaining
+    ensures { λ r. ⌜ r ≡ afterStep (told .step) (told .cursor) e ⌝ }
 {
+    let step = told.step;
     match step {
-        Step::Part(part) => put_part_line(out, at, offset, s, part.start == 0, part),
-        Step::Refused(number) => put_mark(out, at, number),
-        Step::Faulty(part, number) => {
-            let line = put_faulty_line(out, at, offset, s, part);
-            put_mark(out, line, number)
-        }
-        Step::Whole(used) => put_left_line(out, at, offset, s, used),
-    }
-}
-
-// and nothing is shown after it.
-fn after_step(e: Explaining, step: Step, c: Cursor) -> Explaining
-    ensures { λ r. ⌜ r ≡ afterStep step c e ⌝ }
-{
-    match step {
-        Step::Part(_) => on_to(e, c),
+        Step::Part(_) => on_to(e, told),
         Step::Refused(number) => duly(e, Due::Ending(number)),
         Step::Faulty(_, number) => duly(e, Due::Ending(number)),
         Step::Whole(_) => duly(e, Due::Ending(0)),

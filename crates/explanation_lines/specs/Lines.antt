@@ -16,6 +16,8 @@ use Rattle.parts.specs.Telling.{partOf}
 use Rattle.parts.specs.declared.What.{What}
 use Rattle.parts.specs.declared.What.the-variants.{Number, Byte, Length, Content, Count, EntryNumber, EntryLength, EntryContent, Left}
 use Rattle.parts.specs.declared.Part.{Part}
+use Rattle.parts.specs.declared.Step.{Step}
+use Rattle.parts.specs.declared.Step.the-variants.{Part as APart, Refused as IsRefused, Faulty, Whole}
 use Rattle.text.specs.Decimals.{decimalOf}
 use Rattle.text.specs.Lines.{itemOf}
 use Rattle.text.specs.declared.Item.the-variants.{Rule}
@@ -114,6 +116,13 @@ numbered number = decimalOf number ++ letters ", " ++ meaningOf number
 -- "a refused part": the mark stands under it
 unfoldable pub markLine : ℕ → List ℕ
 markLine number = spaces 33 ++ letters "^ " ++ numbered number ++ newline
+
+-- a message begins with its type; a refused part is marked
+abbrev pub stepLines : Step → ℕ → List ℕ → List ℕ
+stepLines (APart p) offset s = partLine offset s (eqb (p .start) 0) p
+stepLines (IsRefused number) offset s = markLine number
+stepLines (Faulty p number) offset s = faultyLine offset s p ++ markLine number
+stepLines (Whole used) offset s = leftLine offset s used
 
 -- with a 13 stands its rule
 unfoldable pub ruleText : ℕ → List ℕ

@@ -26,7 +26,8 @@ pub fn first_byte(s: &[u8]) -> u8
     s[0]
 }
 
-fn at_most(n: usize, most: usize) -> usize
+// A number, or the most that it may be where it is above that.
+pub fn at_most(n: usize, most: usize) -> usize
     ensures { λ r. ⌜ r ≡ min n most ⌝ }
 {
     if n <= most {

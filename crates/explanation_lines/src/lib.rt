@@ -3,9 +3,11 @@
 mod clamping;
 mod lines;
 mod numbers;
+mod steps;
 mod values;
 mod words;
 
+pub use clamping::at_most;
 pub use lines::put_answer;
 pub use lines::put_cut_field;
 pub use lines::put_faulty_line;
@@ -16,6 +18,7 @@ pub use lines::put_part_line;
 pub use lines::put_reason;
 pub use numbers::put_arrival;
 pub use numbers::put_start;
+pub use steps::put_step;
 
 // The words that say why a trace is at fault.
 pub enum Word {

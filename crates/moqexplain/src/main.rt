@@ -1,6 +1,7 @@
 // moqexplain: reads a trace from standard input to its end, and prints its bytes, part by part, with what each part is.
 // With the word -c it reads a control stream instead. It holds a piece of the input and a piece of the text at a time,
 // whatever the input's length.
+mod reading;
 mod streams;
 mod traces;
 mod writing;

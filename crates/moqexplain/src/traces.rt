@@ -1,9 +1,9 @@
 // A trace, field by field.
 ghost use Prim.Native.Nat.{_≤_};
 ghost use lib.ListN.{length};
+use crate::reading::read_behind;
 use crate::writing::print;
 use crate::writing::write;
-use libc::STDIN_FILENO;
 use replay::Progress;
 use text::Putting;
 
@@ -15,13 +15,6 @@ struct Printed {
     written: bool,
 }
 
-// How far the trace was told of, how many bytes are left at the buffer's front, and whether more can come.
-struct Turned {
-    progress: Progress,
-    left: usize,
-    more: bool,
-}
-
 // A field has at most 65,538 bytes, so what is left of one always leaves room to read into. A proved loop has to end,
 // and nothing says that an input does: the turns are counted down from a number that no run uses up.
 pub fn explain() {
@@ -31,45 +24,25 @@ pub fn explain() {
     let mut turns = u64::MAX;
     while turns > 0 {
         turns -= 1;
-        let turned = turn(progress, &mut buffer, left);
-        if !turned.more {
+        let got = read_behind(&mut buffer, left);
+        if got <= 0 {
+            finish(progress, &buffer[..left], got);
             return;
         }
-        progress = turned.progress;
-        left = turned.left;
-    }
-}
-
-// One read into buffer, after what is left of the bytes before; what is then left of the bytes goes to its front.
-fn turn(p: Progress, buffer: &mut [u8], left: usize) -> Turned
-    requires { ⌜ left ≤ length (now buffer) ⌝ }
-    ensures { λ r. ⌜ r .left ≤ length (now (buffer .entry)) ⌝ }
-{
-    let got = libc::read(STDIN_FILENO, &mut buffer[left..]);
-    if got <= 0 {
-        finish(p, &buffer[..left], got);
-        return Turned {
-            progress: p,
-            left,
-            more: false,
-        };
-    }
-    let end = left + io::count(got, &buffer[left..]);
-    let printed = print_fields(p, &buffer[..end]);
-    let used = printed.used;
-    replay::keep(buffer, used, end);
-    let progress = printed.progress;
-    Turned {
-        progress,
-        left: end - used,
-        more: printed.written,
+        let end = left + io::count(got, &buffer[left..]);
+        let printed = print_fields(progress, &buffer[..end]);
+        if !printed.written {
+            return;
+        }
+        replay::keep(&mut buffer, printed.used, end);
+        progress = printed.progress;
+        left = end - printed.used;
     }
 }
 
 // No more bytes came: the trace ends here, and rest is left of a field; or the read failed.
 fn finish(p: Progress, rest: &[u8], got: isize) {
     if got < 0 {
-        os::fail(b"moqexplain: standard input");
         return;
     }
     let mut out = [0u8; explanation::LONGEST_LINES];

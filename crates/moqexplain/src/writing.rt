@@ -3,6 +3,7 @@ ghost use Prim.Native.Nat.{_≤_};
 ghost use lib.ListN.{length};
 ghost use Rattle.moqexplain.specs.Ending.{Ends, Rooms};
 use explanation::Explaining;
+use explanation::NextLines;
 use libc::STDOUT_FILENO;
 use text::Putting;
 
@@ -35,20 +36,18 @@ pub fn print(out: &mut [u8], at: usize, field: &[u8], e: Explaining) -> Putting
     requires { ⌜ at ≤ length (now out) ⌝ }
     ensures { λ r. ⌜ Ends r (length (now (out .entry))) ⌝ }
 {
-    let mut end = at;
-    let mut left = e;
+    let mut told = NextLines { at, next: e };
     let mut turns = u64::MAX;
     while turns > 0 {
         turns -= 1;
+        let left = told.next;
         if explanation::is_over(left) {
-            return Putting::Done(end);
+            return Putting::Done(told.at);
         }
-        let Putting::Done(front) = make_room(out, end) else {
+        let Putting::Done(front) = make_room(out, told.at) else {
             return Putting::TooShort;
         };
-        let told = explanation::next(out, front, field, left);
-        end = told.at;
-        left = told.next;
+        told = explanation::next(out, front, field, left);
     }
-    Putting::Done(end)
+    Putting::Done(told.at)
 }

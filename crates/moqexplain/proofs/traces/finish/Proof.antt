@@ -15,5 +15,5 @@ pub finish-spec : {M : Type 1} → statement M
 finish-spec =
     tie.close
     (tie.spec
-    (λ c. search needs) (λ c κs. search needs) (λ c. search needs) (λ c. search needs) (λ c κs. search needs)
+    (λ c. search needs) (λ c. search needs) (λ c κs. search needs)
     fits (λ c. sym (length-take-le _ _ (fits (c .before)))) (λ c κs. search needs) (λ c. search needs))

@@ -1,8 +1,8 @@
 -- `put_step` meets its contract. Assumes nothing.
 use borrow.Author.Needs.{needs}
 use Rattle.columns.proofs.Poured.{poured-both}
-use Rattle.explanation.proofs.telling.put_step.Statement.{statement}
-use Rattle.explanation.proofs.telling.put_step.Tie as tie
+use Rattle.explanation_lines.proofs.steps.put_step.Statement.{statement}
+use Rattle.explanation_lines.proofs.steps.put_step.Tie as tie
 
 pub put-step-spec : {M : Type 1} → statement M
 put-step-spec =
