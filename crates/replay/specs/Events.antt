@@ -17,6 +17,8 @@ use Rattle.message.specs.declared.Reading.{Reading}
 use Rattle.ledger.specs.declared.Part.the-variants.{Subscriber, Publisher}
 use Rattle.trace.specs.Fields.{tagOf, valueOf}
 use Rattle.replay.specs.declared.Event.{Event}
+use Rattle.replay.specs.declared.Next.{Next}
+use Rattle.replay.specs.declared.Next.the-variants.{One, Other}
 use Rattle.replay.specs.declared.Event.the-variants.{Start, Control, Malformed, Arrived, Fault}
 
 -- what fills its field exactly
@@ -49,6 +51,11 @@ arrivedBy value =
     onFound (numberAt value 0) Fault (λ alias next.
     onFound (placeAt value next) Fault (λ place end.
     filling value end (Arrived (record { alias = alias; place = place }))))
+
+-- an arrival, or else a fault
+abbrev pub asEvent : Next → Event
+asEvent (One a) = Arrived a
+asEvent Other = Fault
 
 unfoldable pub eventOf : ℕ → List ℕ → Event
 eventOf tag value =

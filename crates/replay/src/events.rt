@@ -2,8 +2,9 @@
 ghost use mathlib.Core.Path.{_≡_};
 ghost use Rattle.common.specs.Answer.{number};
 ghost use Rattle.message.specs.Reading.{told};
-ghost use Rattle.replay.specs.Events.{startedBy, controlBy, malformedBy, arrivedBy, eventOf};
+ghost use Rattle.replay.specs.Events.{startedBy, controlBy, malformedBy, arrivedBy, asEvent, eventOf};
 use crate::Event;
+use crate::Next;
 use field::Arrival;
 use field::NumberRead;
 use field::PlaceRead;
@@ -16,7 +17,12 @@ pub fn event_of(tag: u8, value: &[u8]) -> Event
     match tag {
         1 => return started(value),
         2 => return control(value),
-        3 => return arrived(value),
+        3 => {
+            let Next::One(a) = arrived(value) else {
+                return Event::Fault;
+            };
+            return Event::Arrived(a);
+        }
         _ => return Event::Fault,
     }
 }
@@ -68,18 +74,18 @@ fn malformed(reading: Reading) -> Event
     }
 }
 
-// Alias, group and object.
-pub fn arrived(value: &[u8]) -> Event
-    ensures { λ r. ⌜ r ≡ arrivedBy (now (value .entry)) ⌝ }
+// Alias, group and object, where that is what the value holds.
+pub fn arrived(value: &[u8]) -> Next
+    ensures { λ r. ⌜ asEvent r ≡ arrivedBy (now (value .entry)) ⌝ }
 {
     let NumberRead::Whole(alias, next) = field::read_number(value, 0) else {
-        return Event::Fault;
+        return Next::Other;
     };
     let PlaceRead::Whole(place, end) = field::read_place(value, next) else {
-        return Event::Fault;
+        return Next::Other;
     };
     if end != value.len() {
-        return Event::Fault;
+        return Next::Other;
     }
-    Event::Arrived(Arrival { alias, place })
+    Next::One(Arrival { alias, place })
 }

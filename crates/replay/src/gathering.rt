@@ -2,9 +2,10 @@
 ghost use mathlib.Core.Path.{_≡_};
 ghost use Prim.Native.Nat.{_≤_};
 ghost use lib.ListN.{length};
+ghost use Rattle.replay.specs.Events.{asEvent};
 ghost use Rattle.replay.specs.Gathering.{Gathers, arrivalIn};
-use crate::Event;
 use crate::Gathered;
+use crate::Next;
 use crate::events::arrived;
 use trace::Field;
 use trace::FieldRead;
@@ -22,7 +23,7 @@ pub fn gather(s: &[u8], at: usize, run: &mut [u64]) -> Gathered
         let FieldRead::Whole(f) = field_at(s, end) else {
             return Gathered { count, end };
         };
-        let Event::Arrived(a) = arrival_in(s, f) else {
+        let Next::One(a) = arrival_in(s, f) else {
             return Gathered { count, end };
         };
         let place = a.place;
@@ -35,13 +36,13 @@ pub fn gather(s: &[u8], at: usize, run: &mut [u64]) -> Gathered
     Gathered { count, end }
 }
 
-// A field that is an arrival; another is a fault here.
-fn arrival_in(s: &[u8], f: Field) -> Event
+// Whether a field is an arrival, and which.
+fn arrival_in(s: &[u8], f: Field) -> Next
     requires { ⌜ (f .start ≤ f .end) × (f .end ≤ length (now s)) ⌝ }
-    ensures { λ r. ⌜ r ≡ arrivalIn (now (s .entry)) f ⌝ }
+    ensures { λ r. ⌜ asEvent r ≡ arrivalIn (now (s .entry)) f ⌝ }
 {
     if f.tag != 3 {
-        return Event::Fault;
+        return Next::Other;
     }
     let start = f.start;
     let end = f.end;

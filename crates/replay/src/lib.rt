@@ -65,6 +65,12 @@ pub struct Advanced {
     pub left: usize,
 }
 
+// What a field is where an arrival is looked for: one, or another field.
+enum Next {
+    One(Arrival),
+    Other,
+}
+
 // Arrivals that stand next to each other: how many, and where the last one's field ends.
 struct Gathered {
     count: usize,

@@ -2,7 +2,9 @@
 use borrow.Author.Needs.{needs}
 use Prim.Native.Nat.{_-_}
 use native.Mathlib.Omega.{arith}
+use mathlib.Core.Path.{ap}
 use lib.ListN.{length-set}
+use Rattle.replay.specs.Events.{asEvent}
 use Rattle.replay.specs.Gathering.{Gathers}
 use Rattle.replay.proofs.FieldSteps.{stands, gathers-none, gathers-more}
 use Rattle.replay.proofs.gathering.gather.Statement.{statement}
@@ -26,9 +28,9 @@ gather-spec =
     (λ c κs.
     let w = stands _ _ (c .before .before .before .field-at .ensures) (c .before .f .given .1) in
     (w .ordered, w .within))
-    (λ c. search needs)
-    (λ c. c .before .before .before .before .before .before .before .loop .inv .same-room)
-    (λ c. c .before .before .before .before .before .before .before .loop .inv)
+    (λ c. search needs) (λ c. search needs)
+    (λ c. c .before .before .before .before .before .before .before .before .loop .inv .same-room)
+    (λ c. c .before .before .before .before .before .before .before .before .loop .inv)
     (λ c. search needs) (λ c. search needs) (λ c. search needs) (λ c. search needs) (λ c. search needs)
     (λ c. search needs)
     (λ c. simp length-set (omega (arith, c .before .before .before .before .before .before .before .before .before .before .loop .inv .same-room)))
@@ -38,5 +40,5 @@ gather-spec =
     (λ c.
     let here = c .before .before .before .before in
     let field = here .before .before in
-    gathers-more (field .before .before .before .before .loop .inv) (field .before .before .field-at .ensures) (field .f .given .1) (here .arrival-in .ensures) (c .before .before .a .given .1) (search needs))
+    gathers-more (field .before .before .before .before .loop .inv) (field .before .before .field-at .ensures) (field .f .given .1) (here .arrival-in .ensures) (ap asEvent (c .before .before .a .given .1)) (search needs))
     (λ c. c .before .loop .inv .same-room) (λ c. c .before .loop .inv))
