@@ -1,2 +1,4 @@
 pub mod OneByOne
 pub mod Givable
+pub mod Joins
+pub mod Statuses

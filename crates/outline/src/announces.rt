@@ -39,9 +39,9 @@ pub fn with_failure(v: &[u64], name: FieldName) -> Ahead
 {
     let n = v.len();
     match n {
-        0 => namespace(name),
-        1 => shared::number(FieldName::ErrorCode),
-        2 => shared::bytes(FieldName::ReasonPhrase),
-        _ => Ahead::Done,
+        0 => return namespace(name),
+        1 => return shared::number(FieldName::ErrorCode),
+        2 => return shared::bytes(FieldName::ReasonPhrase),
+        _ => return Ahead::Done,
     }
 }

@@ -1,5 +1,8 @@
 // The layouts of FETCH, FETCH_OK, FETCH_ERROR, FETCH_CANCEL, TRACK_STATUS_REQUEST and TRACK_STATUS.
 ghost use mathlib.Core.Path.{_≡_};
+ghost use Rattle.field.specs.Fields.{byte};
+ghost use Rattle.layout.specs.Layout.{field, largestPlace};
+ghost use Rattle.layout.specs.declared.FieldName.the-variants.{EndOfTrack};
 ghost use Rattle.types.specs.Fetches.{standalone, joining, range, fetch, fetchOk, fetchError, fetchCancel, trackStatusRequest, largest, trackStatus};
 ghost use Rattle.outline.specs.Places.{restOf, aheadOf};
 use crate::Ahead;
@@ -16,14 +19,14 @@ pub fn fetch(v: &[u64]) -> Ahead
 {
     let n = v.len();
     match n {
-        0 => number(FieldName::SubscribeId),
-        1 => byte(FieldName::SubscriberPriority),
-        2 => byte(FieldName::GroupOrder),
+        0 => return number(FieldName::SubscribeId),
+        1 => return byte(FieldName::SubscriberPriority),
+        2 => return byte(FieldName::GroupOrder),
         _ => {
             if v[2] > 2 {
                 return Ahead::Forbidden;
             }
-            range(&v[3..])
+            return range(&v[3..]);
         }
     }
 }
@@ -35,11 +38,11 @@ fn range(v: &[u64]) -> Ahead
     if v.len() == 0 {
         return number(FieldName::FetchType);
     }
+    let rest = &v[1..];
     match v[0] {
-        1 => standalone(&v[1..]),
-        2 => joining(&v[1..]),
-        3 => joining(&v[1..]),
-        _ => Ahead::Forbidden,
+        1 => return standalone(rest),
+        2..=3 => return joining(rest),
+        _ => return Ahead::Forbidden,
     }
 }
 
@@ -48,12 +51,12 @@ fn standalone(v: &[u64]) -> Ahead
 {
     let n = v.len();
     match n {
-        0 => Ahead::Field(FieldName::FullTrackName, Form::Track),
-        1 => number(FieldName::StartGroup),
-        2 => number(FieldName::StartObject),
-        3 => number(FieldName::EndGroup),
-        4 => number(FieldName::EndObject),
-        _ => parameters(&v[5..]),
+        0 => return Ahead::Field(FieldName::FullTrackName, Form::Track),
+        1 => return number(FieldName::StartGroup),
+        2 => return number(FieldName::StartObject),
+        3 => return number(FieldName::EndGroup),
+        4 => return number(FieldName::EndObject),
+        _ => return parameters(&v[5..]),
     }
 }
 
@@ -62,9 +65,9 @@ fn joining(v: &[u64]) -> Ahead
 {
     let n = v.len();
     match n {
-        0 => number(FieldName::JoiningSubscribeId),
-        1 => number(FieldName::JoiningStart),
-        _ => parameters(&v[2..]),
+        0 => return number(FieldName::JoiningSubscribeId),
+        1 => return number(FieldName::JoiningStart),
+        _ => return parameters(&v[2..]),
     }
 }
 
@@ -73,17 +76,23 @@ pub fn fetch_ok(v: &[u64]) -> Ahead
 {
     let n = v.len();
     match n {
-        0 => number(FieldName::SubscribeId),
-        1 => byte(FieldName::GroupOrder),
-        2 => match v[1] {
-            1..=2 => byte(FieldName::EndOfTrack),
-            _ => Ahead::Forbidden,
-        },
+        0 => return number(FieldName::SubscribeId),
+        1 => return byte(FieldName::GroupOrder),
         _ => match v[1] {
-            1..=2 => largest_place(&v[3..]),
-            _ => Ahead::Forbidden,
+            1..=2 => return fetched(&v[2..]),
+            _ => return Ahead::Forbidden,
         },
     }
+}
+
+// Whether it is the end of the track, and where its content ends.
+fn fetched(v: &[u64]) -> Ahead
+    ensures { λ r. ⌜ r ≡ aheadOf (restOf (field EndOfTrack byte λ endOfTrack. largestPlace) (now (v .entry))) ⌝ }
+{
+    if v.len() == 0 {
+        return byte(FieldName::EndOfTrack);
+    }
+    largest_place(&v[1..])
 }
 
 pub fn fetch_error(v: &[u64]) -> Ahead
@@ -91,10 +100,10 @@ pub fn fetch_error(v: &[u64]) -> Ahead
 {
     let n = v.len();
     match n {
-        0 => number(FieldName::SubscribeId),
-        1 => number(FieldName::ErrorCode),
-        2 => bytes(FieldName::ReasonPhrase),
-        _ => Ahead::Done,
+        0 => return number(FieldName::SubscribeId),
+        1 => return number(FieldName::ErrorCode),
+        2 => return bytes(FieldName::ReasonPhrase),
+        _ => return Ahead::Done,
     }
 }
 
@@ -121,13 +130,13 @@ pub fn track_status(v: &[u64]) -> Ahead
 {
     let n = v.len();
     match n {
-        0 => Ahead::Field(FieldName::FullTrackName, Form::Track),
-        1 => number(FieldName::StatusCode),
+        0 => return Ahead::Field(FieldName::FullTrackName, Form::Track),
+        1 => return number(FieldName::StatusCode),
         _ => {
             if !types::is_track_status(v[1]) {
                 return Ahead::Forbidden;
             }
-            largest(v[1], &v[2..])
+            return largest(v[1], &v[2..]);
         }
     }
 }

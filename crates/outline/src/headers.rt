@@ -13,27 +13,23 @@ pub fn object_datagram(v: &[u64]) -> Ahead
 {
     let n = v.len();
     match n {
-        0 => number(FieldName::TrackAlias),
-        1 => number(FieldName::GroupId),
-        2 => number(FieldName::ObjectId),
-        3 => byte(FieldName::PublisherPriority),
-        4 => bytes(FieldName::ExtensionHeaders),
-        _ => Ahead::Done,
+        0 => return number(FieldName::TrackAlias),
+        1 => return number(FieldName::GroupId),
+        2 => return number(FieldName::ObjectId),
+        3 => return byte(FieldName::PublisherPriority),
+        4 => return bytes(FieldName::ExtensionHeaders),
+        _ => return Ahead::Done,
     }
 }
 
+// The fields of an object in a datagram, and behind them the status.
 pub fn datagram_status(v: &[u64]) -> Ahead
     ensures { λ r. ⌜ r ≡ aheadOf (restOf datagramStatus (now (v .entry))) ⌝ }
 {
-    let n = v.len();
-    match n {
-        0 => number(FieldName::TrackAlias),
-        1 => number(FieldName::GroupId),
-        2 => number(FieldName::ObjectId),
-        3 => byte(FieldName::PublisherPriority),
-        4 => bytes(FieldName::ExtensionHeaders),
-        _ => status(&v[5..]),
+    if v.len() < 5 {
+        return object_datagram(v);
     }
+    status(&v[5..])
 }
 
 pub fn subgroup_header(v: &[u64]) -> Ahead
@@ -41,11 +37,11 @@ pub fn subgroup_header(v: &[u64]) -> Ahead
 {
     let n = v.len();
     match n {
-        0 => number(FieldName::TrackAlias),
-        1 => number(FieldName::GroupId),
-        2 => number(FieldName::SubgroupId),
-        3 => byte(FieldName::PublisherPriority),
-        _ => Ahead::Done,
+        0 => return number(FieldName::TrackAlias),
+        1 => return number(FieldName::GroupId),
+        2 => return number(FieldName::SubgroupId),
+        3 => return byte(FieldName::PublisherPriority),
+        _ => return Ahead::Done,
     }
 }
 
@@ -89,9 +85,9 @@ pub fn subgroup_object(v: &[u64]) -> Ahead
 {
     let n = v.len();
     match n {
-        0 => number(FieldName::ObjectId),
-        1 => bytes(FieldName::ExtensionHeaders),
-        _ => payload(&v[2..]),
+        0 => return number(FieldName::ObjectId),
+        1 => return bytes(FieldName::ExtensionHeaders),
+        _ => return payload(&v[2..]),
     }
 }
 
@@ -100,11 +96,11 @@ pub fn fetch_object(v: &[u64]) -> Ahead
 {
     let n = v.len();
     match n {
-        0 => number(FieldName::GroupId),
-        1 => number(FieldName::SubgroupId),
-        2 => number(FieldName::ObjectId),
-        3 => byte(FieldName::PublisherPriority),
-        4 => bytes(FieldName::ExtensionHeaders),
-        _ => payload(&v[5..]),
+        0 => return number(FieldName::GroupId),
+        1 => return number(FieldName::SubgroupId),
+        2 => return number(FieldName::ObjectId),
+        3 => return byte(FieldName::PublisherPriority),
+        4 => return bytes(FieldName::ExtensionHeaders),
+        _ => return payload(&v[5..]),
     }
 }

@@ -17,11 +17,11 @@ pub fn look_ahead(outline: Outline, v: &[u64]) -> Ahead
     ensures { λ r. ⌜ r ≡ aheadAt outline (now (v .entry)) ⌝ }
 {
     match outline {
-        Outline::Message(number) => message(number, v),
-        Outline::Datagram(number) => datagram(number, v),
-        Outline::Stream(number) => stream(number, v),
-        Outline::SubgroupObject => headers::subgroup_object(v),
-        Outline::FetchObject => headers::fetch_object(v),
+        Outline::Message(number) => return message(number, v),
+        Outline::Datagram(number) => return datagram(number, v),
+        Outline::Stream(number) => return stream(number, v),
+        Outline::SubgroupObject => return headers::subgroup_object(v),
+        Outline::FetchObject => return headers::fetch_object(v),
     }
 }
 
@@ -63,9 +63,9 @@ fn datagram(number: u64, v: &[u64]) -> Ahead
     ensures { λ r. ⌜ r ≡ aheadOf (restOf (layoutIn (datagrams number)) (now (v .entry))) ⌝ }
 {
     match number {
-        header::OBJECT_DATAGRAM => headers::object_datagram(v),
-        header::OBJECT_DATAGRAM_STATUS => headers::datagram_status(v),
-        _ => Ahead::Forbidden,
+        header::OBJECT_DATAGRAM => return headers::object_datagram(v),
+        header::OBJECT_DATAGRAM_STATUS => return headers::datagram_status(v),
+        _ => return Ahead::Forbidden,
     }
 }
 
@@ -73,8 +73,8 @@ fn stream(number: u64, v: &[u64]) -> Ahead
     ensures { λ r. ⌜ r ≡ aheadOf (restOf (layoutIn (streams number)) (now (v .entry))) ⌝ }
 {
     match number {
-        header::SUBGROUP_HEADER => headers::subgroup_header(v),
-        header::FETCH_HEADER => headers::fetch_header(v),
-        _ => Ahead::Forbidden,
+        header::SUBGROUP_HEADER => return headers::subgroup_header(v),
+        header::FETCH_HEADER => return headers::fetch_header(v),
+        _ => return Ahead::Forbidden,
     }
 }

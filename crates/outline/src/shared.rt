@@ -43,8 +43,8 @@ pub fn largest_place(v: &[u64]) -> Ahead
 {
     let n = v.len();
     match n {
-        0 => number(FieldName::LargestGroupId),
-        1 => number(FieldName::LargestObjectId),
-        _ => parameters(&v[2..]),
+        0 => return number(FieldName::LargestGroupId),
+        1 => return number(FieldName::LargestObjectId),
+        _ => return parameters(&v[2..]),
     }
 }

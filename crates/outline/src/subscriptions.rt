@@ -17,12 +17,12 @@ pub fn subscribe_update(v: &[u64]) -> Ahead
 {
     let n = v.len();
     match n {
-        0 => number(FieldName::SubscribeId),
-        1 => number(FieldName::StartGroup),
-        2 => number(FieldName::StartObject),
-        3 => number(FieldName::EndGroup),
-        4 => byte(FieldName::SubscriberPriority),
-        _ => parameters(&v[5..]),
+        0 => return number(FieldName::SubscribeId),
+        1 => return number(FieldName::StartGroup),
+        2 => return number(FieldName::StartObject),
+        3 => return number(FieldName::EndGroup),
+        4 => return byte(FieldName::SubscriberPriority),
+        _ => return parameters(&v[5..]),
     }
 }
 
@@ -31,10 +31,10 @@ pub fn subscribe(v: &[u64]) -> Ahead
 {
     let n = v.len();
     match n {
-        0 => number(FieldName::SubscribeId),
-        1 => number(FieldName::TrackAlias),
-        2 => Ahead::Field(FieldName::FullTrackName, Form::Track),
-        _ => delivery(&v[3..]),
+        0 => return number(FieldName::SubscribeId),
+        1 => return number(FieldName::TrackAlias),
+        2 => return Ahead::Field(FieldName::FullTrackName, Form::Track),
+        _ => return delivery(&v[3..]),
     }
 }
 
@@ -43,13 +43,13 @@ fn delivery(v: &[u64]) -> Ahead
 {
     let n = v.len();
     match n {
-        0 => byte(FieldName::SubscriberPriority),
-        1 => byte(FieldName::GroupOrder),
+        0 => return byte(FieldName::SubscriberPriority),
+        1 => return byte(FieldName::GroupOrder),
         _ => {
             if v[1] > 2 {
                 return Ahead::Forbidden;
             }
-            filter(&v[2..])
+            return filter(&v[2..]);
         }
     }
 }
@@ -61,11 +61,12 @@ fn filter(v: &[u64]) -> Ahead
     if v.len() == 0 {
         return number(FieldName::FilterType);
     }
+    let rest = &v[1..];
     match v[0] {
-        2 => parameters(&v[1..]),
-        3 => open_range(&v[1..]),
-        4 => closed_range(&v[1..]),
-        _ => Ahead::Forbidden,
+        2 => return parameters(rest),
+        3 => return open_range(rest),
+        4 => return closed_range(rest),
+        _ => return Ahead::Forbidden,
     }
 }
 
@@ -74,9 +75,9 @@ fn open_range(v: &[u64]) -> Ahead
 {
     let n = v.len();
     match n {
-        0 => number(FieldName::StartGroup),
-        1 => number(FieldName::StartObject),
-        _ => parameters(&v[2..]),
+        0 => return number(FieldName::StartGroup),
+        1 => return number(FieldName::StartObject),
+        _ => return parameters(&v[2..]),
     }
 }
 
@@ -85,14 +86,14 @@ fn closed_range(v: &[u64]) -> Ahead
 {
     let n = v.len();
     match n {
-        0 => number(FieldName::StartGroup),
-        1 => number(FieldName::StartObject),
-        2 => number(FieldName::EndGroup),
+        0 => return number(FieldName::StartGroup),
+        1 => return number(FieldName::StartObject),
+        2 => return number(FieldName::EndGroup),
         _ => {
             if v[2] < v[0] {
                 return Ahead::Forbidden;
             }
-            parameters(&v[3..])
+            return parameters(&v[3..]);
         }
     }
 }
@@ -102,9 +103,9 @@ pub fn subscribe_ok(v: &[u64]) -> Ahead
 {
     let n = v.len();
     match n {
-        0 => number(FieldName::SubscribeId),
-        1 => number(FieldName::Expires),
-        2 => byte(FieldName::GroupOrder),
+        0 => return number(FieldName::SubscribeId),
+        1 => return number(FieldName::Expires),
+        2 => return byte(FieldName::GroupOrder),
         _ => match v[2] {
             1..=2 => content(&v[3..]),
             _ => Ahead::Forbidden,
@@ -119,10 +120,11 @@ fn content(v: &[u64]) -> Ahead
     if v.len() == 0 {
         return byte(FieldName::ContentExists);
     }
+    let rest = &v[1..];
     match v[0] {
-        0 => parameters(&v[1..]),
-        1 => largest_place(&v[1..]),
-        _ => Ahead::Forbidden,
+        0 => return parameters(rest),
+        1 => return largest_place(rest),
+        _ => return Ahead::Forbidden,
     }
 }
 
@@ -131,11 +133,11 @@ pub fn subscribe_error(v: &[u64]) -> Ahead
 {
     let n = v.len();
     match n {
-        0 => number(FieldName::SubscribeId),
-        1 => number(FieldName::ErrorCode),
-        2 => bytes(FieldName::ReasonPhrase),
-        3 => number(FieldName::TrackAlias),
-        _ => Ahead::Done,
+        0 => return number(FieldName::SubscribeId),
+        1 => return number(FieldName::ErrorCode),
+        2 => return bytes(FieldName::ReasonPhrase),
+        3 => return number(FieldName::TrackAlias),
+        _ => return Ahead::Done,
     }
 }
 
@@ -144,11 +146,11 @@ pub fn subscribe_done(v: &[u64]) -> Ahead
 {
     let n = v.len();
     match n {
-        0 => number(FieldName::SubscribeId),
-        1 => number(FieldName::StatusCode),
-        2 => number(FieldName::StreamCount),
-        3 => bytes(FieldName::ReasonPhrase),
-        _ => Ahead::Done,
+        0 => return number(FieldName::SubscribeId),
+        1 => return number(FieldName::StatusCode),
+        2 => return number(FieldName::StreamCount),
+        3 => return bytes(FieldName::ReasonPhrase),
+        _ => return Ahead::Done,
     }
 }
 

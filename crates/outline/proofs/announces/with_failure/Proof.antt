@@ -14,8 +14,7 @@ unfolding restOf aheadOf named failure
 with-failure-spec =
     tie.close
     (tie.spec
-    (λ c κs. search needs) (λ c κs. search needs) (λ c κs. search needs)
-    (λ c. stands (named (c .before .before .before .args .name) (failure done)) 0 (c .before .before .before .args .v .now) (omega arith) (c .namespace .ensures))
-    (λ c. stands (named (c .before .before .before .args .name) (failure done)) 1 (c .before .before .before .args .v .now) (omega arith) (c .number .ensures))
-    (λ c. stands (named (c .before .before .before .args .name) (failure done)) 2 (c .before .before .before .args .v .now) (omega arith) (c .bytes .ensures))
+    (λ c κs. search needs) (λ c. stands (named (c .before .before .before .args .name) (failure done)) 0 (c .before .before .before .args .v .now) (omega arith) (c .namespace .ensures))
+    (λ c κs. search needs) (λ c. stands (named (c .before .before .before .args .name) (failure done)) 1 (c .before .before .before .args .v .now) (omega arith) (c .number .ensures))
+    (λ c κs. search needs) (λ c. stands (named (c .before .before .before .args .name) (failure done)) 2 (c .before .before .before .args .v .now) (omega arith) (c .bytes .ensures))
     (λ c. let v = c .before .before .args .v .now in past (named (c .before .before .args .name) (failure done)) 3 v (omega arith) (done-ahead (drop 3 v))))

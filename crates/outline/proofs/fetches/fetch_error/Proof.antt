@@ -14,8 +14,7 @@ unfolding restOf aheadOf failure fetchError
 fetch-error-spec =
     tie.close
     (tie.spec
-    (λ c κs. search needs) (λ c κs. search needs) (λ c κs. search needs)
-    (λ c. stands fetchError 0 (c .before .before .before .args .v .now) (omega arith) (c .number .ensures))
-    (λ c. stands fetchError 1 (c .before .before .before .args .v .now) (omega arith) (c .number2 .ensures))
-    (λ c. stands fetchError 2 (c .before .before .before .args .v .now) (omega arith) (c .bytes .ensures))
+    (λ c κs. search needs) (λ c. stands fetchError 0 (c .before .before .before .args .v .now) (omega arith) (c .number .ensures))
+    (λ c κs. search needs) (λ c. stands fetchError 1 (c .before .before .before .args .v .now) (omega arith) (c .number2 .ensures))
+    (λ c κs. search needs) (λ c. stands fetchError 2 (c .before .before .before .args .v .now) (omega arith) (c .bytes .ensures))
     (λ c. let v = c .before .before .args .v .now in past fetchError 3 v (omega arith) (done-ahead (drop 3 v))))

@@ -13,8 +13,6 @@ unfolding restOf aheadOf joining
 joining-spec =
     tie.close
     (tie.spec
-    (λ c κs. search needs) (λ c κs. search needs) (λ c. search needs) (λ c. search needs) (λ c. search needs)
-    (λ c κs. search needs)
-    (λ c. stands joining 0 (c .before .before .before .args .v .now) (omega arith) (c .number .ensures))
-    (λ c. stands joining 1 (c .before .before .before .args .v .now) (omega arith) (c .number2 .ensures))
-    (λ c. let v = c .before .before .before .before .args .v .now in past joining 2 v (omega arith) (rw (to-end v 2) at (c .parameters .ensures))))
+    (λ c κs. search needs) (λ c. stands joining 0 (c .before .before .before .args .v .now) (omega arith) (c .number .ensures))
+    (λ c κs. search needs) (λ c. stands joining 1 (c .before .before .before .args .v .now) (omega arith) (c .number2 .ensures))
+    (λ c. search needs) (λ c. search needs) (λ c. search needs) (λ c κs. search needs) (λ c. let v = c .before .before .before .before .args .v .now in past joining 2 v (omega arith) (rw (to-end v 2) at (c .parameters .ensures))))

@@ -13,11 +13,9 @@ unfolding restOf aheadOf fetchObject
 fetch-object-spec =
     tie.close
     (tie.spec
-    (λ c κs. search needs) (λ c κs. search needs) (λ c κs. search needs) (λ c κs. search needs)
-    (λ c κs. search needs) (λ c. search needs) (λ c. search needs) (λ c. search needs) (λ c κs. search needs)
-    (λ c. stands fetchObject 0 (c .before .before .before .args .v .now) (omega arith) (c .number .ensures))
-    (λ c. stands fetchObject 1 (c .before .before .before .args .v .now) (omega arith) (c .number2 .ensures))
-    (λ c. stands fetchObject 2 (c .before .before .before .args .v .now) (omega arith) (c .number3 .ensures))
-    (λ c. stands fetchObject 3 (c .before .before .before .args .v .now) (omega arith) (c .byte .ensures))
-    (λ c. stands fetchObject 4 (c .before .before .before .args .v .now) (omega arith) (c .bytes .ensures))
-    (λ c. let v = c .before .before .before .before .args .v .now in past fetchObject 5 v (omega arith) (rw (to-end v 5) at (c .payload .ensures))))
+    (λ c κs. search needs) (λ c. stands fetchObject 0 (c .before .before .before .args .v .now) (omega arith) (c .number .ensures))
+    (λ c κs. search needs) (λ c. stands fetchObject 1 (c .before .before .before .args .v .now) (omega arith) (c .number2 .ensures))
+    (λ c κs. search needs) (λ c. stands fetchObject 2 (c .before .before .before .args .v .now) (omega arith) (c .number3 .ensures))
+    (λ c κs. search needs) (λ c. stands fetchObject 3 (c .before .before .before .args .v .now) (omega arith) (c .byte .ensures))
+    (λ c κs. search needs) (λ c. stands fetchObject 4 (c .before .before .before .args .v .now) (omega arith) (c .bytes .ensures))
+    (λ c. search needs) (λ c. search needs) (λ c. search needs) (λ c κs. search needs) (λ c. let v = c .before .before .before .before .args .v .now in past fetchObject 5 v (omega arith) (rw (to-end v 5) at (c .payload .ensures))))

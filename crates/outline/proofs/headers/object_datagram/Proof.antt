@@ -14,11 +14,9 @@ unfolding restOf aheadOf place objectDatagram
 object-datagram-spec =
     tie.close
     (tie.spec
-    (λ c κs. search needs) (λ c κs. search needs) (λ c κs. search needs) (λ c κs. search needs)
-    (λ c κs. search needs)
-    (λ c. stands objectDatagram 0 (c .before .before .before .args .v .now) (omega arith) (c .number .ensures))
-    (λ c. stands objectDatagram 1 (c .before .before .before .args .v .now) (omega arith) (c .number2 .ensures))
-    (λ c. stands objectDatagram 2 (c .before .before .before .args .v .now) (omega arith) (c .number3 .ensures))
-    (λ c. stands objectDatagram 3 (c .before .before .before .args .v .now) (omega arith) (c .byte .ensures))
-    (λ c. stands objectDatagram 4 (c .before .before .before .args .v .now) (omega arith) (c .bytes .ensures))
+    (λ c κs. search needs) (λ c. stands objectDatagram 0 (c .before .before .before .args .v .now) (omega arith) (c .number .ensures))
+    (λ c κs. search needs) (λ c. stands objectDatagram 1 (c .before .before .before .args .v .now) (omega arith) (c .number2 .ensures))
+    (λ c κs. search needs) (λ c. stands objectDatagram 2 (c .before .before .before .args .v .now) (omega arith) (c .number3 .ensures))
+    (λ c κs. search needs) (λ c. stands objectDatagram 3 (c .before .before .before .args .v .now) (omega arith) (c .byte .ensures))
+    (λ c κs. search needs) (λ c. stands objectDatagram 4 (c .before .before .before .args .v .now) (omega arith) (c .bytes .ensures))
     (λ c. let v = c .before .before .args .v .now in past objectDatagram 5 v (omega arith) (done-ahead (drop 5 v))))

@@ -13,8 +13,6 @@ unfolding restOf aheadOf subgroupObject
 subgroup-object-spec =
     tie.close
     (tie.spec
-    (λ c κs. search needs) (λ c κs. search needs) (λ c. search needs) (λ c. search needs) (λ c. search needs)
-    (λ c κs. search needs)
-    (λ c. stands subgroupObject 0 (c .before .before .before .args .v .now) (omega arith) (c .number .ensures))
-    (λ c. stands subgroupObject 1 (c .before .before .before .args .v .now) (omega arith) (c .bytes .ensures))
-    (λ c. let v = c .before .before .before .before .args .v .now in past subgroupObject 2 v (omega arith) (rw (to-end v 2) at (c .payload .ensures))))
+    (λ c κs. search needs) (λ c. stands subgroupObject 0 (c .before .before .before .args .v .now) (omega arith) (c .number .ensures))
+    (λ c κs. search needs) (λ c. stands subgroupObject 1 (c .before .before .before .args .v .now) (omega arith) (c .bytes .ensures))
+    (λ c. search needs) (λ c. search needs) (λ c. search needs) (λ c κs. search needs) (λ c. let v = c .before .before .before .before .args .v .now in past subgroupObject 2 v (omega arith) (rw (to-end v 2) at (c .payload .ensures))))

@@ -9,10 +9,8 @@ unfolding laidOut aheadAt
 look-ahead-spec =
     tie.close
     (tie.spec
-    (λ c. search needs) (λ c κs. search needs) (λ c. search needs) (λ c κs. search needs) (λ c. search needs)
-    (λ c κs. search needs) (λ c. search needs) (λ c κs. search needs) (λ c. search needs) (λ c κs. search needs)
-    (λ c. rw (c .before .before .outline .given .1) (c .message .ensures))
-    (λ c. rw (c .before .before .outline2 .given .1) (c .datagram .ensures))
-    (λ c. rw (c .before .before .outline3 .given .1) (c .stream .ensures))
-    (λ c. rw (c .before .enum-told .given .1) (c .subgroup-object .ensures))
-    (λ c. rw (c .before .enum-told2 .given .1) (c .fetch-object .ensures)))
+    (λ c. search needs) (λ c κs. search needs) (λ c. rw (c .before .before .outline .given .1) (c .message .ensures))
+    (λ c. search needs) (λ c κs. search needs) (λ c. rw (c .before .before .outline2 .given .1) (c .datagram .ensures))
+    (λ c. search needs) (λ c κs. search needs) (λ c. rw (c .before .before .outline3 .given .1) (c .stream .ensures))
+    (λ c. search needs) (λ c κs. search needs) (λ c. rw (c .before .enum-told .given .1) (c .subgroup-object .ensures))
+    (λ c. search needs) (λ c κs. search needs) (λ c. rw (c .before .enum-told2 .given .1) (c .fetch-object .ensures)))

@@ -13,7 +13,6 @@ unfolding restOf aheadOf place parameters
 largest-place-spec =
     tie.close
     (tie.spec
-    (λ c κs. search needs) (λ c κs. search needs) (λ c. search needs) (λ c. search needs) (λ c. search needs) (λ c κs. search needs)
-    (λ c. stands largestPlace 0 (c .before .before .before .args .v .now) (omega arith) (c .number .ensures))
-    (λ c. stands largestPlace 1 (c .before .before .before .args .v .now) (omega arith) (c .number2 .ensures))
-    (λ c. let v = c .before .before .before .before .args .v .now in past largestPlace 2 v (omega arith) (rw (to-end v 2) at (c .parameters .ensures))))
+    (λ c κs. search needs) (λ c. stands largestPlace 0 (c .before .before .before .args .v .now) (omega arith) (c .number .ensures))
+    (λ c κs. search needs) (λ c. stands largestPlace 1 (c .before .before .before .args .v .now) (omega arith) (c .number2 .ensures))
+    (λ c. search needs) (λ c. search needs) (λ c. search needs) (λ c κs. search needs) (λ c. let v = c .before .before .before .before .args .v .now in past largestPlace 2 v (omega arith) (rw (to-end v 2) at (c .parameters .ensures))))

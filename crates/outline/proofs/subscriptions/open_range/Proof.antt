@@ -14,8 +14,6 @@ unfolding restOf aheadOf place
 open-range-spec =
     tie.close
     (tie.spec
-    (λ c κs. search needs) (λ c κs. search needs) (λ c. search needs) (λ c. search needs) (λ c. search needs)
-    (λ c κs. search needs)
-    (λ c. stands openRange 0 (c .before .before .before .args .v .now) (omega arith) (c .number .ensures))
-    (λ c. stands openRange 1 (c .before .before .before .args .v .now) (omega arith) (c .number2 .ensures))
-    (λ c. let v = c .before .before .before .before .args .v .now in past openRange 2 v (omega arith) (rw (to-end v 2) at (c .parameters .ensures))))
+    (λ c κs. search needs) (λ c. stands openRange 0 (c .before .before .before .args .v .now) (omega arith) (c .number .ensures))
+    (λ c κs. search needs) (λ c. stands openRange 1 (c .before .before .before .args .v .now) (omega arith) (c .number2 .ensures))
+    (λ c. search needs) (λ c. search needs) (λ c. search needs) (λ c κs. search needs) (λ c. let v = c .before .before .before .before .args .v .now in past openRange 2 v (omega arith) (rw (to-end v 2) at (c .parameters .ensures))))

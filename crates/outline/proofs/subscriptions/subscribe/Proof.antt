@@ -14,9 +14,7 @@ unfolding restOf aheadOf subscribe
 subscribe-spec =
     tie.close
     (tie.spec
-    (λ c κs. search needs) (λ c κs. search needs) (λ c. search needs) (λ c. search needs) (λ c. search needs)
-    (λ c κs. search needs)
-    (λ c. stands subscribe 0 (c .before .before .before .args .v .now) (omega arith) (c .number .ensures))
-    (λ c. stands subscribe 1 (c .before .before .before .args .v .now) (omega arith) (c .number2 .ensures))
+    (λ c κs. search needs) (λ c. stands subscribe 0 (c .before .before .before .args .v .now) (omega arith) (c .number .ensures))
+    (λ c κs. search needs) (λ c. stands subscribe 1 (c .before .before .before .args .v .now) (omega arith) (c .number2 .ensures))
     (λ c. stands subscribe 2 (c .before .before .args .v .now) (omega arith) refl)
-    (λ c. let v = c .before .before .before .before .args .v .now in past subscribe 3 v (omega arith) (rw (to-end v 3) at (c .delivery .ensures))))
+    (λ c. search needs) (λ c. search needs) (λ c. search needs) (λ c κs. search needs) (λ c. let v = c .before .before .before .before .args .v .now in past subscribe 3 v (omega arith) (rw (to-end v 3) at (c .delivery .ensures))))

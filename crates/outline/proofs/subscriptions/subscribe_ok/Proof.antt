@@ -16,11 +16,9 @@ unfolding restOf aheadOf subscribeOk
 subscribe-ok-spec =
     tie.close
     (tie.spec
-    (λ c κs. search needs) (λ c κs. search needs) (λ c κs. search needs) (λ c. search needs) (λ c. search needs)
-    (λ c. search needs) (λ c. search needs) (λ c κs. search needs)
-    (λ c. stands subscribeOk 0 (c .before .before .before .args .v .now) (omega arith) (c .number .ensures))
-    (λ c. stands subscribeOk 1 (c .before .before .before .args .v .now) (omega arith) (c .number2 .ensures))
-    (λ c. stands subscribeOk 2 (c .before .before .before .args .v .now) (omega arith) (c .byte .ensures))
-    (λ c. let v = c .before .before .before .before .before .before .before .args .v .now in past subscribeOk 3 v (omega arith) (yes-ahead content forbidden (drop 3 v) (is-givable (getD v 2 0) (omega arith) (omega arith)) (rw (to-end v 3) at (c .content .ensures))))
+    (λ c κs. search needs) (λ c. stands subscribeOk 0 (c .before .before .before .args .v .now) (omega arith) (c .number .ensures))
+    (λ c κs. search needs) (λ c. stands subscribeOk 1 (c .before .before .before .args .v .now) (omega arith) (c .number2 .ensures))
+    (λ c κs. search needs) (λ c. stands subscribeOk 2 (c .before .before .before .args .v .now) (omega arith) (c .byte .ensures))
+    (λ c. search needs) (λ c. search needs) (λ c. search needs) (λ c. search needs) (λ c κs. search needs) (λ c. let v = c .before .before .before .before .before .before .before .args .v .now in past subscribeOk 3 v (omega arith) (yes-ahead content forbidden (drop 3 v) (is-givable (getD v 2 0) (omega arith) (omega arith)) (rw (to-end v 3) at (c .content .ensures))))
     (λ c. let v = c .before .before .before .before .args .v .now in past subscribeOk 3 v (omega arith) (no-ahead content forbidden (drop 3 v) (is-too-low (getD v 2 0) (omega arith)) (forbidden-ahead (drop 3 v))))
     (λ c. let v = c .before .before .before .before .before .args .v .now in past subscribeOk 3 v (omega arith) (no-ahead content forbidden (drop 3 v) (is-too-high (getD v 2 0) (omega arith)) (forbidden-ahead (drop 3 v)))))
