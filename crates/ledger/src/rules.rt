@@ -69,8 +69,12 @@ pub fn close_code(rule: Rule) -> u64
     ensures { λ r. ⌜ r ≡ closeCode rule ⌝ }
 {
     match rule {
+        Rule::R1 => 0x3,
+        Rule::R2 => 0x3,
         Rule::R3 => 0x6,
         Rule::R4 => 0x4,
-        _ => 0x3,
+        Rule::R5 => 0x3,
+        Rule::R6 => 0x3,
+        Rule::R7 => 0x3,
     }
 }
