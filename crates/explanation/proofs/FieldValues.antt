@@ -12,8 +12,8 @@ use Rattle.parts.specs.Telling.{nextOf}
 use Rattle.parts.specs.declared.NextPart.{NextPart}
 use Rattle.columns.specs.Pouring.{filling, pour}
 use Rattle.columns.proofs.Poured.{poured-both}
-use Rattle.explanation_lines.specs.Lines.{fieldLine, stepLines}
-use Rattle.explanation.specs.Telling.{duly, valueLines, dueAfter, fieldTold, afterStep, partTold, Tells}
+use Rattle.explanation_lines.specs.Lines.{fieldLine, stepLines, valueLines}
+use Rattle.explanation.specs.Telling.{duly, dueAfter, fieldTold, afterStep, partTold, Tells}
 use Rattle.explanation.specs.declared.Due.{Due}
 use Rattle.explanation.specs.declared.Explaining.{Explaining}
 

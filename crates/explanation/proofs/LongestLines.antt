@@ -12,9 +12,9 @@ use Rattle.parts.specs.declared.Step.the-variants.{Part as APart, Refused as Is
 use Rattle.trace.specs.Fields.{offsetOf}
 use Rattle.columns.specs.Pouring.{filling, pour}
 use Rattle.columns.proofs.Poured.{pour-fits}
-use Rattle.explanation_lines.specs.Lines.{stepLines}
+use Rattle.explanation_lines.specs.Lines.{stepLines, valueLines}
 use Rattle.explanation_lines.proofs.LineBounds.{Few, longestLine, longestValue, part-bound, faulty-bound, left-bound, field-bound, mark-bound, answer-bound, fault-line-bound, arrival-bound, start-bound}
-use Rattle.explanation.specs.Telling.{longestLines, valueLines, fieldTold, partTold, reasonWord, endingLine, toldBy, nextTold}
+use Rattle.explanation.specs.Telling.{longestLines, fieldTold, partTold, reasonWord, endingLine, toldBy, nextTold}
 use Rattle.explanation.specs.declared.Ending.{Ending}
 use Rattle.explanation.specs.declared.Ending.the-variants.{Answered, Fault, Read}
 use Rattle.explanation.specs.declared.Due.{Due}

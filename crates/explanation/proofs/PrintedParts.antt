@@ -13,8 +13,8 @@ use Rattle.parts.specs.declared.Cursor.{Cursor}
 use Rattle.parts.specs.declared.NextPart.{NextPart}
 use Rattle.explained.specs.Explaining.{Explained}
 use Rattle.explained.specs.Tiling.{Tells, part, before, here, all}
-use Rattle.explanation_lines.specs.Lines.{fieldLine, stepLines}
-use Rattle.explanation.specs.Telling.{Telling, telling, valueLines, dueAfter, fieldTold, afterStep, partTold, endingLine, nextTold, isNothing}
+use Rattle.explanation_lines.specs.Lines.{fieldLine, stepLines, valueLines}
+use Rattle.explanation.specs.Telling.{Telling, telling, dueAfter, fieldTold, afterStep, partTold, endingLine, nextTold, isNothing}
 use Rattle.explanation.specs.Printing as printing
 use Rattle.explanation.specs.Printing.{Prints, PartLines, over, more}
 use Rattle.explanation.specs.declared.Ending.{Ending}

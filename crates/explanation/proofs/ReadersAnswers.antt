@@ -14,8 +14,8 @@ use Rattle.parts.specs.declared.Subject.the-variants.{Message}
 use Rattle.explained.specs.Explaining.{messageExplained}
 use Rattle.explained.specs.Tiling.{forget}
 use Rattle.explained.proofs.Theorems.{tells, message-answers}
-use Rattle.explanation_lines.specs.Lines.{fieldLine, answerLine}
-use Rattle.explanation.specs.Telling.{valueLines, endingLine, fieldBegun, messageBegun}
+use Rattle.explanation_lines.specs.Lines.{fieldLine, answerLine, valueLines}
+use Rattle.explanation.specs.Telling.{endingLine, fieldBegun, messageBegun}
 use Rattle.explanation.specs.Printing.{Prints, PartLines}
 use Rattle.explanation.specs.declared.Ending.{Ending}
 use Rattle.explanation.specs.declared.Ending.the-variants.{Read}

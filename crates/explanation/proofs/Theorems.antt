@@ -8,9 +8,9 @@ use Rattle.common.specs.Answer.{number}
 use Rattle.message.specs.Reading.{readOf}
 use Rattle.trace.specs.Fields.{offsetOf}
 use Rattle.explained.specs.Explaining.{messageExplained}
-use Rattle.explanation_lines.specs.Lines.{fieldLine, answerLine}
+use Rattle.explanation_lines.specs.Lines.{fieldLine, answerLine, valueLines}
 use Rattle.columns.specs.Pouring.{filling, pour}
-use Rattle.explanation.specs.Telling.{longestLines, valueLines, endingLine, nextTold, fieldBegun, messageBegun}
+use Rattle.explanation.specs.Telling.{longestLines, endingLine, nextTold, fieldBegun, messageBegun}
 use Rattle.explanation.specs.Printing.{Prints, PartLines}
 use Rattle.explanation.specs.declared.Ending.{Ending}
 use Rattle.explanation.specs.declared.Explaining.{Explaining}

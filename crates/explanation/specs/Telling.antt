@@ -14,7 +14,7 @@ use Rattle.parts.specs.declared.Step.{Step}
 use Rattle.parts.specs.declared.Step.the-variants.{Part as APart, Refused as IsRefused, Faulty, Whole}
 use Rattle.trace.specs.Fields.{offsetOf}
 use Rattle.columns.specs.Pouring.{filling, pour}
-use Rattle.explanation_lines.specs.Lines.{fieldLine, stepLines, answerLine, faultLine, arrivalLines, startLines}
+use Rattle.explanation_lines.specs.Lines.{fieldLine, valueLines, stepLines, answerLine, faultLine}
 use Rattle.explanation_lines.specs.declared.Word.{Word}
 use Rattle.explanation_lines.specs.declared.Word.the-variants.{NoTag as SaysNoTag, NotFirst as SaysNotFirst, SecondStart as SaysSecondStart, NoStart as SaysNoStart, NoMessage as SaysNoMessage, NoArrival as SaysNoArrival}
 use Rattle.explanation.specs.declared.Reason.{Reason}
@@ -48,12 +48,7 @@ onTo e c = record { due = e .due; cursor = c; ending = e .ending; offset = e .of
 
 -- ---- a field
 
--- the values of a start and of an arrival are shown with their field,
-unfoldable pub valueLines : ℕ → ℕ → List ℕ → List ℕ
-valueLines tag offset value =
-    pick (eqb tag 1) (startLines offset value) (pick (eqb tag 3) (arrivalLines offset value) [])
-
--- that of a message part by part
+-- the value of a message is shown part by part
 unfoldable pub dueAfter : ℕ → Due
 dueAfter tag = pick (eqb tag 2) PartDue (TheEnding 0)
 

@@ -2,7 +2,7 @@
 ghost use mathlib.Core.Path.{_≡_};
 ghost use lib.ListN.{getD};
 ghost use Rattle.columns.specs.Pouring.{filling, pour};
-ghost use Rattle.explanation.specs.Telling.{duly, onTo, valueLines, dueAfter, fieldTold, afterStep, partTold, reasonWord, endingLine, nextTold, Tells, fieldBegun, messageBegun, isNothing};
+ghost use Rattle.explanation.specs.Telling.{duly, onTo, dueAfter, fieldTold, afterStep, partTold, reasonWord, endingLine, nextTold, Tells, fieldBegun, messageBegun, isNothing};
 ghost use Rattle.explanation.specs.declared.Due.the-variants.{Nothing};
 use crate::Due;
 use crate::Ending;
@@ -12,10 +12,9 @@ use crate::Reason;
 use explanation_lines::Word;
 use explanation_lines::at_most;
 use explanation_lines::put_answer;
-use explanation_lines::put_arrival;
 use explanation_lines::put_field_line;
+use explanation_lines::put_field_value;
 use explanation_lines::put_reason;
-use explanation_lines::put_start;
 use explanation_lines::put_step;
 use parts::NextPart;
 use parts::Step;
@@ -100,14 +99,16 @@ pub fn next(out: &mut [u8], at: usize, field: &[u8], e: Explaining) -> NextLines
     ensures { λ r. ⌜ Tells (nextTold (now (field .entry)) e) (now (out .entry)) at r (now (out .exit)) ⌝ }
 {
     let due = e.due;
-    let ending = e.ending;
     match due {
         Due::Field => tell_field(out, at, field, e),
         Due::Part => tell_part(out, at, field, e),
-        Due::Ending(read) => NextLines {
-            at: put_ending(out, at, ending, read),
-            next: duly(e, Due::Nothing),
-        },
+        Due::Ending(read) => {
+            let ending = e.ending;
+            NextLines {
+                at: put_ending(out, at, ending, read),
+                next: duly(e, Due::Nothing),
+            }
+        }
         Due::Nothing => NextLines { at, next: e },
     }
 }
@@ -121,20 +122,8 @@ fn tell_field(out: &mut [u8], at: usize, field: &[u8], e: Explaining) -> NextLin
     let offset = std::num::wrapping_add_u64(e.offset, e.start as u64);
     let line = put_field_line(out, at, e.offset, field);
     NextLines {
-        at: put_value(out, line, tag, offset, &field[start..]),
+        at: put_field_value(out, line, tag, offset, &field[start..]),
         next: duly(e, due_after(tag)),
-    }
-}
-
-// The value of a start, or of an arrival; a message's is told part by part.
-fn put_value(out: &mut [u8], at: usize, tag: u8, offset: u64, s: &[u8]) -> usize
-    ensures { λ r. ⌜ filling (now (out .exit)) r ≡ pour (filling (now (out .entry)) at)
-        (valueLines tag offset (now (s .entry))) ⌝ }
-{
-    match tag {
-        1 => put_start(out, at, offset, s),
-        3 => put_arrival(out, at, offset, s),
-        _ => at,
     }
 }
 

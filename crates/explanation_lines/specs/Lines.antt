@@ -158,6 +158,11 @@ startLines offset s =
     guard (ltb 0 (length s)) (letters "cut" ++ newline ++ markLine 1)
     (decimalOf (getD s 0 0) ++ newline ++ numberLines (MaximumSubscribeId ∷ []) offset s 1)
 
+-- the values of a start and of an arrival are shown with their field
+unfoldable pub valueLines : ℕ → ℕ → List ℕ → List ℕ
+valueLines tag offset value =
+    pick (eqb tag 1) (startLines offset value) (pick (eqb tag 3) (arrivalLines offset value) [])
+
 -- ---- a field that the trace's end cuts
 
 unfoldable pub cutFieldLine : ℕ → List ℕ → List ℕ

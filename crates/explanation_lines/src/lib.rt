@@ -17,6 +17,7 @@ pub use lines::put_mark;
 pub use lines::put_part_line;
 pub use lines::put_reason;
 pub use numbers::put_arrival;
+pub use numbers::put_field_value;
 pub use numbers::put_start;
 pub use steps::put_step;
 

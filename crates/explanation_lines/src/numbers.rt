@@ -6,7 +6,7 @@ ghost use Rattle.columns.specs.Pouring.{filling, pour};
 ghost use Rattle.parts.specs.Telling.{partOf};
 ghost use Rattle.parts.specs.declared.What.the-variants.{Number};
 ghost use Rattle.layout.specs.declared.FieldName.the-variants.{MaximumSubscribeId};
-ghost use Rattle.explanation_lines.specs.Lines.{partLine, cutLines, numberLines, arrivalLines, startLines};
+ghost use Rattle.explanation_lines.specs.Lines.{partLine, cutLines, numberLines, arrivalLines, startLines, valueLines};
 use crate::clamping::first_byte;
 use crate::clamping::put_margin;
 use crate::lines::put_faulty_line;
@@ -129,4 +129,16 @@ pub fn put_start(out: &mut [u8], at: usize, offset: u64, s: &[u8]) -> usize
     let part = put_item(out, called, Item::Number(first_byte(s) as u64));
     let next = put_byte(out, part, b'\n');
     put_last(out, next, offset, s, FieldName::MaximumSubscribeId, 1)
+}
+
+// The value of a start, or of an arrival; a message's is told part by part.
+pub fn put_field_value(out: &mut [u8], at: usize, tag: u8, offset: u64, s: &[u8]) -> usize
+    ensures { λ r. ⌜ filling (now (out .exit)) r ≡ pour (filling (now (out .entry)) at)
+        (valueLines tag offset (now (s .entry))) ⌝ }
+{
+    match tag {
+        1 => put_start(out, at, offset, s),
+        3 => put_arrival(out, at, offset, s),
+        _ => at,
+    }
 }

@@ -1,14 +1,14 @@
--- `put_value` meets its contract. Assumes nothing.
+-- `put_field_value` meets its contract. Assumes nothing.
 use borrow.Author.Needs.{needs}
 use borrow.Author.Tests.{ne-eqb}
 use Rattle.columns.specs.Pouring.{pour}
-use Rattle.explanation.specs.Telling.{valueLines}
-use Rattle.explanation.proofs.telling.put_value.Statement.{statement}
-use Rattle.explanation.proofs.telling.put_value.Tie as tie
+use Rattle.explanation_lines.specs.Lines.{valueLines}
+use Rattle.explanation_lines.proofs.numbers.put_field_value.Statement.{statement}
+use Rattle.explanation_lines.proofs.numbers.put_field_value.Tie as tie
 
-pub put-value-spec : {M : Type 1} → statement M
+pub put-field-value-spec : {M : Type 1} → statement M
 unfolding pour valueLines
-put-value-spec =
+put-field-value-spec =
     tie.close
     (tie.spec
     (λ c κs. search needs) (λ c κs. search needs)
