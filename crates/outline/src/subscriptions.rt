@@ -107,8 +107,8 @@ pub fn subscribe_ok(v: &[u64]) -> Ahead
         1 => return number(FieldName::Expires),
         2 => return byte(FieldName::GroupOrder),
         _ => match v[2] {
-            1..=2 => content(&v[3..]),
-            _ => Ahead::Forbidden,
+            1..=2 => return content(&v[3..]),
+            _ => return Ahead::Forbidden,
         },
     }
 }

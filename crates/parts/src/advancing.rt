@@ -21,11 +21,11 @@ fn typed_as(outline: Outline, number: u64) -> Outline
     ensures { λ r. ⌜ r ≡ typedAs outline number ⌝ }
 {
     match outline {
-        Outline::Message(_) => Outline::Message(number),
-        Outline::Datagram(_) => Outline::Datagram(number),
-        Outline::Stream(_) => Outline::Stream(number),
-        Outline::SubgroupObject => Outline::SubgroupObject,
-        Outline::FetchObject => Outline::FetchObject,
+        Outline::Message(_) => return Outline::Message(number),
+        Outline::Datagram(_) => return Outline::Datagram(number),
+        Outline::Stream(_) => return Outline::Stream(number),
+        Outline::SubgroupObject => return Outline::SubgroupObject,
+        Outline::FetchObject => return Outline::FetchObject,
     }
 }
 

@@ -31,11 +31,11 @@ fn outline_by(subject: Subject) -> Outline
     ensures { λ r. ⌜ r ≡ outlineBy subject ⌝ }
 {
     match subject {
-        Subject::Message => Outline::Message(0),
-        Subject::Datagram => Outline::Datagram(0),
-        Subject::Stream => Outline::Stream(0),
-        Subject::SubgroupObject => Outline::SubgroupObject,
-        Subject::FetchObject => Outline::FetchObject,
+        Subject::Message => return Outline::Message(0),
+        Subject::Datagram => return Outline::Datagram(0),
+        Subject::Stream => return Outline::Stream(0),
+        Subject::SubgroupObject => return Outline::SubgroupObject,
+        Subject::FetchObject => return Outline::FetchObject,
     }
 }
 
@@ -43,11 +43,11 @@ fn first_stage(subject: Subject) -> Stage
     ensures { λ r. ⌜ r ≡ firstStage subject ⌝ }
 {
     match subject {
-        Subject::Message => Stage::TypeNumber,
-        Subject::Datagram => Stage::TypeNumber,
-        Subject::Stream => Stage::TypeNumber,
-        Subject::SubgroupObject => Stage::Field,
-        Subject::FetchObject => Stage::Field,
+        Subject::Message => return Stage::TypeNumber,
+        Subject::Datagram => return Stage::TypeNumber,
+        Subject::Stream => return Stage::TypeNumber,
+        Subject::SubgroupObject => return Stage::Field,
+        Subject::FetchObject => return Stage::Field,
     }
 }
 

@@ -31,11 +31,11 @@ pub fn kind_in(form: Form) -> Kind
     ensures { λ r. ⌜ r ≡ kindIn form ⌝ }
 {
     match form {
-        Form::List(kind) => kind,
-        Form::Track => Kind::Namespace,
-        Form::Integer => Kind::Namespace,
-        Form::Byte => Kind::Namespace,
-        Form::Bytes => Kind::Namespace,
+        Form::List(kind) => return kind,
+        Form::Track => return Kind::Namespace,
+        Form::Integer => return Kind::Namespace,
+        Form::Byte => return Kind::Namespace,
+        Form::Bytes => return Kind::Namespace,
     }
 }
 
@@ -45,10 +45,10 @@ pub fn expected(c: Cursor) -> Expected
     let place = c.place;
     let stage = c.stage;
     match stage {
-        Stage::TypeNumber => Expected::Number(FieldName::MessageType, What::Number),
-        Stage::Length => Expected::Number(FieldName::MessageLength, What::Length),
-        Stage::Refused(number) => Expected::Refused(number),
-        _ => expected_ahead(ahead_at(place), stage),
+        Stage::TypeNumber => return Expected::Number(FieldName::MessageType, What::Number),
+        Stage::Length => return Expected::Number(FieldName::MessageLength, What::Length),
+        Stage::Refused(number) => return Expected::Refused(number),
+        _ => return expected_ahead(ahead_at(place), stage),
     }
 }
 
@@ -56,9 +56,9 @@ fn expected_ahead(ahead: Ahead, stage: Stage) -> Expected
     ensures { λ r. ⌜ r ≡ expectedAhead ahead stage ⌝ }
 {
     match ahead {
-        Ahead::Field(name, form) => expected_in(name, form, stage),
-        Ahead::Done => Expected::End,
-        Ahead::Forbidden => Expected::Refused(5),
+        Ahead::Field(name, form) => return expected_in(name, form, stage),
+        Ahead::Done => return Expected::End,
+        Ahead::Forbidden => return Expected::Refused(5),
     }
 }
 
@@ -67,12 +67,12 @@ fn expected_in(name: FieldName, form: Form, stage: Stage) -> Expected
     ensures { λ r. ⌜ r ≡ expectedIn name form stage ⌝ }
 {
     match stage {
-        Stage::Content(size) => Expected::Bytes(name, What::Content, size),
-        Stage::Entry(_, _) => entry_first(name, kind_in(form)),
-        Stage::EntryLength(_, _) => Expected::Number(name, What::EntryLength),
-        Stage::EntryContent(_, _, size) => Expected::Bytes(name, What::EntryContent, size),
-        Stage::NameLength(_) => Expected::Number(name, What::Length),
-        _ => first(name, form),
+        Stage::Content(size) => return Expected::Bytes(name, What::Content, size),
+        Stage::Entry(_, _) => return entry_first(name, kind_in(form)),
+        Stage::EntryLength(_, _) => return Expected::Number(name, What::EntryLength),
+        Stage::EntryContent(_, _, size) => return Expected::Bytes(name, What::EntryContent, size),
+        Stage::NameLength(_) => return Expected::Number(name, What::Length),
+        _ => return first(name, form),
     }
 }
 
@@ -81,11 +81,11 @@ fn first(name: FieldName, form: Form) -> Expected
     ensures { λ r. ⌜ r ≡ firstOf name form ⌝ }
 {
     match form {
-        Form::Integer => Expected::Number(name, What::Number),
-        Form::Byte => Expected::Byte(name),
-        Form::Bytes => Expected::Number(name, What::Length),
-        Form::List(_) => Expected::Number(name, What::Count),
-        Form::Track => Expected::Number(name, What::Count),
+        Form::Integer => return Expected::Number(name, What::Number),
+        Form::Byte => return Expected::Byte(name),
+        Form::Bytes => return Expected::Number(name, What::Length),
+        Form::List(_) => return Expected::Number(name, What::Count),
+        Form::Track => return Expected::Number(name, What::Count),
     }
 }
 
@@ -94,8 +94,8 @@ fn entry_first(name: FieldName, kind: Kind) -> Expected
     ensures { λ r. ⌜ r ≡ entryFirst name kind ⌝ }
 {
     match kind {
-        Kind::Namespace => Expected::Number(name, What::EntryLength),
-        Kind::Parameters => Expected::Number(name, What::EntryNumber),
-        Kind::Versions => Expected::Number(name, What::EntryNumber),
+        Kind::Namespace => return Expected::Number(name, What::EntryLength),
+        Kind::Parameters => return Expected::Number(name, What::EntryNumber),
+        Kind::Versions => return Expected::Number(name, What::EntryNumber),
     }
 }

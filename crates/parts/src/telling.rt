@@ -137,14 +137,14 @@ fn cut_number(outline: Outline, stage: Stage) -> u8
 {
     match outline {
         Outline::Message(_) => match stage {
-            Stage::TypeNumber => 1,
-            Stage::Length => 1,
-            _ => 4,
+            Stage::TypeNumber => return 1,
+            Stage::Length => return 1,
+            _ => return 4,
         },
-        Outline::Datagram(_) => 4,
-        Outline::Stream(_) => 1,
-        Outline::SubgroupObject => 1,
-        Outline::FetchObject => 1,
+        Outline::Datagram(_) => return 4,
+        Outline::Stream(_) => return 1,
+        Outline::SubgroupObject => return 1,
+        Outline::FetchObject => return 1,
     }
 }
 
@@ -180,10 +180,10 @@ fn must_fill(outline: Outline) -> bool
     ensures { λ r. ⌜ r ≡ mustFill outline ⌝ }
 {
     match outline {
-        Outline::Message(_) => true,
-        Outline::Datagram(number) => number == OBJECT_DATAGRAM_STATUS,
-        Outline::Stream(_) => false,
-        Outline::SubgroupObject => false,
-        Outline::FetchObject => false,
+        Outline::Message(_) => return true,
+        Outline::Datagram(number) => return number == OBJECT_DATAGRAM_STATUS,
+        Outline::Stream(_) => return false,
+        Outline::SubgroupObject => return false,
+        Outline::FetchObject => return false,
     }
 }

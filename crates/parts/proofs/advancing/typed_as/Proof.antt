@@ -7,8 +7,8 @@ pub typed-as-spec : {M : Type 1} → statement M
 typed-as-spec =
     tie.close
     (tie.spec
-    (λ c. search needs) (λ c. search needs) (λ c. search needs) (λ c. search needs) (λ c. search needs)
-    (λ c. rw (c .enum-told .given .1))
-    (λ c. rw (c .enum-told2 .given .1))
-    (λ c. rw (c .enum-told3 .given .1))
+    (λ c. search needs) (λ c. rw (c .enum-told .given .1))
+    (λ c. search needs) (λ c. rw (c .enum-told2 .given .1))
+    (λ c. search needs) (λ c. rw (c .enum-told3 .given .1))
+    (λ c. search needs) (λ c. search needs)
     (λ c. search needs) (λ c. search needs))

@@ -10,8 +10,7 @@ unfolding expectedOf
 expected-spec =
     tie.close
     (tie.spec
-    (λ c. search needs) (λ c. search needs) (λ c. search needs) (λ c κs. search needs) (λ c κs. search needs)
-    (λ c. rw (c .enum-told .given .1))
-    (λ c. rw (c .enum-told2 .given .1))
-    (λ c. rw (c .before .stage .given .1))
-    (λ c. asked-for (c .before .before .before .before .args .c) (c .before .before .match .keys4) (c .before .ahead-at .ensures) (c .expected-ahead .ensures)))
+    (λ c. search needs) (λ c. rw (c .enum-told .given .1))
+    (λ c. search needs) (λ c. rw (c .enum-told2 .given .1))
+    (λ c. search needs) (λ c. rw (c .before .stage .given .1))
+    (λ c κs. search needs) (λ c κs. search needs) (λ c. asked-for (c .before .before .before .before .args .c) (c .before .before .match .keys4) (c .before .ahead-at .ensures) (c .expected-ahead .ensures)))

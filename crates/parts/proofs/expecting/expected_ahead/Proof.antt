@@ -7,6 +7,6 @@ pub expected-ahead-spec : {M : Type 1} → statement M
 expected-ahead-spec =
     tie.close
     (tie.spec
-    (λ c. search needs) (λ c κs. search needs) (λ c. search needs) (λ c. search needs)
-    (λ c. rw (c .before .before .ahead .given .1) (c .expected-in .ensures))
+    (λ c. search needs) (λ c κs. search needs) (λ c. rw (c .before .before .ahead .given .1) (c .expected-in .ensures))
+    (λ c. search needs) (λ c. search needs)
     (λ c. search needs) (λ c. search needs))

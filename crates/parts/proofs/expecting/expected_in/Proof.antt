@@ -9,10 +9,9 @@ pub expected-in-spec : {M : Type 1} → statement M
 expected-in-spec =
     tie.close
     (tie.spec
-    (λ c. search needs) (λ c. search needs) (λ c κs. search needs) (λ c κs. search needs) (λ c. search needs) (λ c. search needs) (λ c. search needs) (λ c κs. search needs)
-    (λ c. rw (c .before .stage .given .1))
-    (λ c. rw (c .entry-first .ensures, c .before .kind-in .ensures, c .before .before .enum-told .given .1))
-    (λ c. rw (c .enum-told2 .given .1))
-    (λ c. rw (c .before .stage2 .given .1))
-    (λ c. rw (c .enum-told3 .given .1))
-    (λ c. let a = c .before .before .args in c .first .ensures ∙ begins (a .name) (a .form) (a .stage) (c .before .match .keys6)))
+    (λ c. search needs) (λ c. rw (c .before .stage .given .1))
+    (λ c. search needs) (λ c κs. search needs) (λ c κs. search needs) (λ c. rw (c .entry-first .ensures, c .before .kind-in .ensures, c .before .before .enum-told .given .1))
+    (λ c. search needs) (λ c. rw (c .enum-told2 .given .1))
+    (λ c. search needs) (λ c. rw (c .before .stage2 .given .1))
+    (λ c. search needs) (λ c. rw (c .enum-told3 .given .1))
+    (λ c κs. search needs) (λ c. let a = c .before .before .args in c .first .ensures ∙ begins (a .name) (a .form) (a .stage) (c .before .match .keys6)))

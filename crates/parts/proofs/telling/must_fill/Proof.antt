@@ -7,6 +7,8 @@ pub must-fill-spec : {M : Type 1} → statement M
 must-fill-spec =
     tie.close
     (tie.spec
-    (λ c. search needs) (λ c. search needs) (λ c. search needs) (λ c. search needs) (λ c. search needs) (λ c. search needs)
-    (λ c. rw (c .before .outline .given .1))
-    (λ c. search needs) (λ c. search needs) (λ c. search needs))
+    (λ c. search needs) (λ c. search needs)
+    (λ c. search needs) (λ c. rw (c .before .outline .given .1))
+    (λ c. search needs) (λ c. search needs)
+    (λ c. search needs) (λ c. search needs)
+    (λ c. search needs) (λ c. search needs))
