@@ -51,12 +51,11 @@ fn finish(p: Progress, rest: &[u8], got: isize) {
 }
 
 // The lines of all whole fields from the front of s on.
-fn print_fields(p: Progress, s: &[u8]) -> Printed
+fn print_fields(mut progress: Progress, s: &[u8]) -> Printed
     ensures { λ r. ⌜ r .used ≤ length (now (s .entry)) ⌝ }
 {
     let mut out = [0u8; 65536];
     let mut at: usize = 0;
-    let mut progress = p;
     let mut used: usize = 0;
     loop {
         let taken = explanation_traces::tell(progress, s, used);

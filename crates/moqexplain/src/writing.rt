@@ -3,7 +3,6 @@ ghost use Prim.Native.Nat.{_≤_};
 ghost use lib.ListN.{length};
 ghost use Rattle.moqexplain.specs.Ending.{Ends, Rooms};
 use explanation::Explaining;
-use explanation::NextLines;
 use libc::STDOUT_FILENO;
 use text::Putting;
 
@@ -32,22 +31,22 @@ fn make_room(out: &mut [u8], at: usize) -> Putting
 }
 
 // All lines of a field, or of a message of a control stream, after at bytes of text.
-pub fn print(out: &mut [u8], at: usize, field: &[u8], e: Explaining) -> Putting
+pub fn print(out: &mut [u8], mut at: usize, field: &[u8], mut e: Explaining) -> Putting
     requires { ⌜ at ≤ length (now out) ⌝ }
     ensures { λ r. ⌜ Ends r (length (now (out .entry))) ⌝ }
 {
-    let mut told = NextLines { at, next: e };
     let mut turns = u64::MAX;
     while turns > 0 {
         turns -= 1;
-        let left = told.next;
-        if explanation::is_over(left) {
-            return Putting::Done(told.at);
+        if explanation::is_over(e) {
+            return Putting::Done(at);
         }
-        let Putting::Done(front) = make_room(out, told.at) else {
+        let Putting::Done(front) = make_room(out, at) else {
             return Putting::TooShort;
         };
-        told = explanation::next(out, front, field, left);
+        let told = explanation::next(out, front, field, e);
+        at = told.at;
+        e = told.next;
     }
-    Putting::Done(told.at)
+    Putting::Done(at)
 }

@@ -10,10 +10,10 @@ use Rattle.moqanswers.proofs.print_fields.Statement.{statement}
 use Rattle.moqanswers.proofs.print_fields.Tie as tie
 
 abbrev Inv-loop : tie.InvT-loop
-Inv-loop s out₀ at₀ progress₀ used₀ out at progress used = (length out ≡ 65_536) × (at ≤ 65_536) × (used ≤ length s)
+Inv-loop progress₀ s out₀ at₀ used₀ progress out at used = (length out ≡ 65_536) × (at ≤ 65_536) × (used ≤ length s)
 
 abbrev μ-loop : tie.MeasureT-loop
-μ-loop s out₀ at₀ progress₀ used₀ out at progress used = length s - used
+μ-loop progress₀ s out₀ at₀ used₀ progress out at used = length s - used
 
 pub print-fields-spec : {M : Type 1} → statement M
 print-fields-spec =
