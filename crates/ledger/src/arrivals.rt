@@ -11,7 +11,6 @@ use crate::Key;
 use crate::Ledger;
 use crate::Taken;
 use crate::finding::find_row;
-use crate::finding::row_at;
 use crate::subscribing::with_row;
 use field::Arrival;
 use row::Arriving;
@@ -38,7 +37,7 @@ pub fn count(l: Ledger, a: Arrival) -> Taken
             ledger: l,
         };
     };
-    let row = row_at(l, i);
+    let row = l.rows[i];
     match row::arrive(row, place) {
         Arriving::Waiting => return Taken {
             answer: Answer::StillPending,

@@ -16,7 +16,6 @@ use crate::Part;
 use crate::Rule;
 use crate::Taken;
 use crate::finding::find_row;
-use crate::finding::row_at;
 use crate::rules::breaks;
 use crate::subscribing::no_row;
 use row::Ending;
@@ -32,7 +31,7 @@ pub fn end(l: Ledger, by: Part, ending: Ending, id: u64) -> Taken
     let Found::At(i) = find_row(l, Key::Id, id) else {
         return no_row(l, by, id);
     };
-    let row = row_at(l, i);
+    let row = l.rows[i];
     let state = row.state;
     if row::may_end(ending, state) {
         return Taken {

@@ -1,20 +1,12 @@
 // Where a row stands: by its ID, or by its alias.
 ghost use mathlib.Core.Path.{_≡_};
-ghost use Prim.Native.Nat.{_≤_, _<_};
+ghost use Prim.Native.Nat.{_≤_};
 ghost use Rattle.ledger.specs.Ledgers.{mostRows, held};
-ghost use Rattle.ledger.specs.Arrays.{find, keyOf, rowAt};
+ghost use Rattle.ledger.specs.Arrays.{find, keyOf};
 use crate::Found;
 use crate::Key;
 use crate::Ledger;
 use row::Row;
-
-// The row at a place.
-pub fn row_at(l: Ledger, i: usize) -> Row
-    requires { ⌜ i < mostRows ⌝ }
-    ensures { λ r. ⌜ r ≡ rowAt l i ⌝ }
-{
-    l.rows[i]
-}
 
 fn key_of(row: Row, key: Key) -> u64
     ensures { λ r. ⌜ r ≡ keyOf key row ⌝ }

@@ -16,7 +16,6 @@ use crate::Part;
 use crate::Rule;
 use crate::Taken;
 use crate::finding::find_row;
-use crate::finding::row_at;
 use crate::rules::breaks;
 use row::Opening;
 use row::Row;
@@ -94,7 +93,7 @@ pub fn accept(l: Ledger, m: SubscribeOk) -> Taken
         return no_row(l, Part::Publisher, m.id);
     };
     let content = m.content;
-    let row = row_at(l, i);
+    let row = l.rows[i];
     let Opening::Opened(opened) = row::open(row, content) else {
         return breaks(l, Part::Publisher, Rule::R6);
     };
