@@ -10,15 +10,9 @@ mod words;
 pub use clamping::at_most;
 pub use lines::put_answer;
 pub use lines::put_cut_field;
-pub use lines::put_faulty_line;
 pub use lines::put_field_line;
-pub use lines::put_left_line;
-pub use lines::put_mark;
-pub use lines::put_part_line;
 pub use lines::put_reason;
-pub use numbers::put_arrival;
 pub use numbers::put_field_value;
-pub use numbers::put_start;
 pub use steps::put_step;
 
 // The words that say why a trace is at fault.
