@@ -1,4 +1,3 @@
-pub mod Leads
 pub mod LayoutsJoined
 pub mod Headed
 pub mod StatusDatagrams

@@ -7,26 +7,28 @@ use crate::Lead;
 use crate::LeadRead;
 use field::ByteRead;
 use field::NumberRead;
-use field::PlaceRead;
 
-// Three numbers and a priority; the two that stand side by side are read as those of a place are.
+// Three numbers and a priority.
 pub fn read_lead(s: &[u8], at: usize) -> LeadRead
     ensures { λ r. ⌜ toldLead r ≡ scan subgroupHeader (now (s .entry)) at ⌝ }
 {
     let NumberRead::Whole(first, a) = field::read_number(s, at) else {
         return LeadRead::Cut;
     };
-    let PlaceRead::Whole(p, b) = field::read_place(s, a) else {
+    let NumberRead::Whole(second, b) = field::read_number(s, a) else {
         return LeadRead::Cut;
     };
-    let ByteRead::Whole(priority, end) = field::read_byte(s, b) else {
+    let NumberRead::Whole(third, c) = field::read_number(s, b) else {
+        return LeadRead::Cut;
+    };
+    let ByteRead::Whole(priority, end) = field::read_byte(s, c) else {
         return LeadRead::Cut;
     };
     LeadRead::Whole(
         Lead {
             first,
-            second: p.group,
-            third: p.object,
+            second,
+            third,
             priority,
         },
         end,
