@@ -1,4 +1,4 @@
-// Which values of a field are permitted, where that hangs on another field or is more than a range.
+// Which values of a field are permitted: "Forbidden field values (5)".
 ghost use mathlib.Core.Path.{_≡_};
 ghost use Rattle.types.specs.Rules.{endsAfter, isTrackStatus, mayHold};
 
@@ -9,7 +9,7 @@ pub fn ends_after(start_group: u64, end_group: u64) -> bool
     start_group <= end_group
 }
 
-// A TRACK_STATUS has one of these.
+// The status of a track: 0 to 4.
 pub fn is_track_status(status: u64) -> bool
     ensures { λ r. ⌜ r ≡ isTrackStatus status ⌝ }
 {
