@@ -38,11 +38,11 @@ use Rattle.text.specs.Lines.{itemOf, endedOf, isNone, lineOf}
 use Rattle.replay.specs.Events.{startedBy, controlBy, arrivedBy, eventOf}
 use Rattle.replay.specs.Progressing.{offsetOf, stepOf, step, fed, finishOf, replayOf}
 use Rattle.report.specs.Report.{rowsText, ledgerText, textOf, reportOf}
-use Rattle.integer.specs.Integer.{wide, room, tag, sizeOf, spell, bytesOf, encOf, readOf, putForm, writeOf}
+use Rattle.integer.specs.Integer.{wide, room, sizeOf, spell, bytesOf, encOf, readOf, putForm, writeOf}
 use Rattle.blackboard.specs.Table.{Line, answersTo, found, stated, lines}
 
 computed : map found lines ≡ map stated lines
-unfolding found stated lines wide room tag sizeOf spell bytesOf readOf putForm writeOf numberAt fieldAt scan fetchCancel messages typeRowIn typeRowOf known layoutOf bodyUpTo readUpTo writeUpTo allowed allowedOf right sized rightAll sizedAll encodeAll encode encField mean writtenOf frame encOf answersTo smallPiece smallAll askable soundOf small smallPlace isKnown smallRange countAgrees suits isRow isPending isNowhere isUnused held rising hasAlias distinct allUnused bounded isLedger stops gateOf gated upTo look turn startOf subscribeStep takeOf textAt numberedAt entryAt mostOf entriesAt few listAt placeAt place parameters givable filter delivery subscribe content subscribeOk subscriptionOf familyOf madeOf answerOf readingOf before inRange settledOf greater risen countedRow arriveOf openOf byKey noRow okAt arriveAt smallArrival arrivalOf tagOf valueOf fieldSize isWhole feedByte feed letters decimalIn decimalOf wordOf itemOf endedOf isNone lineOf startedBy controlBy arrivedBy eventOf offsetOf stepOf step fed finishOf replayOf rowsText ledgerText textOf reportOf
+unfolding found stated lines wide room sizeOf spell bytesOf readOf putForm writeOf numberAt fieldAt scan fetchCancel messages typeRowIn typeRowOf known layoutOf bodyUpTo readUpTo writeUpTo allowed allowedOf right sized rightAll sizedAll encodeAll encode encField mean writtenOf frame encOf answersTo smallPiece smallAll askable soundOf small smallPlace isKnown smallRange countAgrees suits isRow isPending isNowhere isUnused held rising hasAlias distinct allUnused bounded isLedger stops gateOf gated upTo look turn startOf subscribeStep takeOf textAt numberedAt entryAt mostOf entriesAt few listAt placeAt place parameters givable filter delivery subscribe content subscribeOk subscriptionOf familyOf madeOf answerOf readingOf before inRange settledOf greater risen countedRow arriveOf openOf byKey noRow okAt arriveAt smallArrival arrivalOf tagOf valueOf fieldSize isWhole feedByte feed letters decimalIn decimalOf wordOf itemOf endedOf isNone lineOf startedBy controlBy arrivedBy eventOf offsetOf stepOf step fed finishOf replayOf rowsText ledgerText textOf reportOf
 computed = refl
 
 -- two functions that map a list alike agree at each of its members

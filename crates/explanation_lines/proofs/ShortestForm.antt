@@ -8,7 +8,7 @@ use lib.Seq.{take-at}
 use Rattle.common.specs.Answer.{Answer, Nothing, Leaves}
 use Rattle.common.proofs.Cases.{pick-le}
 use Rattle.integer.specs.Integer.{greatest, sizeOf, encOf, writeOf}
-use Rattle.integer.proofs.Widths.{sizes}
+use Rattle.integer.proofs.Widths.{size-none}
 use Rattle.integer.proofs.Laws.{length-enc, enc-few}
 use Rattle.integer.proofs.Writes.{written}
 
@@ -22,4 +22,4 @@ pub form-written : (n : ℕ) (before : List ℕ) {after : List ℕ} {r : Answer 
 form-written n before {after} room w =
     pick-le (λ (k : ℕ). take (sizeOf n) after ≡ encOf n) n greatest {a = 0} {b = 0}
     (λ h. rw (written n before w h (omega (arith, enc-few n)) .1) (take-at (encOf n) _ (sizeOf n) (length-enc n)))
-    (λ h. rw (← sizes n .none h) (none-is (encOf n) (length-enc n ∙ sym (sizes n .none h))))
+    (λ h. rw (← size-none n h) (none-is (encOf n) (length-enc n ∙ sym (size-none n h))))

@@ -19,7 +19,7 @@ use Rattle.integer.specs.Bytes.{spell, bytesOf}
 use Rattle.integer.specs.Edition.{Form, Edition, roomOf, shareOf, longestForm, isEdition, begunBy, ofBytes, fewestFor, readBy, ledBy, encBy, putForm, writeBy}
 use Rattle.integer.proofs.Digits.{length-bytesOf, spell-bytesOf, head-bytesOf, spelt, spelt-first}
 use Rattle.integer.proofs.Tables.{In}
-use Rattle.integer.proofs.Forms.{facts, some, split, leading, begun, begun-is, of-bytes, fewest, fewest-least, few}
+use Rattle.integer.proofs.Forms.{facts, some, split, leading, begun, begun-is, of-bytes, fewest, the-form, fewest-least, few}
 
 -- ---- a whole integer at the front of bytes, by its parts
 
@@ -218,3 +218,13 @@ module _ (edition : Edition) (n : ℕ) (before : List ℕ) where
       let t = le-leb (fewestFor edition n .bytes) (length before) (rw l at h) in
       let e = write-is g in
       (w .says ∙ rw (e, t, l), w .holds ∙ rw (e, t))
+
+-- the row of a number, known by its bytes: it has room, and its form is put
+module _ (edition : Edition) (sound : T (isEdition edition)) {form : Form} (i : In form edition) (n : ℕ) (size : fewestFor edition n .bytes ≡ form .bytes) where
+  pub row-fits : n < roomOf form
+  row-fits = omega (arith, the-form edition sound i n size .1, facts edition sound i .top)
+
+  pub row-put : (before : List ℕ) → writeBy edition n before ≡ putForm (form .bytes) (ledBy form n) before
+  row-put before =
+      let f = the-form edition sound i n size in
+      write-is edition n before (omega (arith, f .1, few edition sound i .1)) ∙ ap (λ (g : Form). putForm (g .bytes) (ledBy g n) before) (f .0)

@@ -2,16 +2,16 @@
 use Prim.Native.Nat.{ℕ, zero, suc, _+_, _-_, _*_, _/_, _%_, _^_, _≤_, _<_, zero-le}
 use mathlib.Core.Path.{_≡_, refl, sym, ap, _∙_}
 use mathlib.Core.Bool.{Bool, true, false}
-use mathlib.Core.List.{_∷_}
-use native.Mathlib.Nat.{div-lt-iff-lt-mul, le-div-iff-mul-le, mod-lt, zero-lt-suc, suc-mul, div-div-eq-div-mul, mul-comm, pow-suc}
+use mathlib.Core.List.{[], _∷_}
+use native.Mathlib.Nat.{lt-of-not-le, div-lt-iff-lt-mul, le-div-iff-mul-le, mod-lt, zero-lt-suc, suc-mul, div-div-eq-div-mul, mul-comm, pow-suc}
 use native.Mathlib.Omega.{arith}
 use lib.Arith.{digits-div}
 use lib.Dec.{T, leb, eqb}
 use lib.Pow.{pow-add, pow-pos}
-use borrow.Author.Tests.{leb-true, leb-false, le-leb, eq-eqb, eqb-true, eqb-false, ne-eqb}
+use borrow.Author.Tests.{leb-true, leb-false, le-leb, lt-leb, eq-eqb, eqb-true, eqb-false, ne-eqb}
 use Rattle.common.proofs.Cases.{pick-by}
 use Rattle.integer.specs.Edition.{Form, Edition, noForm, roomOf, shareOf, longestForm, isEdition, firstOf, begunBy, ofBytes, fewestFor}
-use Rattle.integer.proofs.Tables.{Ordered, end, next, ordered, In, here, there, Behind, behind, up-to-last, longest-in, sole, first-taken, first-few}
+use Rattle.integer.proofs.Tables.{Ordered, end, next, ordered, In, here, there, Behind, behind, up-to-last, longest-in, Each, any, sole, first-by, first-taken}
 
 -- ---- a first byte, and whose share it is in
 
@@ -44,6 +44,20 @@ begun-in b (next {form} {forms} n o) h k =
     let on = past-share (form .tag) (shareOf form) b (omega (arith, n .lead)) (eqb-false _ _ t) in
     let r = begun-in b o on k in
     (there (r .0), r .1))
+
+-- ---- a number, and whose range it is in
+
+-- The range of a form: above the greatest number of each form before it, and up to its own. Above them all there is no form.
+pub data InRange (n : ℕ) : Form → Edition → Type 0 where
+  within : {form : Form} {forms : Edition} → n ≤ form .greatest → InRange n form (form ∷ forms)
+  above : {other form : Form} {forms : Edition} → other .greatest < n → InRange n form forms → InRange n form (other ∷ forms)
+  above-all : InRange n noForm []
+
+pub fewest-is : {n : ℕ} {form : Form} {edition : Edition} → InRange n form edition → fewestFor edition n ≡ form
+unfolding fewestFor
+fewest-is {n} (within {form} h) = rw (le-leb n (form .greatest) h)
+fewest-is {n} (above {other} h r) = rw (lt-leb n (other .greatest) h) (fewest-is r)
+fewest-is above-all = refl
 
 -- ---- each form, and the three ways to find one
 
@@ -101,6 +115,20 @@ module _ (edition : Edition) (sound : T (isEdition edition)) where
       let r = first-taken _ in-order (longest-in in-order) (le-leb n _ h) in
       (r .is-in, leb-true _ _ (r .taken))
 
+  -- a width that no form has is that of a number above it;
+  pub no-form : (n : ℕ) {width : ℕ} → width ≡ fewestFor edition n .bytes → Each (λ form. width ≡ form .bytes → ⊥) edition → longestForm edition .greatest < n
+  no-form n e others = lt-of-not-le (λ h. any (fewest n h .0) others e)
+
+  -- it is known by its bytes, and has room;
+  pub the-form : {form : Form} → In form edition → (n : ℕ) → fewestFor edition n .bytes ≡ form .bytes → (fewestFor edition n ≡ form) × (n ≤ form .greatest)
+  unfolding fewestFor
+  the-form {form} i n =
+      first-by (λ (found : Form). found .bytes ≡ form .bytes → (found ≡ form) × (n ≤ form .greatest)) _ edition
+      (λ found j t e.
+      let same = sym (of-bytes j) ∙ ap (ofBytes edition) e ∙ of-bytes i in
+      (same, rw (← same) (leb-true _ _ t)))
+      (λ e. absurd (omega (arith, e, some i)))
+
   -- and no form that has room for the number is shorter
   pub fewest-least : {form : Form} → In form edition → (n : ℕ) → n ≤ form .greatest → fewestFor edition n .bytes ≤ form .bytes
   unfolding fewestFor
@@ -110,6 +138,12 @@ module _ (edition : Edition) (sound : T (isEdition edition)) where
   pub few : {form : Form} → In form edition → (form .bytes ≤ longestForm edition .bytes) × (form .greatest ≤ longestForm edition .greatest)
   few i = up-to-last in-order i
 
+  -- so there is none for a number above it
+  pub fewest-none : (n : ℕ) → longestForm edition .greatest < n → fewestFor edition n ≡ noForm
+  unfolding fewestFor
+  fewest-none n h =
+      first-by (λ (found : Form). found ≡ noForm) _ edition (λ form i t. absurd (omega (arith, leb-true n (form .greatest) t, few i .1))) refl
+
   pub fewest-few : (n : ℕ) → fewestFor edition n .bytes ≤ longestForm edition .bytes
   unfolding fewestFor
-  fewest-few n = first-few _ in-order
+  fewest-few n = first-by (λ (found : Form). found .bytes ≤ longestForm edition .bytes) _ edition (λ found i t. few i .0) zero-le

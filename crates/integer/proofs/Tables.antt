@@ -1,5 +1,5 @@
 -- What the test of an edition's table shows of each form in it, and of the first that some other test takes. Assumes nothing.
-use Prim.Native.Nat.{ℕ, suc, _-_, _*_, _≤_, _<_, zero-le}
+use Prim.Native.Nat.{ℕ, suc, _-_, _*_, _≤_, _<_}
 use mathlib.Core.Path.{_≡_}
 use mathlib.Core.Bool.{Bool, true, false}
 use mathlib.Core.List.{[], _∷_}
@@ -56,6 +56,15 @@ pub data In (form : Form) : Edition → Type 0 where
   here : {forms : Edition} → In form (form ∷ forms)
   there : {other : Form} {forms : Edition} → In form forms → In form (other ∷ forms)
 
+-- what is so of each is so of any
+pub data Each (P : Form → Type 0) : Edition → Type 0 where
+  no-more : Each P []
+  and : {form : Form} {forms : Edition} → P form → Each P forms → Each P (form ∷ forms)
+
+pub any : {P : Form → Type 0} {form : Form} {edition : Edition} → In form edition → Each P edition → P form
+any here (and p all) = p
+any (there i) (and p all) = any i all
+
 -- of a form that stands anywhere after another, whose first bytes ended at from
 pub record Behind (from : ℕ) (before form : Form) : Type 0 where
   pub longer : before .bytes < form .bytes
@@ -98,6 +107,12 @@ pub sole : (takes : Form → Bool) {from : ℕ} {before form : Form} {edition : 
 sole takes (next n o) here t others = rw t
 sole takes (next {form = other} n o) (there i) t others = rw (others other (behind o i)) (sole takes o i t others)
 
+-- is one that it takes, or none;
+pub first-by : (P : Form → Type 0) (takes : Form → Bool) (edition : Edition) → ((form : Form) → In form edition → takes form ≡ true → P form) → P noForm → P (firstOf takes edition)
+first-by P takes [] one none = none
+first-by P takes (form ∷ forms) one none =
+    pick-by P (takes form) (one form here) (λ t. first-by P takes forms (λ other i. one other (there i)) none)
+
 -- is no longer than any that it takes;
 pub record Taken (takes : Form → Bool) (edition : Edition) (form found : Form) : Type 0 where
   pub is-in : In found edition
@@ -110,9 +125,3 @@ first-taken takes {form} (next {form = other} {forms} n o) (there i) t =
     pick-by (Taken takes (other ∷ forms) form) (takes other)
     (λ u. let b = behind o i in record { is-in = here; taken = u; no-longer = omega (arith, b .longer) })
     (λ u. let r = first-taken takes o i t in record { is-in = there (r .is-in); taken = r .taken; no-longer = r .no-longer })
-
--- and is no longer than the last
-pub first-few : (takes : Form → Bool) {from : ℕ} {before : Form} {edition : Edition} → Ordered from before edition → firstOf takes edition .bytes ≤ lastOf before edition .bytes
-first-few takes end = zero-le
-first-few takes (next {form} {forms} n o) =
-    pick-by (λ (found : Form). found .bytes ≤ lastOf form forms .bytes) (takes form) (λ t. rising o .0) (λ t. first-few takes o)

@@ -1,17 +1,19 @@
 -- What a writer of integers does, answer by answer; and what those who call it may take from that. Assumes nothing.
-use Prim.Native.Nat.{ℕ, _+_, _*_, _≤_, _<_}
-use mathlib.Core.Path.{_≡_, sym, ap, _∙_}
+use Prim.Native.Nat.{ℕ, _≤_, _<_}
+use mathlib.Core.Path.{_≡_, sym, _∙_}
 use mathlib.Core.List.{List, _++_}
 use lib.ListN.{length, drop}
 use borrow.Author.Tests.{le-leb, lt-leb}
 use Rattle.common.specs.Answer.{Answer, Nothing, refused, wrote, Leaves}
 use Rattle.common.specs.Buffer.{over, Put}
-use Rattle.integer.specs.Edition.{Form, ledBy}
-use Rattle.integer.specs.Integer.{rfc9000, room, tag, sizeOf, greatest, bytesOf, encOf, putForm, writeOf}
+use Rattle.integer.specs.Edition.{Form, roomOf, ledBy}
+use Rattle.integer.specs.Integer.{rfc9000, sizeOf, greatest, bytesOf, encOf, putForm, writeOf}
 use Rattle.integer.proofs.Digits.{length-bytesOf}
 use Rattle.integer.proofs.Laws.{length-enc}
 use Rattle.integer.proofs.Editions
-use Rattle.integer.proofs.Widths.{size-some, size-room, size-form}
+use Rattle.integer.proofs.Forms
+use Rattle.integer.proofs.Tables.{In, Each}
+use Rattle.integer.proofs.Widths.{table}
 
 -- ---- a form that was chosen
 
@@ -31,18 +33,20 @@ pub write-great : (n : ℕ) (before : List ℕ) → greatest < n → Leaves (wri
 unfolding writeOf
 write-great n before h = Editions.write-great rfc9000 n before h
 
--- up to the greatest, its form is put
-pub write-is : (n : ℕ) (before : List ℕ) → n ≤ greatest → writeOf n before ≡ putForm (sizeOf n) (tag (sizeOf n) * room (sizeOf n) + n) before
-unfolding writeOf tag room
-write-is n before h =
-    Editions.write-is rfc9000 n before h ∙ ap (λ (form : Form). putForm (sizeOf n) (ledBy form n) before) (sym (size-form n h))
+-- by its width: no row has it, and the number is too great,
+pub no-row : (n : ℕ) {width : ℕ} (before : List ℕ) → width ≡ sizeOf n → Each (λ form. width ≡ form .bytes → ⊥) rfc9000 → Leaves (writeOf n before) (refused 5) before
+unfolding sizeOf
+no-row n before e others = write-great n before (Forms.no-form rfc9000 table n e others)
 
--- an arm of the choice: w is the size
-pub write-arm : (n w : ℕ) (before : List ℕ) → w ≡ sizeOf n → 0 < w → writeOf n before ≡ putForm w (tag w * room w + n) before
-write-arm n w before e h = rw (write-is n before (size-some n (rw (← e) h)), ← e)
+-- or a row has it, whose form is put
+module _ {form : Form} (i : In form rfc9000) (n : ℕ) {width : ℕ} (chosen : width ≡ sizeOf n) (size : width ≡ form .bytes) where
+  pub row-fits : n < roomOf form
+  unfolding sizeOf
+  row-fits = Editions.row-fits rfc9000 table i n (sym chosen ∙ size)
 
-pub arm-fits : (n w : ℕ) → w ≡ sizeOf n → 0 < w → n < room w
-arm-fits n w e h = rw e (size-room n (size-some n (rw (← e) h)))
+  pub row-put : (before : List ℕ) → writeOf n before ≡ putForm (form .bytes) (ledBy form n) before
+  unfolding writeOf
+  row-put before = Editions.row-put rfc9000 table i n (sym chosen ∙ size) before
 
 -- ---- for callers: where there is room, the shortest form stands at the front, and every byte after it as it was
 

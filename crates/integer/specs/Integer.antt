@@ -34,11 +34,6 @@ unfoldable pub room : ℕ → ℕ
 unfolding ofBytes
 room width = roomOf (ofBytes rfc9000 width)
 
--- the top two bits of a form of that many bytes
-unfoldable pub tag : ℕ → ℕ
-unfolding ofBytes
-tag width = ofBytes rfc9000 width .tag
-
 -- the greatest number that can be written
 abbrev pub greatest : ℕ
 greatest = longestForm rfc9000 .greatest
