@@ -119,8 +119,9 @@ fn with(
     None
 }
 
-/// An integer is read; and what is read, and what its bytes are as a number, is
-/// written.
+/// An integer is read; and what is read, the number after it, which may be in
+/// the next row of RFC 9000's table or in none, and what its bytes are as a
+/// number, is written.
 fn integer_difference(s: &[u8]) -> Option<String> {
     let read = integer::read(s);
     let expected = match read {
@@ -141,6 +142,7 @@ fn integer_difference(s: &[u8]) -> Option<String> {
     all[..count].copy_from_slice(&s[..count]);
     rooms(reading, s, &expected)
         .or_else(|| read.ok().and_then(|(n, _)| written(n)))
+        .or_else(|| read.ok().and_then(|(n, _)| written(n + 1)))
         .or_else(|| written(u64::from_le_bytes(all)))
 }
 
