@@ -45,15 +45,15 @@ begun-in b (next {form} {forms} n o) h k =
     let r = begun-in b o on k in
     (there (r .0), r .1))
 
--- ---- a number, and whose range it is in
+-- ---- a number, and the form that it falls to
 
--- The range of a form: above the greatest number of each form before it, and up to its own. Above them all there is no form.
-pub data InRange (n : ℕ) : Form → Edition → Type 0 where
-  within : {form : Form} {forms : Edition} → n ≤ form .greatest → InRange n form (form ∷ forms)
-  above : {other form : Form} {forms : Edition} → other .greatest < n → InRange n form forms → InRange n form (other ∷ forms)
-  above-all : InRange n noForm []
+-- the first that holds it: it is above each form before, and within this one. Above them all there is none
+pub data Falls (n : ℕ) : Form → Edition → Type 0 where
+  within : {form : Form} {forms : Edition} → n ≤ form .greatest → Falls n form (form ∷ forms)
+  above : {other form : Form} {forms : Edition} → other .greatest < n → Falls n form forms → Falls n form (other ∷ forms)
+  above-all : Falls n noForm []
 
-pub fewest-is : {n : ℕ} {form : Form} {edition : Edition} → InRange n form edition → fewestFor edition n ≡ form
+pub fewest-is : {n : ℕ} {form : Form} {edition : Edition} → Falls n form edition → fewestFor edition n ≡ form
 unfolding fewestFor
 fewest-is {n} (within {form} h) = rw (le-leb n (form .greatest) h)
 fewest-is {n} (above {other} h r) = rw (lt-leb n (other .greatest) h) (fewest-is r)

@@ -1,5 +1,5 @@
--- The table of RFC 9000, as the code that reads and writes by it meets it: what a first byte, a width and a range of numbers
--- have to do with each other. Assumes nothing.
+-- The table of RFC 9000, as the code that reads and writes by it meets it: what a first byte, a width and a number have to
+-- do with each other. Assumes nothing.
 use Prim.Native.Nat.{ℕ, _/_, _%_, _≤_, _<_}
 use mathlib.Core.Path.{_≡_, sym, ap, _∙_}
 use lib.Dec.{T}
@@ -7,7 +7,7 @@ use lib.Pow.{pow-pos}
 use Rattle.integer.specs.Edition.{Form, roomOf, shareOf, isEdition, begunBy, ofBytes}
 use Rattle.integer.specs.Integer.{rfc9000, wide, room, greatest, sizeOf}
 use Rattle.integer.proofs.Forms
-use Rattle.integer.proofs.Forms.{InRange}
+use Rattle.integer.proofs.Forms.{Falls}
 use Rattle.integer.proofs.Tables.{In}
 
 -- it has what a table must have
@@ -42,8 +42,8 @@ wide-room first = ap roomOf (Forms.of-bytes rfc9000 table (Forms.begun rfc9000 t
 
 -- ---- a number, and its size
 
--- a number in a row's range takes its bytes,
-pub size-at : {n width : ℕ} {form : Form} → InRange n form rfc9000 → width ≡ form .bytes → width ≡ sizeOf n
+-- a number takes the bytes of the row that it falls to,
+pub size-at : {n width : ℕ} {form : Form} → Falls n form rfc9000 → width ≡ form .bytes → width ≡ sizeOf n
 unfolding sizeOf
 size-at r e = e ∙ ap (λ (f : Form). f .bytes) (sym (Forms.fewest-is r))
 

@@ -1,4 +1,4 @@
--- `size` meets its contract: each arm's range is that of its row. Assumes nothing.
+-- `size` meets its contract: a number comes to the arm of the row that it falls to. Assumes nothing.
 use mathlib.Core.Path.{refl}
 use native.Mathlib.Omega.{arith}
 use Rattle.integer.proofs.Forms.{within, above, above-all}
