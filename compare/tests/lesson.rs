@@ -1,4 +1,4 @@
-//! docs/LESSON.md: what its commands print; its table of integers; and the
+//! docs/LESSON.md: what the programs print; its table of integers; and the
 //! lines of the code and of the definitions that stand beside RFC 9000's table.
 
 use std::fs;
@@ -107,8 +107,17 @@ fn table_of_integers() {
     assert_eq!(FORBIDDEN, 5);
 }
 
+/// The lines of a file, without the spaces around them and the `_` in numbers.
+fn lines_of(name: &str) -> String {
+    let lines = file(name);
+    let lines: Vec<&str> = lines.lines().map(str::trim).collect();
+    lines.join("\n").replace('_', "")
+}
+
 /// Each row of the table stands beside the two lines of the code that it
-/// became, and the code and the definitions have these lines in its order.
+/// became. These lines, with the two that begin the matches and the two for a
+/// number in no row, stand in the code one behind the other, and the rows do in
+/// the definitions.
 #[test]
 fn rows_side_by_side() {
     let blocks = blocks();
@@ -116,27 +125,29 @@ fn rows_side_by_side() {
         .iter()
         .find(|block| block.starts_with("2MSB "))
         .expect("the rows");
-    let (code, table) = (
-        file("crates/integer/src/writer.rt"),
-        file("crates/integer/specs/Integer.antt"),
-    );
-    let (mut sizes, mut writes, mut rows) = (code.lines(), code.lines(), table.lines());
-    for line in block.lines().skip(1).take(4) {
-        let cells: Vec<&str> = line
-            .split("  ")
-            .map(str::trim)
-            .filter(|cell| !cell.is_empty())
-            .collect();
-        let [bits, length, usable, range, size, write] = cells[..] else {
+    let (mut sizes, mut writes, mut rows) = (Vec::new(), Vec::new(), Vec::new());
+    for line in block.lines() {
+        let cells = line.split("  ").map(str::trim);
+        let cells: Vec<&str> = cells.filter(|cell| !cell.is_empty()).collect();
+        let [row @ .., size, write] = &cells[..] else {
             panic!("{line}");
         };
-        let greatest = number(range.strip_prefix("0-").expect("a range from 0"));
-        assert_eq!(greatest, (1 << number(usable)) - 1, "{line}");
-        assert_eq!(number(usable), 8 * number(length) - 2, "{line}");
-        assert!(sizes.any(|other| other.trim() == size), "{size}");
-        assert!(writes.any(|other| other.trim() == write), "{write}");
-        let row = format!("row 0b{bits} {length} {usable} {greatest}");
-        let found = rows.any(|other| other.trim_start_matches([' ', '∷']).replace('_', "") == row);
-        assert!(found, "{row}");
+        sizes.push(*size);
+        writes.push(*write);
+        if let [bits @ ("00" | "01" | "10" | "11"), length, usable, range] = row {
+            let greatest = number(range.strip_prefix("0-").expect("a range from 0"));
+            assert_eq!(greatest, (1 << number(usable)) - 1, "{line}");
+            assert_eq!(number(usable), 8 * number(length) - 2, "{line}");
+            rows.push(format!("row 0b{bits} {length} {usable} {greatest}"));
+        }
     }
+    assert_eq!((sizes.len(), writes.len(), rows.len()), (6, 6, 4));
+    let code = lines_of("crates/integer/src/writer.rt");
+    for lines in [sizes, writes] {
+        let lines = lines.join("\n").replace('_', "");
+        assert!(code.contains(&lines), "{lines}");
+    }
+    let table = lines_of("crates/integer/specs/Integer.antt");
+    let rows = rows.join("\n∷ ") + "\n∷ []\n";
+    assert!(table.contains(&rows), "{rows}");
 }
