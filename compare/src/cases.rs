@@ -1,5 +1,6 @@
 //! Cases as lines of text: a kind and bytes in hexadecimal digits, and the
-//! line that is answered.
+//! line that is answered. Where a byte stands many times in a row, it is
+//! written once, with how often (`hex`).
 
 use crate::answer::{MORE, WHOLE};
 use crate::hex;

@@ -195,3 +195,54 @@ fn lines_of_cases() {
     assert_eq!(hex::encode(&[0x0A, 0xF1]), "0af1");
     assert_eq!(integer::read(&[0x40]), Err(integer::More));
 }
+
+/// Text, the bytes that it stands for, each as often as the number says, and the
+/// text that is written of them.
+const RUNS: [(&str, &[(u8, usize)], &str); 10] = [
+    ("61*1", &[(0x61, 1)], "61"),
+    ("61*15", &[(0x61, 15)], "616161616161616161616161616161"),
+    ("61*16", &[(0x61, 16)], "61*16"),
+    ("6161*15", &[(0x61, 16)], "61*16"),
+    ("61*8 61*8", &[(0x61, 16)], "61*16"),
+    ("10 61*16", &[(0x10, 1), (0x61, 16)], "10 61*16"),
+    ("61*16 10", &[(0x61, 16), (0x10, 1)], "61*16 10"),
+    ("00*16 FF*300", &[(0, 16), (0xFF, 300)], "00*16 ff*300"),
+    (
+        "1 7 00*2 10 61*64996 05 05*2",
+        &[(0x17, 1), (0, 2), (0x10, 1), (0x61, 64_996), (5, 3)],
+        "17000010 61*64996 050505",
+    ),
+    ("", &[], ""),
+];
+
+#[test]
+fn runs_of_bytes() {
+    for (text, runs, written) in RUNS {
+        let bytes: Vec<u8> = runs
+            .iter()
+            .flat_map(|(byte, count)| vec![*byte; *count])
+            .collect();
+        assert_eq!(hex::decode(text).as_deref(), Some(&bytes[..]), "{text}");
+        assert_eq!(hex::encode(&bytes), written, "{text}");
+        assert_eq!(hex::decode(written), Some(bytes), "{written}");
+    }
+    for text in [
+        "*3",
+        "6*3",
+        "61*",
+        "61*0",
+        "61* 3",
+        "61*+3",
+        "61*3a",
+        "61*3*3",
+        "61*99999999999",
+        "61**3",
+    ] {
+        assert_eq!(hex::decode(text), None, "{text}");
+    }
+    let mut all = Cases::new(6);
+    for _ in 0..COUNT / 4 {
+        let (_, bytes) = all.next_case();
+        assert_eq!(hex::decode(&hex::encode(&bytes)), Some(bytes));
+    }
+}

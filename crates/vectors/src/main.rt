@@ -1,70 +1,22 @@
 // Answers cases: each line of the file `cases` is a heading, or the name of a reader and bytes in hexadecimal. For each
 // case a line is printed: the number that is answered, and after a 0 the bytes used and the shortest form; for an
 // integer its number and the bytes used; for the name of a message's track the offsets of its bytes; for a trace its
-// report, or what each field is answered, with ` /` for each newline.
-ghost use mathlib.Core.Path.{_≡_};
+// report, or what each field is answered, with ` /` for each newline. Equal bytes in a row may be written once, with
+// how many they are: `61*64996`.
+mod hexadecimal;
+
 ghost use Prim.Native.Nat.{_≤_};
 ghost use lib.ListN.{length};
+use hexadecimal::decode;
+use hexadecimal::say_bytes;
 use integer::Reading;
 use libc::STDOUT_FILENO;
 use text::Putting;
 
-// ---- bytes in hexadecimal
+// The room for a case's bytes: the longest message has 65,016, and a trace may have it behind its first field.
+const ROOM: usize = 65536;
 
-// The value of a hexadecimal digit; 16 for any other character.
-fn digit(c: u8) -> u8 {
-    match c {
-        b'0'..=b'9' => c - b'0',
-        b'A'..=b'F' => c - b'A' + 10,
-        b'a'..=b'f' => c - b'a' + 10,
-        _ => 16,
-    }
-}
-
-// What is held of a line: how many bytes, and a first digit that waits for its second, 16 for none.
-struct Held {
-    have: usize,
-    high: u8,
-}
-
-// Takes one character: a second digit makes a byte with the first, and what is no digit is passed over. A byte for
-// which there is no room is left out.
-fn take(bytes: &mut [u8], held: Held, c: u8) -> Held
-    requires { ⌜ held .have ≤ length (now bytes) ⌝ }
-    ensures { λ r. ⌜ (r .have ≤ length (now (bytes .entry)))
-        × (length (now (bytes .exit)) ≡ length (now (bytes .entry))) ⌝ }
-{
-    let have = held.have;
-    let high = held.high;
-    let d = digit(c);
-    if 15 < d {
-        return held;
-    }
-    if 15 < high {
-        return Held { have, high: d };
-    }
-    if bytes.len() <= have {
-        return Held { have, high: 16 };
-    }
-    bytes[have] = high * 16 + d;
-    Held {
-        have: have + 1,
-        high: 16,
-    }
-}
-
-// The bytes that digits spell, and how many they are.
-fn decode(text: &[u8], bytes: &mut [u8]) -> usize
-    ensures { λ r. ⌜ r ≤ length (now (bytes .entry)) ⌝ }
-{
-    let mut held = Held { have: 0, high: 16 };
-    let mut i: usize = 0;
-    while i < text.len() {
-        held = take(&mut *bytes, held, text[i]);
-        i += 1;
-    }
-    held.have
-}
+// ---- lines
 
 // Where a character stands first, from an offset on; the end of the text where it doesn't.
 fn find(text: &[u8], at: usize, c: u8) -> usize
@@ -107,21 +59,6 @@ fn say_number(n: u64) {
     io::print_decimal(STDOUT_FILENO, n);
 }
 
-fn say_byte(byte: u8) {
-    io::print_hex(STDOUT_FILENO, byte as u64, 2);
-}
-
-// The first count bytes of out.
-fn say_bytes(out: &[u8], count: usize) {
-    let mut i: usize = 0;
-    while i < out.len() {
-        if i < count {
-            say_byte(out[i]);
-        }
-        i += 1;
-    }
-}
-
 // The number, and with a 0 the bytes used and those written.
 fn say_rewritten(number: u8, info: [u64; 3], out: &[u8]) {
     say_number(number as u64);
@@ -129,7 +66,10 @@ fn say_rewritten(number: u8, info: [u64; 3], out: &[u8]) {
         say(b" ");
         say_number(info[0]);
         say(b" ");
-        say_bytes(out, info[1] as usize);
+        let n = info[1] as usize;
+        if n <= out.len() {
+            say_bytes(&out[..n]);
+        }
     }
     say(b"\n");
 }
@@ -187,35 +127,35 @@ fn say_answers(s: &[u8]) {
 // ---- cases
 
 fn say_control(s: &[u8]) {
-    let mut out = [0u8; 2048];
+    let mut out = [0u8; ROOM];
     let mut info = [0u64; 3];
     let number = rewrite::control(s, &mut out, &mut info);
     say_rewritten(number, info, &out);
 }
 
 fn say_stream(s: &[u8]) {
-    let mut out = [0u8; 2048];
+    let mut out = [0u8; ROOM];
     let mut info = [0u64; 3];
     let number = rewrite::stream(s, &mut out, &mut info);
     say_rewritten(number, info, &out);
 }
 
 fn say_datagram(s: &[u8]) {
-    let mut out = [0u8; 2048];
+    let mut out = [0u8; ROOM];
     let mut info = [0u64; 3];
     let number = rewrite::datagram(s, &mut out, &mut info);
     say_rewritten(number, info, &out);
 }
 
 fn say_subgroup_object(s: &[u8]) {
-    let mut out = [0u8; 2048];
+    let mut out = [0u8; ROOM];
     let mut info = [0u64; 3];
     let number = rewrite::subgroup_object(s, &mut out, &mut info);
     say_rewritten(number, info, &out);
 }
 
 fn say_fetch_object(s: &[u8]) {
-    let mut out = [0u8; 2048];
+    let mut out = [0u8; ROOM];
     let mut info = [0u64; 3];
     let number = rewrite::fetch_object(s, &mut out, &mut info);
     say_rewritten(number, info, &out);
@@ -247,7 +187,7 @@ fn say_offsets(offsets: &[u8]) {
 // the message was read from, each of them its own offset; so what is handed back tells its place, also where the
 // message holds the same bytes twice.
 fn say_name(s: &[u8]) {
-    let mut places = [0u8; 2048];
+    let mut places = [0u8; ROOM];
     number_bytes(&mut places);
     let end = s.len();
     if let message::Reading::Whole(m, _) = message::read(s) {
@@ -300,12 +240,20 @@ fn is_heading(line: &[u8]) -> bool {
     line[0] == b'#'
 }
 
-// A case has room for 2,048 bytes.
+// Has the first count bytes answered; a case of more bytes than there is room for is not.
+fn answer_front(word: &[u8], bytes: &[u8], count: usize) {
+    if bytes.len() < count {
+        say(b"too long\n");
+        return;
+    }
+    answer(word, &bytes[..count]);
+}
+
 fn answer_case(line: &[u8]) {
-    let mut bytes = [0u8; 2048];
+    let mut bytes = [0u8; ROOM];
     let end = find(line, 0, b' ');
     let n = decode(&line[end..], &mut bytes);
-    answer(&line[..end], &bytes[..n]);
+    answer_front(&line[..end], &bytes, n);
 }
 
 // A heading is printed as it is, so that cases and answers can be read side by side.
