@@ -6,17 +6,17 @@
      0  done
      1  more bytes are needed
      2  the type is unknown
-     3  the body of a message is over 16,383 bytes
+     3  the body of a message is over 65,000 bytes
      4  the fields don't fill the body; a datagram is cut, or bytes follow a status
      5  a value is forbidden, or a number is too great
      6  a count or a length is over its size
      7  what is lent to be written is too short
 
    How a reader decides. Of a message the Type is read first: 1 where it is cut, 2 where it is unknown. Then the Length: 1 where it is
-   cut, 3 where it is over 16,383, whether the body is there or not. Then the whole body has to be there, else 1. Only then its fields are
+   cut, 3 where it is over 65,000, whether the body is there or not. Then the whole body has to be there, else 1. Only then its fields are
    read, from left to right, each judged as soon as its integer or its byte is read, and the first fault is answered: 5 for a forbidden
    value; 6 for a count or a length over its size, even where the bytes that it names are missing; 4 where the body ends within the field.
-   Bytes of the body that no field takes are 4. So `07 01 21` is 6, for 33 namespace fields, and not 4, and `17 80 00 40 00` is 3. A header
+   Bytes of the body that no field takes are 4. So `07 01 21` is 6, for 33 namespace fields, and not 4, and `17 80 00 FD E9` is 3. A header
    has a type and fields, and no Length: where it is cut it is 1 on a stream and 4 in a datagram.
 
    A number of reading is answered before any other. What is lent to be written is changed only where 0 is answered, or one of a ledger's

@@ -6,7 +6,7 @@ pub const WHOLE: u8 = 0;
 pub const MORE: u8 = 1;
 /// Unknown type.
 pub const UNKNOWN: u8 = 2;
-/// Body over 16,383 bytes.
+/// Body over 65,000 bytes.
 pub const BODY: u8 = 3;
 /// Fields don't fill the body exactly, or a cut datagram header.
 pub const FILL: u8 = 4;

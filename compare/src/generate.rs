@@ -5,6 +5,7 @@
 mod damage;
 pub mod damaged;
 mod explained;
+mod filled;
 mod header;
 mod ledger;
 mod make;
@@ -75,10 +76,8 @@ impl Cases {
     /// A message: half of them valid, the others with forbidden values or
     /// sizes, or damaged.
     fn control(&mut self) -> Vec<u8> {
-        let at = self.make.random.below(message::VARIANTS.len() as u64);
-        let (kind, variant) = message::VARIANTS[at as usize];
         self.mood();
-        let mut bytes = message::message(&mut self.make, kind, variant);
+        let mut bytes = message::any(&mut self.make);
         if self.make.random.one_in(2) {
             damage::message(&mut self.make, &mut bytes);
         }

@@ -12,8 +12,9 @@ use crate::subscribe::{
 };
 use crate::track::{TrackStatus, TrackStatusRequest};
 
-/// 01: "Length, at most 16,383".
-pub const MOST_BODY_BYTES: u64 = 16_383;
+/// 01: "Length, at most 16,383", which 02 raises: "Raise the limit to 65,000"
+/// (K8).
+pub const MOST_BODY_BYTES: u64 = 65_000;
 
 /// The 26 control messages of 004's table 2.
 #[derive(Debug, Clone, Copy, PartialEq, Eq)]
@@ -234,7 +235,8 @@ impl<'a> Message<'a> {
 ///
 /// 01: "The reader works in this order: Type, known or not; Length, at most
 /// 16,383; whole body present; fields left to right, the first fault
-/// deciding; no byte left over."
+/// deciding; no byte left over." The limit is 65,000 since 02's K8; its place
+/// in the order stays.
 pub fn read(bytes: &[u8]) -> Result<(Message<'_>, usize), u8> {
     let mut header = Fields::on_stream(bytes);
     let kind = header.integer()?;

@@ -181,7 +181,10 @@ const MARKS: &[(&str, &str, usize)] = &[
     ("17 80 00 40", "Length: cut", 1),
     ("17 02 05", "Length: 2", 1),
     ("17 7F FF", "Length: 16383", 1),
-    ("17 80 00 40 00", "Length: 16384", 3),
+    ("17 80 00 40 00", "Length: 16384", 1),
+    ("17 80 00 FD E8", "Length: 65000", 1),
+    ("17 80 00 FD E9", "Length: 65001", 3),
+    ("17 80 01 00 01 05", "Length: 65537", 3),
     // Cut by the end of the body, or not filling it.
     ("17 00", "Subscribe ID: cut", 4),
     ("17 01 40 05", "Subscribe ID: cut", 4),

@@ -167,6 +167,114 @@ fn reached_in_traces(lines: &BTreeSet<String>) {
     }
 }
 
+/// Type and Length of a message, and the bytes that they take.
+fn type_and_length(bytes: &[u8]) -> Option<(u64, u64, usize)> {
+    let (kind, used) = integer::read(bytes).ok()?;
+    let (length, more) = integer::read(&bytes[used..]).ok()?;
+    Some((kind, length, used + more))
+}
+
+/// Long bodies come, whole ones of every type that may have one, and such as
+/// are over the limit with all their bytes there.
+#[test]
+fn long_bodies_are_reached() {
+    let mut all = Cases::new(4);
+    let mut seen = BTreeSet::new();
+    let mut types = BTreeSet::new();
+    let mut longest = 0;
+    for _ in 0..COUNT {
+        let (kind, bytes) = all.next_case();
+        let header = type_and_length(&bytes);
+        let Some((number, length, used)) = header.filter(|_| kind == Kind::Control) else {
+            continue;
+        };
+        if length < 16_383 || (bytes.len() - used) as u64 != length {
+            continue;
+        }
+        let answer = rewrite::control(&bytes).map_or_else(|refused| refused, |_| 0);
+        if answer == 0 {
+            types.insert(number);
+            longest = longest.max(bytes.len());
+        }
+        let between = (16_385..65_000).contains(&length);
+        seen.insert((if between { 20_000 } else { length }, answer));
+    }
+    for (length, answer) in [
+        (16_383, 0),
+        (16_384, 0),
+        (20_000, 0),
+        (20_000, 4),
+        (20_000, 5),
+        (20_000, 6),
+        (65_000, 0),
+        (65_000, 4),
+        (65_001, 3),
+    ] {
+        assert!(seen.contains(&(length, answer)), "{length}: {answer}");
+    }
+    assert_eq!(longest, 65_016);
+    let expected = [
+        0x2, 0x3, 0x4, 0x5, 0x6, 0x8, 0xB, 0xC, 0x10, 0x11, 0x13, 0x16, 0x18, 0x19, 0x40, 0x41,
+    ];
+    assert!(types.iter().eq(&expected), "{types:x?}");
+}
+
+/// The messages of a trace's fields, up to a field that is cut.
+fn messages(mut trace: &[u8]) -> Vec<&[u8]> {
+    let mut all = Vec::new();
+    while let [tag, high, low, rest @ ..] = trace {
+        let length = usize::from(u16::from_be_bytes([*high, *low]));
+        let Some((value, behind)) = rest.split_at_checked(length) else {
+            break;
+        };
+        if *tag == 2 {
+            all.push(value);
+        }
+        trace = behind;
+    }
+    all
+}
+
+/// Long bodies come in traces too: whole, with a byte left in the field, with
+/// bytes missing, broken, and over the limit.
+#[test]
+fn long_bodies_are_reached_in_traces() {
+    let mut all = Cases::new(5);
+    let mut seen = BTreeSet::new();
+    for _ in 0..COUNT {
+        let (kind, bytes) = all.next_case();
+        if kind != Kind::Trace {
+            continue;
+        }
+        for value in messages(&bytes) {
+            let Some((_, length, _)) = type_and_length(value) else {
+                continue;
+            };
+            if value.len() < 16_384 {
+                continue;
+            }
+            let answer = match message::read(value) {
+                Ok((_, used)) if used < value.len() => "left".to_string(),
+                Ok(_) => value.len().to_string(),
+                Err(number) => number.to_string(),
+            };
+            seen.insert((length, answer));
+        }
+    }
+    for (length, answer) in [
+        (16_384, "16389"),
+        (65_000, "65005"),
+        (65_000, "65016"),
+        (65_000, "left"),
+        (65_000, "1"),
+        (65_000, "4"),
+        (65_001, "3"),
+    ] {
+        let pair = (length, answer.to_string());
+        assert!(seen.contains(&pair), "{pair:?}");
+    }
+}
+
 #[test]
 fn lines_of_cases() {
     let pairs = [
@@ -175,6 +283,10 @@ fn lines_of_cases() {
         ("integer", "1"),
         ("control 17 02 40 05", "0 4 170105"),
         ("control 3F", "2"),
+        (
+            "control 10 80 00 FD E8 80 00 FD E4 61*64996",
+            "0 65005 108000fde88000fde4 61*64996",
+        ),
         ("stream 40 05 09", "0 3 0509"),
         ("datagram 01 02 03 04 80 00 AA BB", "0 6 010203048000"),
         ("subobj 01 00 00 00", "0 4 01000000"),

@@ -3,7 +3,7 @@
 //! 01's lines checked on the blackboard and its report; RFC 9000's sample
 //! integers; 004's worked examples.
 
-use second::answer::{BODY, FORBIDDEN, SHORT, SIZE};
+use second::answer::{BODY, FILL, FORBIDDEN, MORE, SHORT, SIZE};
 use second::fields::{Namespace, Parameters, Track, Versions};
 use second::integer::{self, More};
 use second::ledger::{close_code, Ledger, Part, Place, Range, Row};
@@ -24,8 +24,10 @@ const CONTROL: &[(&str, &str, u8)] = &[
     ("B1", "3F", 2),
     ("B1", "C0 FF", 1),
     ("B1", "40 3F", 2),
-    ("B2", "17 80 00 40 00", 3),
+    ("B2", "17 80 00 FD E9", 3),
+    ("B2", "17 80 00 FD", 1),
     ("B2", "17 80 00 40", 1),
+    ("B2", "17 80 01 00 01 05", 3),
     ("B3", "03 0A 03 07 00", 1),
     ("B3", "03 03 03 07 00", 6),
     ("B4", "07 01 21", 6),
@@ -122,6 +124,16 @@ const TRACE: &[(&str, &str, &str)] = &[
         "trace fault at 5 /",
     ),
     ("H5", "01 00 02 00 0A 02 00 00", "trace fault at 5 /"),
+    (
+        "K8",
+        "01 00 02 00 0A 02 00 05 17 80 00 40 00",
+        "trace fault at 5 /",
+    ),
+    (
+        "K8",
+        "01 00 02 00 0A 02 00 05 17 80 00 FD E9",
+        "closed R1 0 / ID ALIAS STATE GROUP OBJECT COUNT /",
+    ),
     ("H6", "01 00 02 00 0A 03 00 02 07 00", "trace fault at 5 /"),
     (
         "H6",
@@ -269,7 +281,7 @@ fn blackboard_integers() {
     assert_eq!(integer::write(beyond, &mut []), Err(FORBIDDEN));
 }
 
-/// P6 to P10, and the two lines after P12.
+/// P6 to P10, as 02's K8 has it, and the two lines after P12.
 #[test]
 fn blackboard_messages() {
     let input = bytes("17 01 05");
@@ -282,7 +294,9 @@ fn blackboard_messages() {
         ("17 00", 4),
         ("3F", 2),
         ("17 7F FF", 1),
-        ("17 80 00 40 00", 3),
+        ("17 80 00 40 00", 1),
+        ("17 80 00 FD E8", 1),
+        ("17 80 00 FD E9", 3),
         ("0E 08 01 01 6D 01 61 01 00 00", 0),
         ("0E 08 01 01 6D 01 61 01 00 01", 5),
     ];
@@ -415,16 +429,19 @@ fn writer_refusals() {
 /// 3 counts the shortest body; 7 the whole message.
 #[test]
 fn writer_lengths() {
-    let uri = vec![0x61; 16_382];
+    let uri = vec![0x61; 64_997];
     for (length, expected) in [
         (16_380, Ok(16_385)),
         (16_381, Ok(16_386)),
-        (16_382, Err(BODY)),
+        (16_382, Ok(16_389)),
+        (64_995, Ok(65_004)),
+        (64_996, Ok(65_005)),
+        (64_997, Err(BODY)),
     ] {
         let goaway = Message::Goaway(Goaway {
             new_session_uri: &uri[..length],
         });
-        let mut out = vec![0; 16_386];
+        let mut out = vec![0; 65_005];
         assert_eq!(message::write(&goaway, &mut out), expected);
         if let Ok(total) = expected {
             assert_eq!(message::write(&goaway, &mut out[..total - 1]), Err(SHORT));
@@ -444,6 +461,72 @@ fn writer_lengths() {
     let mut out = [0xEE; 8];
     assert_eq!(message::write(&setup, &mut out), Ok(7));
     assert_eq!(out[..], bytes("40 40 04 02 01 02 00 EE"));
+}
+
+/// GOAWAY with this Type and Length, a URI length and so many bytes after it.
+fn goaway(header: &str, uri: usize) -> Vec<u8> {
+    let mut all = bytes(header);
+    all.resize(all.len() + uri, 0x61);
+    all
+}
+
+/// K8: a body of 65,000 bytes is read, with Type and Length in any form.
+#[test]
+fn longest_messages() {
+    let shortest = goaway("10 80 00 FD E8 80 00 FD E4", 64_996);
+    assert_eq!(shortest.len(), 65_005);
+    let read = Message::Goaway(Goaway {
+        new_session_uri: &shortest[9..],
+    });
+    assert_eq!(message::read(&shortest), Ok((read, 65_005)));
+    let padded = "C0 00 00 00 00 00 00 10 C0 00 00 00 00 00 FD E8 80 00 FD E4";
+    let longest = goaway(padded, 64_996);
+    assert_eq!(message::read(&longest), Ok((read, 65_016)));
+    let rewritten = rewrite::control(&longest);
+    assert_eq!(rewritten, Ok((65_016, shortest.clone(), 0x10)));
+    assert_eq!(message::read(&longest[..65_015]), Err(MORE));
+    // Over the limit, with its body and without; what the padding takes counts.
+    for (header, uri) in [
+        ("10 80 00 FD E9 80 00 FD E5", 64_997),
+        ("10 80 00 FD E9 80 00 FD E5", 0),
+        ("10 80 00 FD E9 C0 00 00 00 00 00 FD E1", 64_993),
+    ] {
+        assert_eq!(message::read(&goaway(header, uri)), Err(BODY), "{header}");
+    }
+    // Within it, and not filled, or the URI ends after it.
+    for header in ["10 80 00 FD E8 80 00 FD E3", "10 80 00 FD E8 80 00 FD E5"] {
+        assert_eq!(message::read(&goaway(header, 64_996)), Err(FILL));
+    }
+}
+
+/// K8: such a message as a field of a trace. 01: "a message answering 1, or a
+/// whole message [...] that leaves bytes of its field" is a fault.
+#[test]
+fn longest_messages_in_traces() {
+    let shortest = goaway("10 80 00 FD E8 80 00 FD E4", 64_996);
+    let mut left = shortest.clone();
+    left.push(0x61);
+    let padded = "C0 00 00 00 00 00 00 10 C0 00 00 00 00 00 FD E8 80 00 FD E4";
+    for (message, last) in [
+        (goaway(padded, 64_996), "5 GOAWAY 9"),
+        (shortest.clone(), "5 GOAWAY 9"),
+        (shortest[..65_004].to_vec(), "trace fault at 5"),
+        (left, "trace fault at 5"),
+        (
+            goaway("10 80 00 FD E8 80 00 FD E3", 64_996),
+            "5 malformed 4 13 R1",
+        ),
+        (
+            goaway("10 80 00 FD E9 80 00 FD E5", 64_997),
+            "5 malformed 3 13 R1",
+        ),
+    ] {
+        let mut trace = bytes("01 00 02 00 0A 02");
+        trace.extend((message.len() as u16).to_be_bytes());
+        trace.extend(message);
+        let answers = String::from_utf8(report::answers(&trace)).expect("text");
+        assert_eq!(answers, format!("0 start 8\n{last}\n"));
+    }
 }
 
 /// D3: fields that don't belong.

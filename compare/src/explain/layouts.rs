@@ -29,7 +29,7 @@ pub fn arrival(walk: &mut Walk<'_>) -> Walking {
 
 /// A message. 01: "Type, known or not; Length, at most 16,383; whole body
 /// present; fields left to right, the first fault deciding; no byte left
-/// over."
+/// over." The limit is 65,000 since 02's K8.
 pub fn message(walk: &mut Walk<'_>) -> Walking {
     let kind = walk.kind()?;
     if !is_known(kind) {

@@ -18,7 +18,7 @@ pub const WORDS: [&str; 20] = [
     "whole",
     "more bytes needed",
     "unknown type",
-    "body over 16,383",
+    "body over 65,000",
     "fields don't fill the body exactly",
     "forbidden value",
     "size",

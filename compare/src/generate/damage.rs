@@ -1,5 +1,6 @@
 //! What is done to valid bytes so that they aren't any more.
 
+use super::filled;
 use super::make::{integer_of_size, Make};
 use super::message;
 use super::random::Random;
@@ -73,13 +74,18 @@ fn other_type(make: &mut Make, bytes: &mut Vec<u8>) {
     *bytes = message::with_header(make, kind, &body);
 }
 
-/// A Length about the greatest permitted one.
+/// A Length about the greatest permitted one, or one that would be the body's
+/// if it were kept in 16 or 32 bits.
 fn great_length(make: &mut Make, bytes: &mut Vec<u8>) {
     let Some((kind, body)) = parts(bytes) else {
         return;
     };
-    let lengths = [16_382, 16_383, 16_384, 65_535, GREATEST];
-    let length = make.random.one_of(&lengths);
+    let own = body.len() as u64;
+    let lengths = [65_535, own + (1 << 16), own + (1 << 32), GREATEST];
+    let length = match make.random.below(2) {
+        0 => filled::length(make),
+        _ => make.random.one_of(&lengths),
+    };
     let mut out = Vec::new();
     make.integer(&mut out, kind);
     make.integer(&mut out, length);

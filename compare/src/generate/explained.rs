@@ -70,9 +70,7 @@ impl Cases {
         if self.make.random.one_in(4) {
             return self.control();
         }
-        let at = self.make.random.below(VARIANTS.len() as u64);
-        let (kind, variant) = VARIANTS[at as usize];
         self.mood();
-        message::message(&mut self.make, kind, variant)
+        message::any(&mut self.make)
     }
 }

@@ -5,7 +5,7 @@
 use super::damage;
 use super::damaged::{self, DAMAGES};
 use super::make::Make;
-use super::message::{self, VARIANTS};
+use super::message;
 use super::random::Random;
 use super::trace;
 use crate::integer::GREATEST;
@@ -180,7 +180,7 @@ impl Ledgers {
             0..=4 => self.subscribe(),
             5..=8 => self.by_id(),
             9 => self.maximum(),
-            10 => self.any_message(),
+            10 => message::any(&mut self.make),
             _ => trace::malformed(&mut self.make).1,
         };
         if self.make.random.one_in(8) {
@@ -230,12 +230,6 @@ impl Ledgers {
             larger = self.make.random.one_of(&choices);
         }
         trace::by_id(&mut self.make, 0x15, larger.min(GREATEST)).1
-    }
-
-    fn any_message(&mut self) -> Vec<u8> {
-        let at = self.make.random.below(VARIANTS.len() as u64) as usize;
-        let (kind, variant) = VARIANTS[at];
-        message::message(&mut self.make, kind, variant)
     }
 
     /// An ID that is above the highest by a little.

@@ -33,6 +33,8 @@ pub struct Make {
     pub shared: bool,
     /// Whether byte fields may be text, and about as long as can be shown.
     pub shown: bool,
+    /// Where the last field of a length and bytes was put: its start and end.
+    pub counted_at: Option<(usize, usize)>,
 }
 
 /// Writes the number in a form of `size` bytes (1, 2, 4 or 8), which it fits.
@@ -67,6 +69,7 @@ impl Make {
             long: false,
             shared: false,
             shown: false,
+            counted_at: None,
         }
     }
 
@@ -129,7 +132,7 @@ impl Make {
 
     /// Writes that many bytes of a field; where they may be text, half of them
     /// are, but for one byte now and then.
-    fn field(&mut self, out: &mut Vec<u8>, count: u64) {
+    pub fn field(&mut self, out: &mut Vec<u8>, count: u64) {
         if !self.shown || self.random.one_in(2) {
             return self.bytes(out, count);
         }
@@ -166,8 +169,10 @@ impl Make {
         } else {
             self.length(6)
         };
+        let start = out.len();
         self.integer(out, length);
         self.field(out, length);
+        self.counted_at = Some((start, out.len()));
     }
 
     /// Writes a namespace; answers the bytes of its fields.

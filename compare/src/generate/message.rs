@@ -1,5 +1,6 @@
 //! Generated control messages.
 
+use super::filled;
 use super::make::Make;
 use crate::integer::GREATEST;
 
@@ -45,6 +46,17 @@ pub const VARIANTS: [(u64, u64); 36] = [
     (0x40, 1),
 ];
 
+/// A message of any type and variant whose Length is that of its body. One in
+/// 25 is long.
+pub fn any(make: &mut Make) -> Vec<u8> {
+    if make.random.one_in(25) {
+        return filled::message(make);
+    }
+    let at = make.random.below(VARIANTS.len() as u64);
+    let (kind, variant) = VARIANTS[at as usize];
+    message(make, kind, variant)
+}
+
 /// A message whose Length is that of its body.
 pub fn message(make: &mut Make, kind: u64, variant: u64) -> Vec<u8> {
     let mut body = Vec::new();
@@ -61,7 +73,8 @@ pub fn with_header(make: &mut Make, kind: u64, body: &[u8]) -> Vec<u8> {
     out
 }
 
-fn put_body(make: &mut Make, kind: u64, variant: u64, out: &mut Vec<u8>) {
+/// Writes the body of a message.
+pub fn put_body(make: &mut Make, kind: u64, variant: u64, out: &mut Vec<u8>) {
     match kind {
         0x2 => {
             make.integers(out, 4);

@@ -1,8 +1,9 @@
 //! Generated traces: histories that reach every rule, with and without faults.
 
 use super::damage;
+use super::filled;
 use super::make::Make;
-use super::message::{self, VARIANTS};
+use super::message;
 use super::track;
 use crate::integer::GREATEST;
 
@@ -189,11 +190,7 @@ fn polite(make: &mut Make, history: &mut History) -> Value {
             let alias = make.random.below(8);
             arrival(make, alias)
         }
-        9 if make.random.one_in(2) => {
-            let pick = make.random.below(VARIANTS.len() as u64) as usize;
-            let (kind, variant) = VARIANTS[pick];
-            (2, message::message(make, kind, variant))
-        }
+        9 if make.random.one_in(2) => (2, message::any(make)),
         _ => arrival(make, alias),
     }
 }
@@ -237,7 +234,8 @@ fn broken_rule(make: &mut Make, history: &mut History) -> Value {
 pub(super) fn malformed(make: &mut Make) -> Value {
     let known = [
         b"\x3F".as_slice(),
-        b"\x17\x80\x00\x40\x00",
+        b"\x17\x80\x00\xFD\xE9",
+        b"\x17\x80\x01\x00\x01\x05",
         b"\x17\x02\x05\x00",
         b"\x0E\x08\x01\x01m\x01a\x01\x00\x01",
         b"\x07\x01\x21",
@@ -247,15 +245,13 @@ pub(super) fn malformed(make: &mut Make) -> Value {
     if let Some(bytes) = known.get(at) {
         return (2, bytes.to_vec());
     }
-    let pick = make.random.below(VARIANTS.len() as u64) as usize;
-    let (kind, variant) = VARIANTS[pick];
-    let mut bytes = message::message(make, kind, variant);
+    let mut bytes = message::any(make);
     damage::message(make, &mut bytes);
     (2, bytes)
 }
 
-/// A field that is a fault, at the end or in the middle of the trace, or a
-/// trace whose bytes are damaged anywhere.
+/// A field that is a fault, at the end or in the middle of the trace, a long
+/// message that may be one, or a trace whose bytes are damaged anywhere.
 fn fault(make: &mut Make, out: &mut Vec<u8>) {
     let shapes = [
         b"\x01\x00\x02\x00\x0A".as_slice(),
@@ -265,6 +261,8 @@ fn fault(make: &mut Make, out: &mut Vec<u8>) {
         b"\x02\x00\x01\x40",
         b"\x02\x00\x02\x17\x01",
         b"\x02\x00\x04\x17\x01\x05\xFF",
+        b"\x02\x00\x05\x17\x80\x00\x40\x00",
+        b"\x02\x00\x05\x17\x80\x00\xFD\xE8",
         b"\x02\x00\x09\x17\x01",
         b"\x02\x00",
         b"\x02",
@@ -273,11 +271,12 @@ fn fault(make: &mut Make, out: &mut Vec<u8>) {
         b"\x03\x00\x04\x07\x00\x00\x00",
         b"\x03\xFF\xFF\x07\x00\x00",
     ];
-    match make.random.below(7) {
+    match make.random.below(8) {
         0 => damage::cut(&mut make.random, out),
         1 => damage::flip(&mut make.random, out),
         2 => damage::any(&mut make.random, out),
         3 => other_start(make, out),
+        4 => long_message(make, out),
         _ => {
             let at = make.random.below(shapes.len() as u64) as usize;
             out.extend(shapes[at]);
@@ -286,6 +285,20 @@ fn fault(make: &mut Make, out: &mut Vec<u8>) {
             }
         }
     }
+}
+
+/// A long message with a byte after it, without its last one, damaged, or as it
+/// is.
+fn long_message(make: &mut Make, out: &mut Vec<u8>) {
+    make.wild = make.random.one_in(2);
+    let mut value = filled::message(make);
+    match make.random.below(4) {
+        0 => make.byte(&mut value),
+        1 => value.truncate(value.len() - 1),
+        2 => damage::message(make, &mut value),
+        _ => (),
+    }
+    put_field(out, &(2, value));
 }
 
 /// A first field of another shape.

@@ -1,4 +1,4 @@
--- The lines of document 01 that are marked P, and no others, as one table.
+-- The lines of document 01 that are marked P, P10 with the limit that K8 has for a body, and no others, as one table.
 use Prim.Native.Nat.{ℕ}
 use mathlib.Core.List.{List, [], _∷_}
 use Rattle.common.specs.Answer.{Answer, whole, refused, wrote, Written}
@@ -117,9 +117,11 @@ lines =
     (record { says = wrote 3; holds = 0x17 ∷ 0x01 ∷ 0x05 ∷ 4 ∷ [] })
     -- P9 `3F`: 2
     ∷ receives (0x3F ∷ []) (refused 2)
-    -- P10 `17 7F FF`: 1; `17 80 00 40 00`: 3
+    -- P10 `17 7F FF`: 1; with K8's limit `17 80 00 40 00` and `17 80 00 FD E8`: 1; `17 80 00 FD E9`: 3
     ∷ receives (0x17 ∷ 0x7F ∷ 0xFF ∷ []) (refused 1)
-    ∷ receives (0x17 ∷ 0x80 ∷ 0x00 ∷ 0x40 ∷ 0x00 ∷ []) (refused 3)
+    ∷ receives (0x17 ∷ 0x80 ∷ 0x00 ∷ 0x40 ∷ 0x00 ∷ []) (refused 1)
+    ∷ receives (0x17 ∷ 0x80 ∷ 0x00 ∷ 0xFD ∷ 0xE8 ∷ []) (refused 1)
+    ∷ receives (0x17 ∷ 0x80 ∷ 0x00 ∷ 0xFD ∷ 0xE9 ∷ []) (refused 3)
     -- P11 maximum 10: ID 9 done, ID 10 R3
     ∷ takes 64 10 (subscribing 9 1 ∷ subscribing 10 2 ∷ []) (noRule 8 ∷ record { number = 13; rule = 3 } ∷ [])
     -- P12 the report's history gives its row

@@ -70,7 +70,7 @@ leading (p ∷ ps) e = first p (leading ps e)
 abbrev pub filling : ℕ → Explained → Explained
 filling size e = leading (e .parts) (fillingBy size (e .answer))
 
--- ---- A MESSAGE: "Type, known or not; Length, at most 16,383; whole body present; fields left to right, the first
+-- ---- A MESSAGE: "Type, known or not; Length, at most" 65,000; "whole body present; fields left to right, the first
 -- fault deciding; no byte left over"
 
 unfoldable pub bodyExplained : List ℕ → ℕ → ℕ → ℕ → Explained

@@ -1,4 +1,4 @@
--- WHAT A NUMBER MEANS, in document 01's words.
+-- WHAT A NUMBER MEANS, in document 01's words, with the limit that K8 has for a body.
 use Prim.Native.Nat.{ℕ}
 use Prim.Native.String.{String}
 use mathlib.Core.List.{List, [], _∷_, map}
@@ -12,7 +12,7 @@ meanings =
     "whole" ∷
     "more bytes needed" ∷
     "unknown type" ∷
-    "body over 16,383" ∷
+    "body over 65,000" ∷
     "fields don't fill the body exactly" ∷
     "forbidden value" ∷
     "size" ∷

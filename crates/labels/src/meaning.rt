@@ -43,7 +43,7 @@ pub fn put_meaning(out: &mut [u8], at: usize, number: u8) -> usize
         whole\
         more bytes needed\
         unknown type\
-        body over 16,383\
+        body over 65,000\
         fields don't fill the body exactly\
         forbidden value\
         size\

@@ -1,5 +1,5 @@
--- What reading a control message answers: "Type, known or not; Length, at most 16,383; whole body present; fields left
--- to right, the first fault deciding; no byte left over".
+-- What reading a control message answers: "Type, known or not; Length, at most" 65,000; "whole body present; fields
+-- left to right, the first fault deciding; no byte left over".
 use Prim.Native.Nat.{ℕ, _+_, _-_}
 use mathlib.Core.List.{List}
 use lib.ListN.{length, take}
@@ -23,7 +23,7 @@ use Rattle.message.specs.declared.Reading.the-variants.{Whole, More, Unk
 abbrev pub longestUpTo : ℕ → ℕ
 longestUpTo limit = 8 + 8 + limit
 
--- and with 01's limit: 16,399 bytes, which always decide
+-- and with the limit of a body: 65,016 bytes, which always decide
 abbrev pub longestMessage : ℕ
 longestMessage = longestUpTo longestBody
 
@@ -47,7 +47,7 @@ readUpTo limit s =
     (onFound (numberAt s next) (refused 1) (λ size at.
     bodyUpTo limit s type size at)))
 
--- READING, with 01's limit
+-- READING, with the limit of a body
 abbrev pub readOf : List ℕ → Answer Typed
 readOf s = readUpTo longestBody s
 

@@ -1,4 +1,4 @@
-// A message is read in this order: Type, known or not; Length, at most 16,383; the whole body present; its fields, left
+// A message is read in this order: Type, known or not; Length, at most 65,000; the whole body present; its fields, left
 // to right, the first fault deciding; no byte left over.
 ghost use mathlib.Core.Path.{_≡_};
 ghost use Rattle.layout.specs.Layout.{scan};

@@ -62,7 +62,7 @@ module _ (s : List ℕ) where
   pub more : readOf s ≡ refused 1 → (x : List ℕ) × (readOf (s ++ x) ≡ refused 1 → ⊥)
   more _ = enough.more longestBody s
 
-  -- No more than 16,399 bytes are ever wanted.
+  -- No more than 65,016 bytes are ever wanted.
   pub decided : longestMessage ≤ length s → readOf s ≡ refused 1 → ⊥
   decided = enough.decided longestBody s
 

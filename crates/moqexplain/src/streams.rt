@@ -15,7 +15,7 @@ struct Printed {
     more: bool,
 }
 
-// A message has at most 16,399 bytes, so what is left of one always leaves room to read into. The turns are counted
+// A message has at most 65,016 bytes, so what is left of one always leaves room to read into. The turns are counted
 // down as those of a trace.
 pub fn explain() {
     let mut buffer = [0u8; 131072];

@@ -53,7 +53,7 @@ afterType c type at =
 
 -- ---- the Length
 
--- "Length, at most 16,383; whole body present", among that many bytes; the fields are looked for in the body alone
+-- "Length, at most" 65,000; "whole body present", among that many bytes; the fields are looked for in the body alone
 unfoldable pub afterLength : Cursor → ℕ → ℕ → ℕ → Cursor
 afterLength c size at all =
     guard (leb size longestBody) (onward c (Stopped 3) at)

@@ -58,7 +58,7 @@ fn after_type(c: Cursor, number: u64, at: usize) -> Cursor
     }
 }
 
-// The Length is at most 16,383, and the whole body present, among len bytes; the fields are looked for in it alone.
+// The Length is at most 65,000, and the whole body present, among len bytes; the fields are looked for in it alone.
 fn after_length(c: Cursor, size: u64, at: usize, len: usize) -> Cursor
     ensures { λ r. ⌜ r ≡ afterLength c size at len ⌝ }
 {

@@ -1,6 +1,6 @@
 -- The limit that all control messages have.
 use Prim.Native.Nat.{ℕ}
 
--- "Length, at most 16,383": the longest body
+-- the longest body: "Raise the limit to 65,000" (document 02, K8)
 abbrev pub longestBody : ℕ
-longestBody = 16_383
+longestBody = 65_000

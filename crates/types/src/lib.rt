@@ -10,4 +10,4 @@ pub use rules::is_track_status;
 pub use rules::may_hold;
 
 // The longest body that is read or written.
-pub const LONGEST_BODY: u32 = 16_383;
+pub const LONGEST_BODY: u32 = 65_000;
