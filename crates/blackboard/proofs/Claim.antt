@@ -20,7 +20,7 @@ use Rattle.field.specs.Rules.{askable, givable}
 use Rattle.types.specs.Subscriptions.{filter, delivery, subscribe, content, subscribeOk}
 use Rattle.subscription.proofs.Made.{messageOf as subscriptionOf}
 use Rattle.message.proofs.Made.{familyOf, messageOf as madeOf, answerOf}
-use Rattle.message.proofs.OneReading.{readingOf}
+use Rattle.message.proofs.OneReading.{readingUpTo}
 use Rattle.message_writer.specs.Sound.{soundOf}
 use Rattle.row.specs.Places.{before, small, smallPlace}
 use Rattle.row.specs.Ranges.{inRange, isKnown, smallRange, settledOf}
@@ -42,7 +42,7 @@ use Rattle.integer.specs.Integer.{wide, room, sizeOf, spell, bytesOf, encOf, re
 use Rattle.blackboard.specs.Table.{Line, answersTo, found, stated, lines}
 
 computed : map found lines ≡ map stated lines
-unfolding found stated lines wide room sizeOf spell bytesOf readOf putForm writeOf numberAt fieldAt scan fetchCancel messages typeRowIn typeRowOf known layoutOf bodyUpTo readUpTo writeUpTo allowed allowedOf right sized rightAll sizedAll encodeAll encode encField mean writtenOf frame encOf answersTo smallPiece smallAll askable soundOf small smallPlace isKnown smallRange countAgrees suits isRow isPending isNowhere isUnused held rising hasAlias distinct allUnused bounded isLedger stops gateOf gated upTo look turn startOf subscribeStep takeOf textAt numberedAt entryAt mostOf entriesAt few listAt placeAt place parameters givable filter delivery subscribe content subscribeOk subscriptionOf familyOf madeOf answerOf readingOf before inRange settledOf greater risen countedRow arriveOf openOf byKey noRow okAt arriveAt smallArrival arrivalOf tagOf valueOf fieldSize isWhole feedByte feed letters decimalIn decimalOf wordOf itemOf endedOf isNone lineOf startedBy controlBy arrivedBy eventOf offsetOf stepOf step fed finishOf replayOf rowsText ledgerText textOf reportOf
+unfolding found stated lines wide room sizeOf spell bytesOf readOf putForm writeOf numberAt fieldAt scan fetchCancel messages typeRowIn typeRowOf known layoutOf bodyUpTo readUpTo writeUpTo allowed allowedOf right sized rightAll sizedAll encodeAll encode encField mean writtenOf frame encOf answersTo smallPiece smallAll askable soundOf small smallPlace isKnown smallRange countAgrees suits isRow isPending isNowhere isUnused held rising hasAlias distinct allUnused bounded isLedger stops gateOf gated upTo look turn startOf subscribeStep takeOf textAt numberedAt entryAt mostOf entriesAt few listAt placeAt place parameters givable filter delivery subscribe content subscribeOk subscriptionOf familyOf madeOf answerOf readingUpTo before inRange settledOf greater risen countedRow arriveOf openOf byKey noRow okAt arriveAt smallArrival arrivalOf tagOf valueOf fieldSize isWhole feedByte feed letters decimalIn decimalOf wordOf itemOf endedOf isNone lineOf startedBy controlBy arrivedBy eventOf offsetOf stepOf step fed finishOf replayOf rowsText ledgerText textOf reportOf
 computed = refl
 
 -- two functions that map a list alike agree at each of its members

@@ -13,6 +13,7 @@ use Rattle.common.specs.Choice.{pick, both}
 use Rattle.common.specs.Answer.{number}
 use Rattle.common.specs.Buffer.{over}
 use Rattle.row.specs.Places.{small}
+use Rattle.types.specs.Limits.{longestBody}
 use Rattle.message.specs.Reading.{readOf, told as toldReading}
 use Rattle.message.specs.declared.Message.{Message}
 use Rattle.message.specs.declared.Reading.{Reading}
@@ -135,7 +136,7 @@ module _ (before info : List ℕ) (m : Message) (used : ℕ) {l : Ledger} (e : l
 pub read-as : (s before info : List ℕ) {r v : Reading} {n : ℕ} {out inf : List ℕ} → toldReading r ≡ readOf s → r ≡ v → Does (takenBy v before info) n out inf → Does (messageCall s before info) n out inf
 unfolding messageCall
 read-as s before info {r} {v} f h d =
-    let e : readingOf s ≡ v = sym (reading-only s r f) ∙ h in
+    let e : readingOf s ≡ v = sym (reading-only longestBody s r f) ∙ h in
     rw e d
 
 -- "every other reading ends there"

@@ -17,7 +17,7 @@ use Rattle.field.proofs.Found.{number-at, number-read}
 use Rattle.field.proofs.Unjudged.{apart}
 use Rattle.layout.specs.Typed.{Typed, typed}
 use Rattle.message.specs.Reading.{longestUpTo, readUpTo}
-use Rattle.message.proofs.Front.{Stops, no-type, unknown, no-length, too-long, missing, Judged, stopped, present, judged}
+use Rattle.message.proofs.Front.{Stops, no-type, unknown, no-length, too-long, missing, Judged, stopped, present, judged, parts}
 use Rattle.message.proofs.Numbers.{body-numbers}
 
 -- where there are 8 bytes there is an integer,
@@ -48,6 +48,12 @@ decided limit s long = go (judged limit s)
     go (stopped h) e = stop-decided long h (cc)
     go (present {type = type} {size = size} {at = at} {fields = fields} h short room e) f =
         omega (arith, body-numbers (at + size) (typed type fields) f .0)
+
+-- no message that is read has more
+pub at-most : (limit : ℕ) (s : List ℕ) {t : Typed} {used : ℕ} → readUpTo limit s ≡ answered t used → used ≤ longestUpTo limit
+at-most limit s h =
+    let w = parts limit s h in
+    omega (arith, w .ends, w .short, integer-few s 0 (w .head .type-at), integer-few s (w .head .next) (w .head .length-at))
 
 -- any number of bytes can follow
 longer : (n : ℕ) (s : List ℕ) → (x : List ℕ) × (n ≤ length (s ++ x))

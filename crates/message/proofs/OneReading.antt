@@ -32,7 +32,7 @@ use Rattle.session.proofs.Made.{made-says as session-says}
 use Rattle.types.specs.declared.kinds.SessionKind.the-variants as session
 use Rattle.message.specs.Types.{typedOf}
 use Rattle.types.specs.Limits.{longestBody}
-use Rattle.message.specs.Reading.{filledBy, readOf, told}
+use Rattle.message.specs.Reading.{filledBy, readUpTo, told}
 use Rattle.message.specs.declared.Reading.{Reading}
 use Rattle.message.proofs.Made.{familyOf, messageOf, refusalOf, answerOf}
 use Rattle.message.proofs.Front.{Stops, no-type, unknown, no-length, too-long, missing, Judged, stopped, present, judged}
@@ -129,19 +129,24 @@ body-told end type s at (no Oversize) h = refl
 
 -- ---- THE READING
 
-unfoldable pub readingOf : List ℕ → Reading
-readingOf s = answerOf (readOf s)
+-- under a limit of the body,
+unfoldable pub readingUpTo : ℕ → List ℕ → Reading
+readingUpTo limit s = answerOf (readUpTo limit s)
+
+-- and with the limit that there is
+abbrev pub readingOf : List ℕ → Reading
+readingOf s = readingUpTo longestBody s
 
 -- it tells what reading answers,
-pub reading-is : (s : List ℕ) → told (readingOf s) ≡ readOf s
-unfolding readingOf answerOf
-reading-is s = go (judged longestBody s)
+pub reading-is : (limit : ℕ) (s : List ℕ) → told (readingUpTo limit s) ≡ readUpTo limit s
+unfolding readingUpTo answerOf
+reading-is limit s = go (judged limit s)
   where
-    go : {o : Answer Typed} → Judged longestBody s o → told (answerOf o) ≡ o
+    go : {o : Answer Typed} → Judged limit s o → told (answerOf o) ≡ o
     go (stopped h) = stop-told h
     go (present {type = type} {size = size} {at = at} {fields = fields} h short room e) = body-told (at + size) type _ at fields e
 
 -- and no other does
-pub reading-only : (s : List ℕ) (r : Reading) → told r ≡ readOf s → r ≡ readingOf s
-unfolding readingOf
-reading-only s r e = sym (answer-back r) ∙ ap answerOf e
+pub reading-only : (limit : ℕ) (s : List ℕ) (r : Reading) → told r ≡ readUpTo limit s → r ≡ readingUpTo limit s
+unfolding readingUpTo
+reading-only limit s r e = sym (answer-back r) ∙ ap answerOf e

@@ -3,10 +3,11 @@
 use Prim.Native.Nat.{ℕ, _≤_}
 use mathlib.Core.Path.{_≡_, refl}
 use mathlib.Core.List.{List, _++_, map}
-use mathlib.Core.Bool.{true}
+use mathlib.Core.Bool.{true, false}
 use lib.ListN.{length, take}
 use denote.Ref.{RefT}
 use Rattle.common.specs.Answer.{whole as answered, refused, wrote, Leaves}
+use Rattle.common.specs.Choice.{pick}
 use Rattle.common.specs.Octets.{Octets}
 use Rattle.field.specs.Outcome.{whole}
 use Rattle.field.specs.Entries.{numberAt}
@@ -21,7 +22,8 @@ use Rattle.encode.specs.declared.Writing.{Writing}
 use Rattle.types.specs.Table.{known, layoutOf}
 use Rattle.message.specs.Types.{typedOf}
 use Rattle.types.specs.Limits.{longestBody}
-use Rattle.message.specs.Reading.{longestMessage, readOf, told}
+use Rattle.message.specs.Reading.{longestMessage, readUpTo, readOf, told}
+use Rattle.message.specs.Limits.{lengthOver}
 use Rattle.message.specs.Part.{PartOf}
 use Rattle.message.specs.Names.{nameSpan, namedSpan}
 use Rattle.message_writer.specs.Writing.{writeOf}
@@ -35,6 +37,7 @@ use Rattle.message.proofs.Front as front
 use Rattle.message.proofs.Stable as stable
 use Rattle.message.proofs.Numbers as refusals
 use Rattle.message.proofs.Enough as enough
+use Rattle.message.proofs.Limits as limits
 use Rattle.message.proofs.Fields as fields
 use Rattle.message_writer.proofs.RoundTrip as round-trip
 use Rattle.message_writer.proofs.Again as again
@@ -54,6 +57,11 @@ module _ (s : List ℕ) where
   pub whole-stays : (x : List ℕ) {t : Typed} {used : ℕ} → readOf s ≡ answered t used → readOf (s ++ x) ≡ answered t used
   whole-stays = stable.whole-stays longestBody s
 
+  -- whether they come or are cut off,
+  pub whole-before : (x : List ℕ) {t : Typed} {used : ℕ} → readOf (s ++ x) ≡ answered t used → used ≤ length s
+      → readOf s ≡ answered t used
+  whole-before = stable.whole-before longestBody s
+
   -- nor of a refusal from 2 to 6;
   pub refusal-stays : (x : List ℕ) {n : ℕ} → (n ≡ 1 → ⊥) → readOf s ≡ refused n → readOf (s ++ x) ≡ refused n
   refusal-stays = stable.refusal-stays longestBody s
@@ -62,9 +70,13 @@ module _ (s : List ℕ) where
   pub more : readOf s ≡ refused 1 → (x : List ℕ) × (readOf (s ++ x) ≡ refused 1 → ⊥)
   more _ = enough.more longestBody s
 
-  -- No more than 65,016 bytes are ever wanted.
+  -- No more than 65,016 bytes are ever wanted,
   pub decided : longestMessage ≤ length s → readOf s ≡ refused 1 → ⊥
   decided = enough.decided longestBody s
+
+  -- and no message that is read has more.
+  pub at-most : {t : Typed} {used : ℕ} → readOf s ≡ answered t used → used ≤ longestMessage
+  at-most = enough.at-most longestBody s
 
   module _ {t : Typed} {used : ℕ} where
     -- 3. A whole message is its Type, its Length, and a body of that many bytes, which its fields fill; those are the
@@ -159,7 +171,7 @@ module _ (s t : List ℕ) (m k : Message) (same : Same s (typedOf m) t (typedOf 
 
 -- 10. For all bytes there is a reading that meets the contract of `read`,
 pub reads : (s : List ℕ) → told (readingOf s) ≡ readOf s
-reads = one-reading.reading-is
+reads = one-reading.reading-is longestBody
 
 -- and it is the only one: the contract leaves one possible answer,
 pub read-once : (s : List ℕ) (a b : Reading) → told a ≡ readOf s → told b ≡ readOf s → a ≡ b
@@ -174,3 +186,13 @@ name-once = places.part-once
 pub write-once : (s : List ℕ) (m : Message) (before : List ℕ) (a b : Writing) {x y : List ℕ}
     → Leaves (writeOf s m before) (toldWriting a) x → Leaves (writeOf s m before) (toldWriting b) y → (a ≡ b) × (x ≡ y)
 write-once = writing.write-once
+
+module _ (low : ℕ) (rises : low ≤ longestBody) (s : List ℕ) where
+  -- 11. Under a lower limit of the body reading answers 3 where a known Type is followed by a Length over it, and else
+  -- what it answers;
+  pub under-lower : readUpTo low s ≡ pick (lengthOver low s) (refused 3) (readOf s)
+  under-lower = limits.under-lower low longestBody rises s
+
+  -- so without such a Length every reading is the same under both.
+  pub same-under : lengthOver low s ≡ false → readOf s ≡ readUpTo low s
+  same-under = limits.same-under low longestBody rises s

@@ -17,6 +17,7 @@ use Rattle.field.specs.declared.PlaceRead.{PlaceRead}
 use Rattle.field.specs.declared.PlaceRead.the-variants.{Whole as WholePlace, Cut as CutPlace}
 use Rattle.field.proofs.Found.{number-at}
 use Rattle.field.proofs.TwoReads.{number-missing, number-there}
+use Rattle.types.specs.Limits.{longestBody}
 use Rattle.message.specs.Reading.{readOf, told}
 use Rattle.message.specs.declared.Message.{Message}
 use Rattle.message.specs.declared.Reading.{Reading}
@@ -55,7 +56,7 @@ module _ (value : List ℕ) {r : NumberRead} (said : toldNumber r ≡ fieldAt in
 -- a reading tells the field
 pub control-by : (value : List ℕ) {r v : Reading} {e : Event} → told r ≡ readOf value → r ≡ v → e ≡ readingBy value v → e ≡ controlBy value
 unfolding controlBy
-control-by value {r} said h is = is ∙ ap (readingBy value) (sym h ∙ reading-only value r said)
+control-by value {r} said h is = is ∙ ap (readingBy value) (sym h ∙ reading-only longestBody value r said)
 
 pub control-else : (value : List ℕ) (r : Reading) {e : Event} → told r ≡ readOf value → OneOf (1 ∷ 2 ∷ 3 ∷ 4 ∷ 5 ∷ 6 ∷ []) (tagOf the-type r) → e ≡ malformedBy (number (told r)) → e ≡ controlBy value
 control-else value r said h is = control-by value {r = r} said refl (is ∙ not-whole r (λ m used. filling value used (Control m)) (malformedBy (number (told r))) h)
