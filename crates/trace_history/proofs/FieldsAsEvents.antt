@@ -24,7 +24,7 @@ use Rattle.replay.specs.declared.Stage.the-variants.{Empty, Running, Faulty}
 use Rattle.replay.specs.declared.Progress.{Progress}
 use Rattle.replay.proofs.Ledgers.{Startable, event-fits}
 use Rattle.answers.specs.Answers.{lineBy, lineIn, SoFar, addLine, withText, faultItems, endItems, lastText, answersOf}
-use Rattle.trace_history.specs.Histories.{traceFields, Faultless, Started, startBy, startIn, happens, happeningIn, historyOf, verdictIn, linesOf}
+use Rattle.trace_history.specs.Histories.{traceFields, Faultless, Started, startBy, startIn, happens, happeningIn, historyOf, verdictIn, linesOf, tellBy}
 use Rattle.trace_history.proofs.Cutting.{steps, fed-steps, restOf, cut-so}
 
 abbrev stands : Ledger → Stage → ℕ → List ℕ → SoFar
@@ -57,12 +57,6 @@ record Follows (end : SoFar) (l : Ledger) (text : List ℕ) : Type 0 where
 
 abbrev Unbroken : List (List ℕ) → SoFar → Type 0
 Unbroken fields t = steps addLine t fields .progress .stage ≡ Running
-
--- what a field comes to, by what it is
-abbrev tellBy : SoFar → FieldEvent → ℕ → SoFar
-tellBy t e size =
-    let stepped = stepOf (t .progress) e size in
-    withText (stepped .next) (t .text ++ lineOf (lineBy (t .progress .offset) (stepped .event) (stepped .says)))
 
 follows : (fields : List (List ℕ)) (l : Ledger) (offset : ℕ) (text : List ℕ) → Unbroken fields (stands l Running offset text) → Follows (steps addLine (stands l Running offset text) fields) (ledgerAfter l (happeningIn fields)) (text ++ linesOf offset fields (map verdictIn (logOf l (happeningIn fields))))
 unfolding steps addLine stepOf lineIn happeningIn ledgerAfter logOf linesOf headD

@@ -13,11 +13,11 @@ use Rattle.trace.specs.Fields.{fieldSize}
 use Rattle.trace.specs.Feeding.{Held, feed}
 use Rattle.text.specs.Lines.{lineOf}
 use Rattle.replay.specs.Events.{eventIn}
-use Rattle.replay.specs.Progressing.{begun, heardOf, offsetOf, replayOf}
+use Rattle.replay.specs.Progressing.{begun, heardOf, stepOf, offsetOf, replayOf}
 use Rattle.replay.specs.declared.Event.{Event as FieldEvent}
 use Rattle.replay.specs.declared.Event.the-variants.{Start, Control, Malformed, Arrived, Fault}
 use Rattle.replay.specs.declared.Stage.the-variants.{Running}
-use Rattle.answers.specs.Answers.{lineBy}
+use Rattle.answers.specs.Answers.{lineBy, SoFar, withText}
 
 -- ---- the fields
 
@@ -67,6 +67,12 @@ unfoldable pub historyOf : List ℕ → List Event
 historyOf s = happeningIn (traceFields s)
 
 -- ---- the lines of answers
+
+-- what a field comes to, by what it is: a step, and its line
+abbrev pub tellBy : SoFar → FieldEvent → ℕ → SoFar
+tellBy t e size =
+    let stepped = stepOf (t .progress) e size in
+    withText (stepped .next) (t .text ++ lineOf (lineBy (t .progress .offset) (stepped .event) (stepped .says)))
 
 -- what an event is answered
 abbrev pub verdictIn : Logged → Verdict
