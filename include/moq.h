@@ -54,7 +54,10 @@ uint64_t moq_integer_write(uint64_t n, uint8_t *out, size_t out_len, uint64_t *i
    info[0]: the bytes used; info[1]: the bytes written, never more than were used; info[2]: the type, or 0 for the header of an
    object, which has none. 7: info has fewer than 3 values, or out is too short. */
 
-/* A control message: 1, 2, 3, 4, 5, 6, 7. */
+/* A control message: 1, 2, 3, 4, 5, 6, 7. None has more than MOQ_LONGEST_MESSAGE bytes, the longest body after a Type and a Length of
+   eight bytes each; where so many are lent, 1 is not answered. */
+#define MOQ_LONGEST_BODY 65000
+#define MOQ_LONGEST_MESSAGE (8 + 8 + MOQ_LONGEST_BODY)
 uint64_t moq_control_rewrite(const uint8_t *s, size_t s_len, uint8_t *out, size_t out_len, uint64_t *info, size_t info_len);
 
 /* The header of a datagram, which is always whole: 2, 4, 5, 7. The payload of an object follows the bytes used. */

@@ -6,6 +6,7 @@ use second::generate::damaged::DAMAGES;
 use second::generate::{Call, LedgerCase, Ledgers, Random};
 use second::integer::GREATEST;
 use second::ledger::{Ledger, Part, Place, Range, Row, ROWS};
+use second::message::MOST_BODY_BYTES;
 use second::numbers::{self, COUNT, EACH, FIRST};
 use second::report::{LONGEST_LINE, LONGEST_REPORT};
 use second::{calls, hex};
@@ -35,8 +36,8 @@ fn defined(header: &str, name: &str) -> usize {
     line.and_then(|value| value.parse().ok()).expect("a number")
 }
 
-/// C's names, for the parts of a ledger and for the longest text of a report,
-/// are the numbers that this side has.
+/// C's names, for the parts of a ledger, for the longest text of a report and
+/// for the longest message, are the numbers that this side has.
 #[test]
 fn names_in_c() {
     let header = include_str!("../../include/moq.h");
@@ -49,6 +50,10 @@ fn names_in_c() {
     assert_eq!((line, line * (2 + ROWS)), (LONGEST_LINE, LONGEST_REPORT));
     let whole = "(MOQ_LONGEST_LINE * (2 + MOQ_ROWS))";
     assert!(header.contains(&format!("#define MOQ_LONGEST_REPORT {whole}")));
+    let body = defined(header, "MOQ_LONGEST_BODY");
+    assert_eq!(body as u64, MOST_BODY_BYTES);
+    let whole = "(8 + 8 + MOQ_LONGEST_BODY)";
+    assert!(header.contains(&format!("#define MOQ_LONGEST_MESSAGE {whole}")));
 }
 
 /// The calls of 01's report, one by one, with the numbers after each.
