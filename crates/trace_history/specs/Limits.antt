@@ -27,7 +27,8 @@ formerBody = 16_383
 
 -- ---- a field
 
--- with tag 2 it is a control message, read under the limit; any other field is what it is
+-- with tag 2 it is a control message, by the one reading that tells what is read under the limit (`reading-is`,
+-- message/proofs/OneReading.antt); any other field is what it is
 unfoldable pub eventUpTo : ℕ → List ℕ → FieldEvent
 eventUpTo limit field =
     let value = valueOf field in
