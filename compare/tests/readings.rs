@@ -24,10 +24,12 @@ const CONTROL: &[(&str, &str, u8)] = &[
     ("B1", "3F", 2),
     ("B1", "C0 FF", 1),
     ("B1", "40 3F", 2),
+    ("B2", "17 80 00 40 00", 1),
+    ("B2", "17 80 00 FD E8", 1),
     ("B2", "17 80 00 FD E9", 3),
+    ("B2", "17 80 01 00 01 05", 3),
     ("B2", "17 80 00 FD", 1),
     ("B2", "17 80 00 40", 1),
-    ("B2", "17 80 01 00 01 05", 3),
     ("B3", "03 0A 03 07 00", 1),
     ("B3", "03 03 03 07 00", 6),
     ("B4", "07 01 21", 6),
@@ -124,16 +126,6 @@ const TRACE: &[(&str, &str, &str)] = &[
         "trace fault at 5 /",
     ),
     ("H5", "01 00 02 00 0A 02 00 00", "trace fault at 5 /"),
-    (
-        "K8",
-        "01 00 02 00 0A 02 00 05 17 80 00 40 00",
-        "trace fault at 5 /",
-    ),
-    (
-        "K8",
-        "01 00 02 00 0A 02 00 05 17 80 00 FD E9",
-        "closed R1 0 / ID ALIAS STATE GROUP OBJECT COUNT /",
-    ),
     ("H6", "01 00 02 00 0A 03 00 02 07 00", "trace fault at 5 /"),
     (
         "H6",
@@ -152,6 +144,16 @@ const TRACE: &[(&str, &str, &str)] = &[
         "H9",
         "01 00 02 00 0A",
         "open 0 / ID ALIAS STATE GROUP OBJECT COUNT /",
+    ),
+    (
+        "H18",
+        "01 00 02 00 0A 02 00 05 17 80 00 40 00",
+        "trace fault at 5 /",
+    ),
+    (
+        "H18",
+        "01 00 02 00 0A 02 00 05 17 80 00 FD E9",
+        "closed R1 0 / ID ALIAS STATE GROUP OBJECT COUNT /",
     ),
 ];
 
