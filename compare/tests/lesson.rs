@@ -66,7 +66,7 @@ fn commands() {
             count += 1;
         }
     }
-    assert_eq!(count, 6);
+    assert_eq!(count, 7);
 }
 
 // ---- RFC 9000's table
