@@ -1,7 +1,7 @@
 -- A trace without fault, field by field: the ledger that the first field starts takes what each of the others is, and each line tells
 -- what that is answered. Assumes nothing.
 use Prim.Native.Nat.{ℕ}
-use mathlib.Core.Path.{_≡_, refl, sym, ap, _∙_}
+use mathlib.Core.Path.{_≡_, refl, sym, _∙_}
 use mathlib.Core.Bool.{true}
 use mathlib.Core.List.{List, [], _∷_, _++_, map, headD, tail, append-assoc, append-nil}
 use native.Mathlib.Omega.{arith}
@@ -21,9 +21,8 @@ use Rattle.replay.specs.declared.Event.{Event as FieldEvent}
 use Rattle.replay.specs.declared.Event.the-variants.{Start, Control, Malformed, Arrived, Fault}
 use Rattle.replay.specs.declared.Stage.{Stage}
 use Rattle.replay.specs.declared.Stage.the-variants.{Empty, Running, Faulty}
-use Rattle.replay.specs.declared.Progress.{Progress}
 use Rattle.replay.proofs.Ledgers.{Startable, event-fits}
-use Rattle.answers.specs.Answers.{lineBy, lineIn, SoFar, addLine, withText, faultItems, endItems, lastText, answersOf}
+use Rattle.answers.specs.Answers.{lineBy, lineIn, SoFar, addLine, withText, endItems, lastText, answersOf}
 use Rattle.trace_history.specs.Histories.{traceFields, Faultless, Started, startBy, startIn, happens, happeningIn, historyOf, verdictIn, linesOf, tellBy}
 use Rattle.trace_history.proofs.Cutting.{steps, fed-steps, restOf, cut-so}
 

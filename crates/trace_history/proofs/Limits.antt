@@ -4,7 +4,6 @@ use Prim.Native.Nat.{ℕ, _≤_}
 use mathlib.Core.Path.{_≡_, refl, sym, ap, _∙_}
 use mathlib.Core.Bool.{Bool, true, false}
 use mathlib.Core.List.{List, [], _∷_}
-use native.Mathlib.Omega.{arith}
 use borrow.Author.Tests.{eqb-true}
 use lib.ListN.{length}
 use lib.Dec.{eqb}
@@ -19,7 +18,7 @@ use Rattle.message.specs.Limits.{lengthOver}
 use Rattle.message.proofs.Made.{answerOf}
 use Rattle.message.proofs.OneReading.{readingUpTo}
 use Rattle.message.proofs.Limits.{under-lower}
-use Rattle.trace.specs.Fields.{tagOf, valueOf, fieldSize}
+use Rattle.trace.specs.Fields.{tagOf, valueOf}
 use Rattle.trace.specs.Feeding.{Held, feed}
 use Rattle.replay.specs.Events.{readingBy, controlBy, eventOf, eventIn}
 use Rattle.replay.specs.Progressing.{stepOf, begun, step, fed, finishOf, replayOf}

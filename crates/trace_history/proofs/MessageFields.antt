@@ -1,22 +1,19 @@
 -- A message that was read, as a field of a trace: the two bytes of a field's length hold its length. Assumes nothing.
 use Prim.Native.Nat.{ℕ, _+_, _*_, _/_, _%_, _≤_}
-use mathlib.Core.Path.{_≡_, refl, sym, ap, _∙_}
-use mathlib.Core.List.{List, [], _∷_, _++_}
+use mathlib.Core.Path.{_≡_, refl, sym}
+use mathlib.Core.List.{List}
 use native.Mathlib.Omega.{arith}
-use borrow.Author.Tests.{eq-eqb}
-use lib.ListN.{length, take, drop, take-append-drop, length-append}
+use lib.ListN.{length, take, drop, take-append-drop}
 use lib.Seq.{length-take-le}
 use Rattle.common.specs.Answer.{whole as answered}
 use Rattle.integer.specs.Bytes.{bytesOf}
-use Rattle.types.specs.Limits.{longestBody}
 use Rattle.message.specs.Types.{typedOf}
 use Rattle.message.specs.Reading.{longestMessage, readOf}
 use Rattle.message.specs.declared.Message.{Message}
 use Rattle.message.specs.declared.Reading.the-variants.{Whole}
-use Rattle.message.proofs.OneReading.{reading-only}
 use Rattle.message_writer.proofs.Theorems.{whole-before, at-most, used-there}
 use Rattle.trace.specs.Fields.{tagOf, valueOf, fieldSize}
-use Rattle.replay.specs.Events.{filling, readingBy, controlBy, eventOf, eventIn}
+use Rattle.replay.specs.Events.{eventOf, eventIn}
 use Rattle.replay.specs.declared.Event.the-variants.{Control}
 use Rattle.replay.proofs.Meaning.{control-filled}
 use Rattle.trace_history.specs.Limits.{fieldOfMessage}

@@ -14,7 +14,6 @@ use Rattle.message.specs.declared.Message.{Message}
 use Rattle.ledger.specs.Answers.{noRule}
 use Rattle.ledger.specs.Ledgers.{mostRows, held}
 use Rattle.ledger.specs.declared.Ledger.{Ledger}
-use Rattle.orders.specs.Events.{Event}
 use Rattle.history.specs.Events.{ledgerAfter, logOf}
 use Rattle.history.specs.Orders.{Exchanged}
 use Rattle.history.specs.Rows.{rowsOf}

@@ -10,7 +10,7 @@ use Rattle.ledger.specs.declared.Part.{Part}
 use Rattle.orders.specs.Events.{Event, message, malformed, arrival}
 use Rattle.history.specs.Events.{Logged}
 use Rattle.trace.specs.Fields.{fieldSize}
-use Rattle.trace.specs.Feeding.{Held, feed}
+use Rattle.trace.specs.Feeding.{feed}
 use Rattle.text.specs.Lines.{lineOf}
 use Rattle.replay.specs.Events.{eventIn}
 use Rattle.replay.specs.Progressing.{begun, heardOf, stepOf, offsetOf, replayOf}
