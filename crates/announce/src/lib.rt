@@ -1,5 +1,7 @@
 // The messages of namespaces: ANNOUNCE and SUBSCRIBE_ANNOUNCES, and the answers to them. Each begins with a namespace,
 // or a prefix of one; by what follows there are three shapes.
+#![tactic(auto)]
+
 mod reader;
 mod writer;
 
@@ -8,19 +10,19 @@ pub use reader::read;
 use types::kinds::{Asking, Naming, Refusing};
 pub use writer::{fields, number};
 
-#[derive(Drop)]
+#[derive(Clone, Copy)]
 pub struct Announce {
     pub namespace: Entries,
     pub parameters: Entries,
 }
 
-#[derive(Drop)]
+#[derive(Clone, Copy)]
 pub struct Refusal {
     pub namespace: Entries,
     pub failure: Failure,
 }
 
-#[derive(Drop)]
+#[derive(Clone, Copy)]
 pub enum AnnounceMessage {
     Named(Naming, Entries),
     Asked(Asking, Announce),
@@ -28,7 +30,7 @@ pub enum AnnounceMessage {
 }
 
 // A message and where it ends, or why it is refused.
-#[derive(Drop)]
+#[derive(Clone, Copy)]
 pub enum AnnounceRead {
     Whole(AnnounceMessage, usize),
     No(Fault),

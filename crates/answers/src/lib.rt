@@ -1,4 +1,6 @@
 // What each field of a trace was answered: a line for each, and where the trace is at fault.
+#![tactic(auto)]
+
 mod lines;
 mod writing;
 
@@ -9,7 +11,7 @@ pub use writing::of_trace;
 
 // A field that was taken: the line that tells what it was answered, the progress after it, and where it ends. Where no
 // whole field stands, the line has no items, and nothing is used.
-#[derive(Drop)]
+#[derive(Clone, Copy)]
 pub struct FieldLine {
     pub line: Line,
     pub progress: Progress,

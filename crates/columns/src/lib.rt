@@ -1,5 +1,7 @@
 // Lines in columns, put into a lent buffer from an offset on: offsets, bytes in hexadecimal, bytes as text. What
 // doesn't fit the buffer is lost, so that no function asks for room; each hands back where the next byte goes.
+#![tactic(auto)]
+
 mod bytes;
 mod hexadecimal;
 mod texts;

@@ -1,5 +1,7 @@
 // The shortest form of a field, of a message or of a header: judged and measured before a byte is written, then put at
 // the front of what is lent.
+#![tactic(auto)]
+
 mod heading;
 mod putting;
 mod writer;
@@ -10,7 +12,7 @@ pub use writer::write_framed;
 
 // How many bytes were written; or that something can't be written, is over a size, makes a body too long, or finds the
 // output too short.
-#[derive(Drop)]
+#[derive(Clone, Copy)]
 pub enum Writing {
     Done(usize),
     Forbidden,

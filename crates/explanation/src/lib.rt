@@ -1,5 +1,7 @@
 // What each byte of a field of a trace, or of a message of a control stream, is: line by line, into a lent buffer. What
 // doesn't fit the buffer is lost; a call puts at most LONGEST_LINES bytes.
+#![tactic(auto)]
+
 mod telling;
 
 use parts::Cursor;
@@ -9,7 +11,7 @@ pub use telling::{begin_field, begin_message, is_over, next, over, tag_of};
 pub const LONGEST_LINES: usize = 2048;
 
 // Why a field of a trace is at fault.
-#[derive(Drop)]
+#[derive(Clone, Copy)]
 pub enum Reason {
     NoTag,
     NotFirst,
@@ -21,7 +23,7 @@ pub enum Reason {
 
 // What stands below the parts of a field: what the ledger answered, by document 01's number and its rule; or why the
 // field is at fault. Below those of a message in a control stream, what the reader answered.
-#[derive(Drop)]
+#[derive(Clone, Copy)]
 pub enum Ending {
     Answered(u8, u8),
     Fault(Reason),
@@ -30,7 +32,7 @@ pub enum Ending {
 
 // Which line comes next: that of a field; that of the part at the cursor; the ending, and what the reader answered; or
 // none.
-#[derive(Drop)]
+#[derive(Clone, Copy)]
 pub enum Due {
     Field,
     Part,
@@ -40,7 +42,7 @@ pub enum Due {
 
 // How far a field, or a message of a control stream, is explained: which line is due, the next part, what stands below
 // the parts, the offset of its first byte, and where its value starts.
-#[derive(Drop)]
+#[derive(Clone, Copy)]
 pub struct Explaining {
     pub due: Due,
     pub cursor: Cursor,
@@ -50,7 +52,7 @@ pub struct Explaining {
 }
 
 // Where the next byte of text goes, and what is left to be explained.
-#[derive(Drop)]
+#[derive(Clone, Copy)]
 pub struct NextLines {
     pub at: usize,
     pub next: Explaining,

@@ -1,5 +1,7 @@
 // The lines of an explanation, put into a lent buffer from an offset on: an offset, bytes, and what they are. What
 // doesn't fit the buffer is lost; each function hands back where the next byte goes.
+#![tactic(auto)]
+
 mod clamping;
 mod lines;
 mod numbers;
@@ -13,7 +15,7 @@ pub use numbers::put_field_value;
 pub use steps::put_step;
 
 // The words that say why a trace is at fault.
-#[derive(Drop)]
+#[derive(Clone, Copy)]
 pub enum Word {
     NoTag,
     NotFirst,
@@ -26,7 +28,7 @@ pub enum Word {
 }
 
 // What a part holds; or it is what no part takes.
-#[derive(Drop)]
+#[derive(Clone, Copy)]
 enum Held {
     Number,
     Byte,

@@ -8,7 +8,7 @@ use crate::Word;
 use columns::put_bytes;
 
 // From where up to where in a text.
-#[derive(Drop)]
+#[derive(Clone, Copy)]
 struct Span(usize, usize);
 
 fn word_span(word: Word) -> Span

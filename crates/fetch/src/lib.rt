@@ -1,4 +1,6 @@
 // The messages that retrieve what was published: FETCH and the answers to it, and the status of a track.
+#![tactic(auto)]
+
 mod name;
 mod parameters;
 mod reader;
@@ -10,7 +12,7 @@ pub use reader::read;
 pub use writer::{fields, is_allowed, number};
 
 // Objects of a track, from one place to another.
-#[derive(Drop)]
+#[derive(Clone, Copy)]
 pub struct Standalone {
     pub track: Track,
     pub start: Place,
@@ -19,20 +21,20 @@ pub struct Standalone {
 
 // What joins a subscription: its ID, and where the fetch starts, as a group or as a number of groups before the
 // subscription.
-#[derive(Drop)]
+#[derive(Clone, Copy)]
 pub struct Joining {
     pub absolute: bool,
     pub id: u64,
     pub start: u64,
 }
 
-#[derive(Drop)]
+#[derive(Clone, Copy)]
 pub enum Range {
     Standalone(Standalone),
     Joining(Joining),
 }
 
-#[derive(Drop)]
+#[derive(Clone, Copy)]
 pub struct Fetch {
     pub id: u64,
     pub priority: u8,
@@ -41,7 +43,7 @@ pub struct Fetch {
     pub parameters: Entries,
 }
 
-#[derive(Drop)]
+#[derive(Clone, Copy)]
 pub struct FetchOk {
     pub id: u64,
     pub order: u8,
@@ -50,20 +52,20 @@ pub struct FetchOk {
     pub parameters: Entries,
 }
 
-#[derive(Drop)]
+#[derive(Clone, Copy)]
 pub struct FetchError {
     pub id: u64,
     pub failure: Failure,
 }
 
-#[derive(Drop)]
+#[derive(Clone, Copy)]
 pub struct TrackStatus {
     pub track: Track,
     pub status: u64,
     pub largest: Place,
 }
 
-#[derive(Drop)]
+#[derive(Clone, Copy)]
 pub enum FetchMessage {
     Fetch(Fetch),
     FetchOk(FetchOk),
@@ -74,7 +76,7 @@ pub enum FetchMessage {
 }
 
 // A message and where it ends, or why it is refused.
-#[derive(Drop)]
+#[derive(Clone, Copy)]
 pub enum FetchRead {
     Whole(FetchMessage, usize),
     No(Fault),

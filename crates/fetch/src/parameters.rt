@@ -10,7 +10,7 @@ use crate::{Fetch, FetchMessage, FetchOk, FetchRead, Range};
 use field::{Entries, Kind, ListRead, Place};
 
 // What stands before the fetch type.
-#[derive(Drop)]
+#[derive(Clone, Copy)]
 pub struct Head {
     pub id: u64,
     pub priority: u8,
@@ -19,7 +19,7 @@ pub struct Head {
 
 // What stands before the parameters: of a FETCH its head and what it fetches; of a FETCH_OK its ID, group order, End Of
 // Track and largest place.
-#[derive(Drop)]
+#[derive(Clone, Copy)]
 pub enum Front {
     Fetch(Head, Range),
     FetchOk(u64, u8, u8, Place),

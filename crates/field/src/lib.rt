@@ -1,5 +1,7 @@
 // The kinds of field that control messages and data headers are made of, read at an offset of the caller's bytes:
 // numbers as they are, bytes as parts of the caller's. Nothing is copied.
+#![tactic(auto)]
+
 mod pairs;
 mod reader;
 mod rules;
@@ -18,14 +20,14 @@ pub const LONGEST_TRACK: usize = 4_096;
 pub const MOST_PARAMETERS: u64 = 64;
 
 // A part of the caller's bytes: from start up to end.
-#[derive(Drop)]
+#[derive(Clone, Copy)]
 pub struct Span {
     pub start: usize,
     pub end: usize,
 }
 
 // A part of the caller's bytes that holds count entries.
-#[derive(Drop)]
+#[derive(Clone, Copy)]
 pub struct Entries {
     pub start: usize,
     pub end: usize,
@@ -34,7 +36,7 @@ pub struct Entries {
 
 // What entries are: the fields of a namespace, each a length and bytes; parameters, each a type, a length and bytes;
 // versions, each a number.
-#[derive(Drop)]
+#[derive(Clone, Copy)]
 pub enum Kind {
     Namespace,
     Parameters,
@@ -42,14 +44,14 @@ pub enum Kind {
 }
 
 // A full track name: the fields of its namespace, and its name.
-#[derive(Drop)]
+#[derive(Clone, Copy)]
 pub struct Track {
     pub namespace: Entries,
     pub name: Span,
 }
 
 // A field as it was found.
-#[derive(Drop)]
+#[derive(Clone, Copy)]
 pub enum Piece {
     Number(u64),
     Byte(u8),
@@ -59,28 +61,28 @@ pub enum Piece {
 }
 
 // A place in a track: a group and an object.
-#[derive(Drop)]
+#[derive(Clone, Copy)]
 pub struct Place {
     pub group: u64,
     pub object: u64,
 }
 
 // An arrival: the alias of its track, and its place.
-#[derive(Drop)]
+#[derive(Clone, Copy)]
 pub struct Arrival {
     pub alias: u64,
     pub place: Place,
 }
 
 // Why something failed: a code, and the reason in words.
-#[derive(Drop)]
+#[derive(Clone, Copy)]
 pub struct Failure {
     pub code: u64,
     pub reason: Span,
 }
 
 // Why a field is refused: the bytes end before it does; it holds a forbidden value; it is over a size.
-#[derive(Drop)]
+#[derive(Clone, Copy)]
 pub enum Fault {
     Cut,
     Forbidden,
@@ -88,78 +90,78 @@ pub enum Fault {
 }
 
 // An integer, and where it ends.
-#[derive(Drop)]
+#[derive(Clone, Copy)]
 pub enum NumberRead {
     Whole(u64, usize),
     Cut,
 }
 
 // A byte, and where it ends.
-#[derive(Drop)]
+#[derive(Clone, Copy)]
 pub enum ByteRead {
     Whole(u8, usize),
     Cut,
 }
 
-#[derive(Drop)]
+#[derive(Clone, Copy)]
 pub enum PlaceRead {
     Whole(Place, usize),
     Cut,
 }
 
-#[derive(Drop)]
+#[derive(Clone, Copy)]
 pub enum FailureRead {
     Whole(Failure),
     Cut,
 }
 
-#[derive(Drop)]
+#[derive(Clone, Copy)]
 pub enum BytesRead {
     Whole(Span),
     Cut,
 }
 
 // A list, and how many bytes its entries hold.
-#[derive(Drop)]
+#[derive(Clone, Copy)]
 enum Counted {
     Whole(Entries, usize),
     No(Fault),
 }
 
-#[derive(Drop)]
+#[derive(Clone, Copy)]
 pub enum ListRead {
     Whole(Entries),
     No(Fault),
 }
 
-#[derive(Drop)]
+#[derive(Clone, Copy)]
 pub enum TrackRead {
     Whole(Track),
     No(Fault),
 }
 
 // One entry: its number, 0 where it has none, and its bytes, none where it has none.
-#[derive(Drop)]
+#[derive(Clone, Copy)]
 pub struct Entry {
     pub number: u64,
     pub bytes: Span,
 }
 
-#[derive(Drop)]
+#[derive(Clone, Copy)]
 pub enum EntryRead {
     Whole(Entry),
     No(Fault),
 }
 
 // What entries come to: where they end, how many bytes they hold, and how many their shortest form takes.
-#[derive(Drop)]
+#[derive(Clone, Copy)]
 pub struct Sums {
     pub end: usize,
     pub held: usize,
     pub size: usize,
 }
 
-#[derive(Drop)]
+#[derive(Clone, Copy)]
 pub enum Walked {
     Whole(Sums),
     No(Fault),

@@ -1,5 +1,7 @@
 // Data headers: section 9 of source document 004. An object comes in a datagram, or on a stream after the stream's
 // header and its own. They are read here, and written by `header_writer`.
+#![tactic(auto)]
+
 pub mod arrivals;
 mod datagrams;
 mod leading;
@@ -23,7 +25,7 @@ pub const SUBGROUP_HEADER: u64 = 0x4;
 pub const FETCH_HEADER: u64 = 0x5;
 
 // What stands before the payload of an object datagram, or before its status.
-#[derive(Drop)]
+#[derive(Clone, Copy)]
 pub struct ObjectDatagram {
     pub alias: u64,
     pub place: Place,
@@ -32,13 +34,13 @@ pub struct ObjectDatagram {
 }
 
 // An object, whose payload is the rest of the datagram; or its status in place of one.
-#[derive(Drop)]
+#[derive(Clone, Copy)]
 pub enum Datagram {
     Object(ObjectDatagram),
     Status(ObjectDatagram, u64),
 }
 
-#[derive(Drop)]
+#[derive(Clone, Copy)]
 pub struct SubgroupHeader {
     pub alias: u64,
     pub group: u64,
@@ -47,21 +49,21 @@ pub struct SubgroupHeader {
 }
 
 // What a stream begins with; of a fetch it is the Subscribe ID.
-#[derive(Drop)]
+#[derive(Clone, Copy)]
 pub enum StreamHeader {
     Subgroup(SubgroupHeader),
     Fetch(u64),
 }
 
 // The length of the payload that follows; or, where that is 0, the status.
-#[derive(Drop)]
+#[derive(Clone, Copy)]
 pub enum Payload {
     Length(u64),
     Status(u64),
 }
 
 // The header of an object on a subgroup's stream.
-#[derive(Drop)]
+#[derive(Clone, Copy)]
 pub struct SubgroupObject {
     pub object: u64,
     pub extensions: Span,
@@ -69,7 +71,7 @@ pub struct SubgroupObject {
 }
 
 // The header of an object on a fetch's stream.
-#[derive(Drop)]
+#[derive(Clone, Copy)]
 pub struct FetchObject {
     pub group: u64,
     pub subgroup: u64,
@@ -81,7 +83,7 @@ pub struct FetchObject {
 
 // What reading a datagram answers: its header and the bytes it took; or that its type is unknown; that it is cut, or
 // goes on after its status; that a value is forbidden.
-#[derive(Drop)]
+#[derive(Clone, Copy)]
 pub enum DatagramRead {
     Whole(Datagram, usize),
     Unknown,
@@ -91,7 +93,7 @@ pub enum DatagramRead {
 
 // What reading a stream's first bytes answers: its header and the bytes it took; or that more bytes are needed; that
 // its type is unknown.
-#[derive(Drop)]
+#[derive(Clone, Copy)]
 pub enum StreamRead {
     Whole(StreamHeader, usize),
     More,
@@ -100,14 +102,14 @@ pub enum StreamRead {
 
 // What reading an object's header on a stream answers: the header and the bytes it took; or that more bytes are needed;
 // that a value is forbidden.
-#[derive(Drop)]
+#[derive(Clone, Copy)]
 pub enum SubgroupObjectRead {
     Whole(SubgroupObject, usize),
     More,
     Forbidden,
 }
 
-#[derive(Drop)]
+#[derive(Clone, Copy)]
 pub enum FetchObjectRead {
     Whole(FetchObject, usize),
     More,
@@ -115,7 +117,7 @@ pub enum FetchObjectRead {
 }
 
 // What datagrams have in common; it ends where its extension headers do.
-#[derive(Drop)]
+#[derive(Clone, Copy)]
 enum ObjectRead {
     Whole(ObjectDatagram),
     Cut,
@@ -123,7 +125,7 @@ enum ObjectRead {
 
 // Three numbers and a priority: the header of a subgroup's stream, and what the header of an object on a fetch's stream
 // begins with.
-#[derive(Drop)]
+#[derive(Clone, Copy)]
 struct Lead {
     first: u64,
     second: u64,
@@ -131,13 +133,13 @@ struct Lead {
     priority: u8,
 }
 
-#[derive(Drop)]
+#[derive(Clone, Copy)]
 enum LeadRead {
     Whole(Lead, usize),
     Cut,
 }
 
-#[derive(Drop)]
+#[derive(Clone, Copy)]
 enum PayloadRead {
     Whole(Payload, usize),
     Cut,

@@ -1,4 +1,6 @@
 // The integers of RFC 9000, section 16: read from the front of bytes, and written in the fewest.
+#![tactic(auto)]
+
 mod reader;
 mod writer;
 
@@ -9,14 +11,14 @@ pub use writer::{size, write};
 pub const GREATEST: u64 = 4_611_686_018_427_387_903;
 
 // What reading finds at the front of bytes: a number and the bytes it took, or that more bytes are needed.
-#[derive(Drop)]
+#[derive(Clone, Copy)]
 pub enum Reading {
     Whole(u64, usize),
     More,
 }
 
 // What writing did: how many bytes it took, or nothing, since the number is too great or the output too short.
-#[derive(Drop)]
+#[derive(Clone, Copy)]
 pub enum Writing {
     Done(usize),
     TooGreat,

@@ -1,5 +1,7 @@
 // The ledger of subscriptions in one direction: which module is subscribed, and the greatest place each has shown. A
 // message or an arrival is taken by a ledger, which hands back the next ledger and an answer.
+#![tactic(auto)]
+
 mod arrivals;
 mod checks;
 mod endings;
@@ -21,14 +23,14 @@ pub use starting::start;
 pub const MOST_ROWS: usize = 64;
 
 // The end of a session that a ledger belongs to, or that sends a message.
-#[derive(Drop)]
+#[derive(Clone, Copy)]
 pub enum Part {
     Subscriber,
     Publisher,
 }
 
 // The rules that a message may break.
-#[derive(Drop)]
+#[derive(Clone, Copy)]
 pub enum Rule {
     R1,
     R2,
@@ -40,14 +42,14 @@ pub enum Rule {
 }
 
 // A session is open, or closed by the rule that a peer's message broke.
-#[derive(Drop)]
+#[derive(Clone, Copy)]
 pub enum Session {
     Open,
     Closed(Rule),
 }
 
 // The rows in use stand first, rising by ID. `next` is one more than the highest ID accepted, 0 for none.
-#[derive(Drop)]
+#[derive(Clone, Copy)]
 pub struct Ledger {
     pub rows: [Row; MOST_ROWS],
     pub part: Part,
@@ -59,7 +61,7 @@ pub struct Ledger {
 }
 
 // What a ledger answers, in the order of document 01's numbers: 5, 8 to 19.
-#[derive(Drop)]
+#[derive(Clone, Copy)]
 pub enum Answer {
     Forbidden,
     Done,
@@ -77,7 +79,7 @@ pub enum Answer {
 }
 
 // The next ledger and an answer.
-#[derive(Drop)]
+#[derive(Clone, Copy)]
 pub struct Taken {
     pub answer: Answer,
     pub ledger: Ledger,
@@ -85,34 +87,34 @@ pub struct Taken {
 
 // What a run of arrivals answers: how many there were; that it is no ledger; or that there is no room for their
 // answers.
-#[derive(Drop)]
+#[derive(Clone, Copy)]
 pub enum Filled {
     Done(usize),
     NotALedger,
     TooShort,
 }
 
-#[derive(Drop)]
+#[derive(Clone, Copy)]
 pub struct Ran {
     pub answer: Filled,
     pub ledger: Ledger,
 }
 
 // Whether a call goes on to its step, or what it is answered before.
-#[derive(Drop)]
+#[derive(Clone, Copy)]
 enum Gate {
     Pass,
     Stop(Answer),
 }
 
 // What a row is found by, and where it stands.
-#[derive(Drop)]
+#[derive(Clone, Copy)]
 enum Key {
     Id,
     Alias,
 }
 
-#[derive(Drop)]
+#[derive(Clone, Copy)]
 enum Found {
     At(usize),
     Missing,

@@ -1,4 +1,6 @@
 // A ledger as numbers, as a caller in another language holds it: the ledger's own, and those of each row.
+#![tactic(auto)]
+
 mod packing;
 mod rows;
 mod unpacking;

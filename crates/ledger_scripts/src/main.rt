@@ -2,6 +2,8 @@
 // each is answered is printed. `start PART CAPACITY MAXIMUM`, `subscribe ID ALIAS ORDER FILTER [GROUP OBJECT [END_GROUP
 // [PARAMETERS]]]` (how many parameters it has), `ok ID ORDER CONTENT [GROUP OBJECT]`, `error ID`, `done ID`,
 // `unsubscribe ID`, `max ID`, `malformed`, `other`, `arrive ALIAS GROUP OBJECT`.
+#![tactic(auto)]
+
 ghost use Rattle.std.specs.Prelude.{◌≡◌, ◌≤◌, length};
 
 use field::{Arrival, Entries, Failure, Place, Span, Track};
@@ -184,7 +186,7 @@ fn call(l: Ledger, word: &[u8], n: [u64; 8]) -> Taken {
 // ---- the text
 
 // What is held of a call: the letters of its word, its numbers, and whether a number goes on.
-#[derive(Drop)]
+#[derive(Clone, Copy)]
 struct Held {
     letters: usize,
     count: usize,

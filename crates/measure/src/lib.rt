@@ -1,5 +1,7 @@
 // What a field is, before a byte of it is written: judged, and measured in its shortest form; alone, in its place among
 // the fields of a message, and in a header.
+#![tactic(auto)]
+
 mod heading;
 mod judging;
 pub mod places;
@@ -12,7 +14,7 @@ pub use small::are_small;
 
 // How a field, or several, is judged against the bytes it may take: it takes that many; or more than it may; or it is
 // over a size; or it holds what can't be written.
-#[derive(Drop)]
+#[derive(Clone, Copy)]
 pub enum Measured {
     Takes(usize),
     TooLong,
@@ -21,7 +23,7 @@ pub enum Measured {
 }
 
 // A place for one field. (An array of structs can be held in a struct, and one of enums can not.)
-#[derive(Drop)]
+#[derive(Clone, Copy)]
 pub struct Slot {
     pub piece: Piece,
 }
@@ -30,7 +32,7 @@ pub struct Slot {
 pub const MOST_PIECES: usize = 10;
 
 // The fields of a message, in their order, how many are used, and the number of its type.
-#[derive(Drop)]
+#[derive(Clone, Copy)]
 pub struct Fields {
     pub at: [Slot; MOST_PIECES],
     pub used: usize,
@@ -38,7 +40,7 @@ pub struct Fields {
 }
 
 // What stands between the numbers of a header: nothing, a byte, a part of the bytes after its length, or both.
-#[derive(Drop)]
+#[derive(Clone, Copy)]
 pub enum Middle {
     Nothing,
     Byte(u8),

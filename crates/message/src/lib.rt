@@ -1,4 +1,6 @@
 // Control messages: section 8 of source document 004. A message is Type, Length and a body of Length bytes.
+#![tactic(auto)]
+
 mod name;
 mod reader;
 
@@ -10,7 +12,7 @@ pub use reader::read;
 use session::SessionMessage;
 use subscription::SubscriptionMessage;
 
-#[derive(Drop)]
+#[derive(Clone, Copy)]
 pub enum Message {
     Subscription(SubscriptionMessage),
     Fetch(FetchMessage),
@@ -20,7 +22,7 @@ pub enum Message {
 
 // What reading bytes answers: a message and the bytes it took; or that more bytes are needed; that its type is unknown;
 // that its body is too long; that its fields don't fill the body; that a value is forbidden; that it is over a size.
-#[derive(Drop)]
+#[derive(Clone, Copy)]
 pub enum Reading {
     Whole(Message, usize),
     More,
@@ -32,7 +34,7 @@ pub enum Reading {
 }
 
 // A body that was read, and where its fields end.
-#[derive(Drop)]
+#[derive(Clone, Copy)]
 enum BodyRead {
     Whole(Message, usize),
     No(Fault),

@@ -1,4 +1,6 @@
 // Control messages, written in their shortest form, as their fields; and whether one may reach a ledger.
+#![tactic(auto)]
+
 mod sound;
 mod writer;
 

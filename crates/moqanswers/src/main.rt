@@ -1,6 +1,8 @@
 // moqanswers: reads a trace from standard input to its end, and prints a line for each field: the offset of its tag,
 // what it is and the answer. It holds a piece of the trace and a piece of the text at a time, whatever the trace's
 // length.
+#![tactic(auto)]
+
 ghost use Rattle.std.specs.Prelude.{◌≤◌, length};
 ghost use Rattle.moqanswers.specs.Ending.{Ends};
 
@@ -10,7 +12,7 @@ use text::{Line, Putting};
 
 // How far some bytes were told of: the progress after their whole fields, how many bytes those took, and whether all
 // lines were written.
-#[derive(Drop)]
+#[derive(Clone, Copy)]
 struct Printed {
     progress: Progress,
     used: usize,
@@ -18,7 +20,7 @@ struct Printed {
 }
 
 // How far the trace was told of, how many bytes are left at the buffer's front, and whether more can come.
-#[derive(Drop)]
+#[derive(Clone, Copy)]
 struct Turned {
     progress: Progress,
     left: usize,

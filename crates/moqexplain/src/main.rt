@@ -1,6 +1,8 @@
 // moqexplain: reads a trace from standard input to its end, and prints its bytes, part by part, with what each part is.
 // With the word -c it reads a control stream instead. It holds a piece of the input and a piece of the text at a time,
 // whatever the input's length.
+#![tactic(auto)]
+
 mod reading;
 mod streams;
 mod traces;
@@ -8,7 +10,7 @@ mod writing;
 
 // What stands at an offset of a control stream: a whole message, and where it ends; one that is not all there; or one
 // that is refused, after which nothing is read.
-#[derive(Drop)]
+#[derive(Clone, Copy)]
 enum Found {
     Whole(usize),
     More,

@@ -9,7 +9,7 @@ use message::Reading;
 use text::Putting;
 
 // How far some bytes were told of: how many they are, and whether more can come.
-#[derive(Drop)]
+#[derive(Clone, Copy)]
 struct Printed {
     used: usize,
     more: bool,

@@ -8,7 +8,7 @@ use text::Putting;
 
 // How far some bytes were told of: the progress after their whole fields, how many bytes those took, and whether all
 // lines were written.
-#[derive(Drop)]
+#[derive(Clone, Copy)]
 struct Printed {
     progress: Progress,
     used: usize,

@@ -1,5 +1,7 @@
 // moqreport: reads a trace from standard input to its end, and prints its report. It holds a piece of the trace at a
 // time, whatever the trace's length.
+#![tactic(auto)]
+
 ghost use Rattle.std.specs.Prelude.{◌≤◌, length};
 ghost use Rattle.common.specs.Buffer.{Put};
 ghost use Rattle.replay.specs.Progressing.{finish_of};

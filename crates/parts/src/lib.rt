@@ -1,5 +1,7 @@
 // A message or a data header, part by part: the bytes of each part, what it is, and which field of the layout it
 // belongs to. One part is told at a time, by a cursor that the caller keeps; nothing is held of the parts before.
+#![tactic(auto)]
+
 mod advancing;
 mod cursors;
 mod expecting;
@@ -15,7 +17,7 @@ pub const MOST_FIELDS: usize = 10;
 
 // What a part is: an integer, or a byte, that is a field; the length of bytes, and the bytes; how many entries a list
 // has; the number that an entry begins with, the length of its bytes, and the bytes; bytes that no field takes.
-#[derive(Drop)]
+#[derive(Clone, Copy)]
 pub enum What {
     Number,
     Byte,
@@ -30,7 +32,7 @@ pub enum What {
 
 // A part: the field that it belongs to, what it is, the number that it holds (0 where it holds bytes), and where it
 // stands.
-#[derive(Drop)]
+#[derive(Clone, Copy)]
 pub struct Part {
     pub name: FieldName,
     pub what: What,
@@ -40,7 +42,7 @@ pub struct Part {
 }
 
 // What is read: a control message; or what a datagram, a stream, or an object on one of the two streams begins with.
-#[derive(Drop)]
+#[derive(Clone, Copy)]
 pub enum Subject {
     Message,
     Datagram,
@@ -50,7 +52,7 @@ pub enum Subject {
 }
 
 // A place in a layout: what is laid out, and the numbers that the fields so far handed on.
-#[derive(Drop)]
+#[derive(Clone, Copy)]
 pub struct Place {
     pub outline: Outline,
     pub numbers: [u64; MOST_FIELDS],
@@ -59,7 +61,7 @@ pub struct Place {
 
 // Where in a field, or before the first, the next part stands. An entry has the entries that are left, itself among
 // them, and the bytes that those before it hold.
-#[derive(Drop)]
+#[derive(Clone, Copy)]
 pub enum Stage {
     TypeNumber,
     Length,
@@ -73,7 +75,7 @@ pub enum Stage {
 }
 
 // Where the next part stands: in the layout, in its field, among the bytes; and where the bytes end that it may take.
-#[derive(Drop)]
+#[derive(Clone, Copy)]
 pub struct Cursor {
     pub place: Place,
     pub stage: Stage,
@@ -83,7 +85,7 @@ pub struct Cursor {
 
 // What is told: a part; that the part before is refused, by 01's number; a part that is refused itself, since the bytes
 // end in it or no field takes it; or that all is told, and how many bytes it took.
-#[derive(Drop)]
+#[derive(Clone, Copy)]
 pub enum Step {
     Part(Part),
     Refused(u8),
@@ -92,14 +94,14 @@ pub enum Step {
 }
 
 // And where the next part stands; the cursor stays where no part follows.
-#[derive(Drop)]
+#[derive(Clone, Copy)]
 pub struct NextPart {
     pub step: Step,
     pub cursor: Cursor,
 }
 
 // What stands at a cursor.
-#[derive(Drop)]
+#[derive(Clone, Copy)]
 enum Expected {
     Number(FieldName, What),
     Byte(FieldName),

@@ -1,4 +1,6 @@
 // The run of a trace: each field is an event, and a ledger takes it. A trace may come in pieces, cut anywhere.
+#![tactic(auto)]
+
 mod advancing;
 mod events;
 mod feeding;
@@ -14,7 +16,7 @@ pub use steps::begin;
 
 // What a field of a trace is: the start, with a part and a maximum; a whole message; bytes that are none, with the
 // reader's number; an arrival; or none of these.
-#[derive(Drop)]
+#[derive(Clone, Copy)]
 pub enum Event {
     Start(Part, u64),
     Control(Message),
@@ -24,7 +26,7 @@ pub enum Event {
 }
 
 // Nothing came yet; the ledger runs; or a field was at fault, with the offset of its tag.
-#[derive(Drop)]
+#[derive(Clone, Copy)]
 pub enum Stage {
     Empty,
     Running,
@@ -32,7 +34,7 @@ pub enum Stage {
 }
 
 // How far a trace was taken: the ledger, the stage, and the offset of the next field.
-#[derive(Drop)]
+#[derive(Clone, Copy)]
 pub struct Progress {
     pub ledger: Ledger,
     pub stage: Stage,
@@ -40,7 +42,7 @@ pub struct Progress {
 }
 
 // What a ledger said to an event, in document 01's number and rule, and the ledger and the stage after it.
-#[derive(Drop)]
+#[derive(Clone, Copy)]
 struct Heard {
     number: u8,
     rule: u8,
@@ -49,7 +51,7 @@ struct Heard {
 }
 
 // What an event came to: what it was taken for, what was said to it, and the progress after it.
-#[derive(Drop)]
+#[derive(Clone, Copy)]
 pub struct Stepped {
     pub event: Event,
     pub number: u8,
@@ -58,28 +60,28 @@ pub struct Stepped {
 }
 
 // The progress after all whole fields of some bytes, and how many bytes those took.
-#[derive(Drop)]
+#[derive(Clone, Copy)]
 pub struct Fed {
     pub progress: Progress,
     pub used: usize,
 }
 
 // The progress after all whole fields of a buffer's first bytes, and how many bytes are left at its front.
-#[derive(Drop)]
+#[derive(Clone, Copy)]
 pub struct Advanced {
     pub progress: Progress,
     pub left: usize,
 }
 
 // What a field is where an arrival is looked for: one, or another field.
-#[derive(Drop)]
+#[derive(Clone, Copy)]
 enum Next {
     One(Arrival),
     Other,
 }
 
 // Arrivals that stand next to each other: how many, and where the last one's field ends.
-#[derive(Drop)]
+#[derive(Clone, Copy)]
 struct Gathered {
     count: usize,
     end: usize,

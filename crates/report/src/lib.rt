@@ -1,4 +1,6 @@
 // The report of a trace: a line for the session, the columns, and a line for each row; or where the trace is at fault.
+#![tactic(auto)]
+
 mod lines;
 mod writing;
 

@@ -1,4 +1,6 @@
 // One message or header is read from the front of bytes, and written again in its shortest form.
+#![tactic(auto)]
+
 mod headers;
 mod messages;
 mod telling;

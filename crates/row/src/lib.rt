@@ -1,4 +1,6 @@
 // One row of the ledger: a subscription, the range of places it asks for, and what was counted of it.
+#![tactic(auto)]
+
 mod places;
 mod ranges;
 mod rows;
@@ -13,27 +15,27 @@ pub const TOP: u64 = 4_294_967_295;
 
 // A range is not known yet, open from a place, or closed at a last group. (The first variant of each enum here is that
 // of an unused row.)
-#[derive(Drop)]
+#[derive(Clone, Copy)]
 pub enum Range {
     Unknown,
     Open(Place),
     Closed(Place, u64),
 }
 
-#[derive(Drop)]
+#[derive(Clone, Copy)]
 pub enum State {
     Pending,
     Active,
 }
 
 // The greatest place counted, or none.
-#[derive(Drop)]
+#[derive(Clone, Copy)]
 pub enum Greatest {
     Nowhere,
     At(Place),
 }
 
-#[derive(Drop)]
+#[derive(Clone, Copy)]
 pub struct Row {
     pub id: u64,
     pub alias: u64,
@@ -44,7 +46,7 @@ pub struct Row {
 }
 
 // What an arrival at a row comes to: the row is still pending; the place is outside its range; it is counted.
-#[derive(Drop)]
+#[derive(Clone, Copy)]
 pub enum Arriving {
     Waiting,
     Outside,
@@ -52,14 +54,14 @@ pub enum Arriving {
 }
 
 // What a SUBSCRIBE_OK at a row comes to: it is active already, or it becomes so.
-#[derive(Drop)]
+#[derive(Clone, Copy)]
 pub enum Opening {
     Refused,
     Opened(Row),
 }
 
 // The messages that end a subscription.
-#[derive(Drop)]
+#[derive(Clone, Copy)]
 pub enum Ending {
     SubscribeError,
     SubscribeDone,

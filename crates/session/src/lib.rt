@@ -1,4 +1,6 @@
 // The messages that begin and end a session: CLIENT_SETUP, SERVER_SETUP and GOAWAY.
+#![tactic(auto)]
+
 mod reader;
 mod writer;
 
@@ -6,20 +8,20 @@ use field::{Entries, Fault, Span};
 pub use reader::read;
 pub use writer::{fields, number};
 
-#[derive(Drop)]
+#[derive(Clone, Copy)]
 pub struct ClientSetup {
     pub versions: Entries,
     pub parameters: Entries,
 }
 
-#[derive(Drop)]
+#[derive(Clone, Copy)]
 pub struct ServerSetup {
     pub version: u64,
     pub parameters: Entries,
 }
 
 // Of a GOAWAY, the new session's URI.
-#[derive(Drop)]
+#[derive(Clone, Copy)]
 pub enum SessionMessage {
     ClientSetup(ClientSetup),
     ServerSetup(ServerSetup),
@@ -27,7 +29,7 @@ pub enum SessionMessage {
 }
 
 // A message and where it ends, or why it is refused.
-#[derive(Drop)]
+#[derive(Clone, Copy)]
 pub enum SessionRead {
     Whole(SessionMessage, usize),
     No(Fault),

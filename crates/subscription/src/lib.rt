@@ -1,4 +1,6 @@
 // The messages of subscriptions: SUBSCRIBE and the answers to it, and how many there may be.
+#![tactic(auto)]
+
 mod name;
 mod parameters;
 mod reader;
@@ -10,7 +12,7 @@ pub use reader::read;
 pub use writer::{fields, is_allowed, number};
 
 // The end group is kept as it is sent: plus 1, and 0 for none.
-#[derive(Drop)]
+#[derive(Clone, Copy)]
 pub struct SubscribeUpdate {
     pub id: u64,
     pub start: Place,
@@ -20,14 +22,14 @@ pub struct SubscribeUpdate {
 }
 
 // Which objects are asked for: from the latest on; from a place on; from a place to the end of a group.
-#[derive(Drop)]
+#[derive(Clone, Copy)]
 pub enum Filter {
     Latest,
     From(Place),
     Range(Place, u64),
 }
 
-#[derive(Drop)]
+#[derive(Clone, Copy)]
 pub struct Subscribe {
     pub id: u64,
     pub alias: u64,
@@ -39,13 +41,13 @@ pub struct Subscribe {
 }
 
 // Whether content exists, and then the largest place.
-#[derive(Drop)]
+#[derive(Clone, Copy)]
 pub enum Content {
     Nothing,
     Largest(Place),
 }
 
-#[derive(Drop)]
+#[derive(Clone, Copy)]
 pub struct SubscribeOk {
     pub id: u64,
     pub expires: u64,
@@ -54,14 +56,14 @@ pub struct SubscribeOk {
     pub parameters: Entries,
 }
 
-#[derive(Drop)]
+#[derive(Clone, Copy)]
 pub struct SubscribeError {
     pub id: u64,
     pub failure: Failure,
     pub alias: u64,
 }
 
-#[derive(Drop)]
+#[derive(Clone, Copy)]
 pub struct SubscribeDone {
     pub id: u64,
     pub status: u64,
@@ -70,7 +72,7 @@ pub struct SubscribeDone {
 }
 
 // Where only an ID is named, that is all that is held.
-#[derive(Drop)]
+#[derive(Clone, Copy)]
 pub enum SubscriptionMessage {
     SubscribeUpdate(SubscribeUpdate),
     Subscribe(Subscribe),
@@ -83,7 +85,7 @@ pub enum SubscriptionMessage {
 }
 
 // A message and where it ends, or why it is refused.
-#[derive(Drop)]
+#[derive(Clone, Copy)]
 pub enum SubscriptionRead {
     Whole(SubscriptionMessage, usize),
     No(Fault),

@@ -13,7 +13,7 @@ use crate::{
 use field::{Entries, Kind, ListRead, Place, Track};
 
 // What stands before the filter of a SUBSCRIBE.
-#[derive(Drop)]
+#[derive(Clone, Copy)]
 pub struct Head {
     pub id: u64,
     pub alias: u64,
@@ -23,7 +23,7 @@ pub struct Head {
 }
 
 // What stands before the content of a SUBSCRIBE_OK.
-#[derive(Drop)]
+#[derive(Clone, Copy)]
 pub struct Granted {
     pub id: u64,
     pub expires: u64,
@@ -31,7 +31,7 @@ pub struct Granted {
 }
 
 // What stands before the parameters: of a SUBSCRIBE_UPDATE its ID, start, end group and priority.
-#[derive(Drop)]
+#[derive(Clone, Copy)]
 pub enum Front {
     SubscribeUpdate(u64, Place, u64, u8),
     Subscribe(Head, Filter),

@@ -1,4 +1,6 @@
 // Lines of text: words and numbers, with a space between two and a newline at the end.
+#![tactic(auto)]
+
 mod digits;
 mod lines;
 mod words;
@@ -13,7 +15,7 @@ pub const LONGEST_ITEM: usize = 33;
 pub const LONGEST_LINE: usize = MOST_ITEMS * (LONGEST_ITEM + 1);
 
 // The words that the programs print.
-#[derive(Drop)]
+#[derive(Clone, Copy)]
 pub enum Word {
     Open,
     Closed,
@@ -28,7 +30,7 @@ pub enum Word {
 }
 
 // What stands in a line: a number; a word; a rule by its number; a control message by the number of its type.
-#[derive(Drop)]
+#[derive(Clone, Copy)]
 pub enum Item {
     Number(u64),
     Word(Word),
@@ -37,20 +39,20 @@ pub enum Item {
 }
 
 // A place for one item. (An array of structs can be held in a struct, and one of enums can not.)
-#[derive(Drop)]
+#[derive(Clone, Copy)]
 pub struct Slot {
     pub item: Item,
 }
 
 // The items of a line, in their order, and how many are used.
-#[derive(Drop)]
+#[derive(Clone, Copy)]
 pub struct Line {
     pub at: [Slot; MOST_ITEMS],
     pub used: usize,
 }
 
 // How many bytes were put; or that the output is too short.
-#[derive(Drop)]
+#[derive(Clone, Copy)]
 pub enum Putting {
     Done(usize),
     TooShort,

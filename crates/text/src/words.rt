@@ -9,7 +9,7 @@ ghost use Rattle.text.specs.Parts.{words_text, names_text, part_of, LiesWithin, 
 use crate::Word;
 
 // A part of a text: from the first number up to the second.
-#[derive(Drop)]
+#[derive(Clone, Copy)]
 pub struct Part(pub usize, pub usize);
 
 pub fn word_part(word: Word) -> Part

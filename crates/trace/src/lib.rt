@@ -1,10 +1,12 @@
 // A trace: fields, each a tag of one byte, a length of two and as many bytes.
+#![tactic(auto)]
+
 mod fields;
 
 pub use fields::field_at;
 
 // A field: its tag, and where its value stands among the bytes, up to the field's end.
-#[derive(Drop)]
+#[derive(Clone, Copy)]
 pub struct Field {
     pub tag: u8,
     pub start: usize,
@@ -12,7 +14,7 @@ pub struct Field {
 }
 
 // A field at an offset, or that the bytes end before it does.
-#[derive(Drop)]
+#[derive(Clone, Copy)]
 pub enum FieldRead {
     Whole(Field),
     Cut,

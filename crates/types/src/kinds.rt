@@ -1,7 +1,7 @@
 // Which control messages there are, by what they are about.
 
 // Those of subscriptions.
-#[derive(Drop)]
+#[derive(Clone, Copy)]
 pub enum SubscriptionKind {
     SubscribeUpdate,
     Subscribe,
@@ -14,7 +14,7 @@ pub enum SubscriptionKind {
 }
 
 // Those of fetches, and of the status of a track.
-#[derive(Drop)]
+#[derive(Clone, Copy)]
 pub enum FetchKind {
     Fetch,
     FetchOk,
@@ -25,7 +25,7 @@ pub enum FetchKind {
 }
 
 // Those that name a namespace and nothing else.
-#[derive(Drop)]
+#[derive(Clone, Copy)]
 pub enum Naming {
     AnnounceOk,
     Unannounce,
@@ -34,14 +34,14 @@ pub enum Naming {
 }
 
 // Those with parameters after the namespace.
-#[derive(Drop)]
+#[derive(Clone, Copy)]
 pub enum Asking {
     Announce,
     SubscribeAnnounces,
 }
 
 // Those that say why a namespace is refused.
-#[derive(Drop)]
+#[derive(Clone, Copy)]
 pub enum Refusing {
     AnnounceError,
     AnnounceCancel,
@@ -49,7 +49,7 @@ pub enum Refusing {
 }
 
 // Those of namespaces, by what follows the namespace.
-#[derive(Drop)]
+#[derive(Clone, Copy)]
 pub enum AnnounceKind {
     Named(Naming),
     Asked(Asking),
@@ -57,7 +57,7 @@ pub enum AnnounceKind {
 }
 
 // Those of the session itself.
-#[derive(Drop)]
+#[derive(Clone, Copy)]
 pub enum SessionKind {
     ClientSetup,
     ServerSetup,
@@ -65,7 +65,7 @@ pub enum SessionKind {
 }
 
 // A message of any family.
-#[derive(Drop)]
+#[derive(Clone, Copy)]
 pub enum Kind {
     Subscription(SubscriptionKind),
     Fetch(FetchKind),
@@ -74,7 +74,7 @@ pub enum Kind {
 }
 
 // What is known of a type number.
-#[derive(Drop)]
+#[derive(Clone, Copy)]
 pub enum Found {
     Known(Kind),
     Unknown,

@@ -1,5 +1,7 @@
 // The types of control messages: which message a number stands for, and which values of a field are permitted. specs/
 // has the layout of each message and the table that gives its number and its name, and proofs/ the laws of that table.
+#![tactic(auto)]
+
 pub mod kinds;
 mod numbers;
 mod rules;

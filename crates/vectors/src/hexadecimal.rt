@@ -18,7 +18,7 @@ fn digit(c: u8) -> u8 {
 }
 
 // What is held of a line: how many bytes, the last of them, and a first digit that waits for its second, 16 for none.
-#[derive(Drop)]
+#[derive(Clone, Copy)]
 struct Held {
     have: usize,
     last: u8,

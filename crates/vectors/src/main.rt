@@ -3,6 +3,8 @@
 // integer its number and the bytes used; for the name of a message's track the offsets of its bytes; for a trace its
 // report, or what each field is answered, with ` /` for each newline. Equal bytes in a row may be written once, with
 // how many they are: `61*64996`.
+#![tactic(auto)]
+
 mod hexadecimal;
 
 ghost use Rattle.std.specs.Prelude.{◌≤◌, length};
