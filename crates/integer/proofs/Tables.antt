@@ -75,6 +75,7 @@ pub record Behind (from : ℕ) (before form : Form) : Type 0 where
   pub full : 8 * (form.bytes - 1) ≤ form.bits
 
 pub behind : {from : ℕ} {before form : Form} {edition : Edition} → Ordered from before edition → In form edition → Behind from before form
+behind (end) i = elim i [ ]
 behind (next n o) here =
     record { longer = n.longer; more = n.more; lead = omega (arith, n.lead); within = reach o; top = n.top; full = n.full }
 behind (next n o) (there i) =
@@ -89,6 +90,7 @@ behind (next n o) (there i) =
     }
 
 pub up-to-last : {from : ℕ} {before form : Form} {edition : Edition} → Ordered from before edition → In form edition → (form.bytes ≤ (last_of before edition).bytes) × (form.greatest ≤ (last_of before edition).greatest)
+up-to-last (end) i = elim i [ ]
 up-to-last (next n o) here = rising o
 up-to-last (next n o) (there i) = up-to-last o i
 
@@ -104,6 +106,7 @@ longest-in (next {form} {forms} n o) = last-in form forms
 -- is one that it takes, if it takes none before;
 pub sole : (takes : Form → Bool) {from : ℕ} {before form : Form} {edition : Edition} → Ordered from before edition → In form edition → takes form ≡ true
     → ((other : Form) → Behind (lead_end other) other form → takes other ≡ false) → first_of takes edition ≡ form
+sole takes (end) i t others = elim i [ ]
 sole takes (next n o) here t others = rw t
 sole takes (next {form = other} n o) (there i) t others = rw (others other (behind o i)) (sole takes o i t others)
 
@@ -120,6 +123,7 @@ pub record Taken (takes : Form → Bool) (edition : Edition) (form found : Form)
   pub no_longer : found.bytes ≤ form.bytes
 
 pub first_taken : (takes : Form → Bool) {from : ℕ} {before form : Form} {edition : Edition} → Ordered from before edition → In form edition → takes form ≡ true → Taken takes edition form (first_of takes edition)
+first_taken takes (end) i t = elim i [ ]
 first_taken takes {form} (next n o) here t = rw t (record { is-in = here; taken = t; no_longer = le_refl form.bytes })
 first_taken takes {form} (next {form = other} {forms} n o) (there i) t =
     pick-by (Taken takes (other ∷ forms) form) (takes other)
