@@ -1,0 +1,13 @@
+-- `digits` meets its contract. Assumes nothing.
+use borrow.Author.Rules.{rules}
+use native.Mathlib.Omega.{arith}
+use Rattle.text.specs.Lines.{item_of}
+use Rattle.columns.proofs.ItemAlone.{alone-length}
+use Rattle.columns.proofs.texts.digits.Goals as goal
+
+pub overflow_sub-result : goal.overflow_sub-result
+overflow_sub-result c = omega (arith, c.measure.ensures, alone-length _ c.of1.ensures)
+
+pub returns : goal.returns
+unfolding item_of
+returns c = omega (arith, c.measure.ensures, alone-length _ c.of1.ensures)

@@ -1,0 +1,13 @@
+use Prim.Native.Nat.{◌-◌}
+use mathlib.Core.Path.{◌≡◌, refl}
+use borrow.Author.Rules.{rules}
+use lib.ListN.{drop}
+use Rattle.columns.specs.Columns.{is_text}
+use Rattle.columns.proofs.Turns.{text-next, below-text, above-text, text-last}
+use Rattle.columns.proofs.texts.is_text.Given as goal
+
+abbrev pub invariant-loop-i : goal.invariant-loop-i
+invariant-loop-i l = is_text (drop l.i l.s) ≡ is_text l.s
+
+abbrev pub decreases-loop-i : goal.decreases-loop-i
+decreases-loop-i l = l.n - l.i

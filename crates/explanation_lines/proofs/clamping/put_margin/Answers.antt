@@ -1,0 +1,10 @@
+-- `put_margin` meets its contract. Assumes nothing.
+use Rattle.std.proofs.Common.{rules}
+use Rattle.trace.specs.Fields.{offset_of}
+use Rattle.columns.proofs.Poured.{poured-both}
+use Rattle.explanation_lines.specs.Lines.{margin}
+use Rattle.explanation_lines.proofs.clamping.put_margin.Goals as goal
+
+pub returns : goal.returns
+unfolding margin offset_of
+returns c = rw (← c.wrapping_add_u64.ensures) (search poured-both)

@@ -1,0 +1,9 @@
+-- `put_faulty_line` meets its contract. Assumes nothing.
+use Rattle.std.proofs.Common.{rules}
+use Rattle.columns.proofs.Poured.{poured-three}
+use Rattle.explanation_lines.specs.Lines.{faulty_line}
+use Rattle.explanation_lines.proofs.lines.put_faulty_line.Goals as goal
+
+pub returns : goal.returns
+unfolding faulty_line
+returns c = rw (← c.size_between.ensures) (search poured-three)

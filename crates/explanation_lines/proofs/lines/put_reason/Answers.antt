@@ -1,0 +1,10 @@
+-- `put_reason` meets its contract. Assumes nothing.
+use Rattle.std.proofs.Common.{rules}
+use Rattle.types.specs.Letters.{letters}
+use Rattle.columns.proofs.Poured.{poured-three}
+use Rattle.explanation_lines.specs.Lines.{fault_line}
+use Rattle.explanation_lines.proofs.lines.put_reason.Goals as goal
+
+pub returns : goal.returns
+unfolding letters fault_line
+returns c = poured-three _ _ _ _ c.put_bytes-fault.ensures c.put_word-next.ensures c.put_byte.ensures

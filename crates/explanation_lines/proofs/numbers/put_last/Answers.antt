@@ -1,0 +1,14 @@
+-- `put_last` meets its contract. Assumes nothing.
+use Rattle.std.proofs.Common.{[], rules}
+use Rattle.explanation_lines.specs.Lines.{number_lines}
+use Rattle.explanation_lines.proofs.NumbersPoured.{number_cut, number-poured}
+use Rattle.explanation_lines.proofs.numbers.put_last.Goals as goal
+
+pub returns-in_default : goal.returns-in_default
+unfolding number_lines
+returns-in_default c = search number_cut
+
+pub returns : goal.returns
+unfolding number_lines
+returns c =
+    number-poured [] _ _ _ _ c.read_number.ensures _ c.in-Whole.is c.put_number_line-next.ensures c.put_left_line.ensures

@@ -1,0 +1,56 @@
+-- `spelled` meets its contract. The loop has the number that the first i bytes spell. Assumes nothing.
+use Prim.Native.Nat.{ℕ, ◌+◌, ◌-◌, ◌*◌, ◌^◌, ◌≤◌, ◌<◌}
+use mathlib.Core.Path.{◌≡◌, refl, sym}
+use native.Mathlib.Omega.{arith}
+use borrow.Author.Rules.{rules}
+use lib.Dec.{lit<}
+use lib.ListN.{length, get_or, take}
+use lib.Seq.{take_all}
+use Rattle.integer.specs.Integer.{spell}
+use Rattle.integer.proofs.Digits.{spell_next, spell-fits, eight-fit}
+use Rattle.integer.proofs.reader.spelled.Goals as goal
+use Rattle.integer.proofs.reader.spelled.Goals.{After-shared_slice_known-1}
+
+pub loop-i-init : goal.loop-i-init
+unfolding spell
+loop-i-init c = (omega arith, refl, lit< tt)
+
+pub bounds-s-i : goal.bounds-s-i
+bounds-s-i c = omega arith
+
+pub overflow_cast-x : goal.overflow_cast-x
+overflow_cast-x c = omega (arith, c.type_inv.s c.loop-i.i)
+
+-- what the turn makes of the number
+turn : (c : After-shared_slice_known-1) → c.loop-i.number * 256 + get_or c.args.s.now c.loop-i.i 0 < 256 ^ (c.loop-i.i + 1)
+turn c =
+    let l = c.loop-i in
+    spell-fits l.number l.i l.invariant.2 (omega (arith, c.type_inv.s l.i))
+
+-- which fits
+fits : (c : After-shared_slice_known-1) → 256 ^ (c.loop-i.i + 1) ≤ 2 ^ 64
+fits c = eight-fit (c.loop-i.i + 1) (omega (arith, c.requires))
+
+pub overflow_mul-number : goal.overflow_mul-number
+overflow_mul-number c = omega (arith, turn c, fits c)
+
+pub overflow_add-number : goal.overflow_add-number
+overflow_add-number c = omega (arith, turn c, fits c)
+
+pub overflow_add-i : goal.overflow_add-i
+overflow_add-i c = omega arith
+
+pub loop-i-smaller : goal.loop-i-smaller
+loop-i-smaller c = omega arith
+
+pub loop-i-preserved : goal.loop-i-preserved
+loop-i-preserved c =
+    let l = c.loop-i in
+    (omega arith, rw l.invariant.1 (sym (spell_next _ l.i (omega arith))), turn c)
+
+pub returns : goal.returns
+returns c =
+    let l = c.loop-i in
+    let s = c.args.s.now in
+    let e : l.i ≡ length s = omega arith in
+    (rw (l.invariant.1, e, take_all (length s) s (omega arith)), rw (← e) l.invariant.2)

@@ -1,0 +1,16 @@
+use Prim.Native.Nat.{ℕ, ◌+◌, ◌-◌, ◌*◌, ◌^◌, ◌≤◌, ◌<◌}
+use mathlib.Core.Path.{◌≡◌, refl, sym}
+use native.Mathlib.Omega.{arith}
+use borrow.Author.Rules.{rules}
+use lib.Dec.{lit<}
+use lib.ListN.{length, get_or, take}
+use lib.Seq.{take_all}
+use Rattle.integer.specs.Integer.{spell}
+use Rattle.integer.proofs.Digits.{spell_next, spell-fits, eight-fit}
+use Rattle.integer.proofs.reader.spelled.Given as goal
+
+abbrev pub invariant-loop-i : goal.invariant-loop-i
+invariant-loop-i l = (l.i ≤ length l.s) × (l.number ≡ spell 0 (take l.i l.s)) × (l.number < 256 ^ l.i)
+
+abbrev pub decreases-loop-i : goal.decreases-loop-i
+decreases-loop-i l = length l.s - l.i

@@ -1,0 +1,20 @@
+-- `spoken` meets its contract. Assumes nothing.
+use borrow.Author.Rules.{rules}
+use Rattle.labels.proofs.WordsFound.{nothing, namespace-field, of_length, of-type, of-value}
+use Rattle.labels.proofs.naming.spoken.Goals as goal
+
+pub returns-in-Plain : goal.returns-in-Plain
+returns-in-Plain c =
+    rw c.in-Plain.is (record { name = h; entry = h; length = of_length; number = nothing; value = nothing })
+
+pub returns-in-Itself : goal.returns-in-Itself
+returns-in-Itself c =
+    rw c.in-Itself.is (record { name = h; entry = h; length = nothing; number = nothing; value = nothing })
+
+pub returns-in-Pairs : goal.returns-in-Pairs
+returns-in-Pairs c =
+    rw c.in-Pairs.is (record { name = h; entry = h; length = of_length; number = of-type; value = of-value })
+
+pub returns-in-Track : goal.returns-in-Track
+returns-in-Track c =
+    rw c.in-Track.is (record { name = h; entry = namespace-field; length = of_length; number = nothing; value = nothing })

@@ -1,0 +1,34 @@
+-- `are_distinct` meets its contract: the rows that are left give what all of them give. Assumes nothing.
+use Prim.Native.Nat.{◌-◌}
+use mathlib.Core.Path.{◌≡◌, sym, ◌∙◌}
+use native.Mathlib.Omega.{arith}
+use borrow.Author.Rules.{rules}
+use lib.ListN.{length, length-map}
+use Rattle.ledger.specs.Ledgers.{most_rows}
+use Rattle.ledger.proofs.Checking.{Apart, Lone, are-apart, begins, all_apart, held-twice, held-once, is-apart}
+use Rattle.ledger.proofs.checks.are_distinct.Goals as goal
+use Rattle.ledger.proofs.checks.are_distinct.Goals.{Start}
+
+-- there are 64 places
+places : (c : Start) → length c.args.t1.rows ≡ most_rows
+places c = sym (length-map c.args.t1.rows _) ∙ c.well-formed.0.1.1.0.1.0.1
+
+pub rows-init : goal.rows-init
+rows-init c = are-apart _
+
+pub later-init : goal.later-init
+later-init c = begins _ _ (places (AT.Start)) (omega arith) c.rows.invariant _ (omega arith)
+
+pub returns-then-other-alias : goal.returns-then-other-alias
+returns-then-other-alias c =
+    held-twice _ _ (places (AT.Start)) (omega arith) _ _ c.later.invariant _ (omega arith) c.if-other-alias.true
+
+pub later-preserved : goal.later-preserved
+later-preserved c =
+    held-once _ _ (places (AT.Start)) (omega arith) _ _ c.later.invariant _ (omega arith) c.if-other-alias.false
+
+pub rows-preserved : goal.rows-preserved
+rows-preserved c = is-apart _ _ (places (AT.Start)) (omega arith) _ _ c.later.invariant (omega arith)
+
+pub returns : goal.returns
+returns c = all_apart _ _ (places (AT.Start)) (omega arith) c.rows.invariant (omega arith)

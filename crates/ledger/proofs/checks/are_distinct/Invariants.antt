@@ -1,0 +1,20 @@
+use Prim.Native.Nat.{◌-◌}
+use mathlib.Core.Path.{◌≡◌, sym, ◌∙◌}
+use native.Mathlib.Omega.{arith}
+use borrow.Author.Rules.{rules}
+use lib.ListN.{length, length-map}
+use Rattle.ledger.specs.Ledgers.{most_rows}
+use Rattle.ledger.proofs.Checking.{Apart, Lone, are-apart, begins, all_apart, held-twice, held-once, is-apart}
+use Rattle.ledger.proofs.checks.are_distinct.Given as goal
+
+abbrev pub invariant-later : goal.invariant-later
+invariant-later l = Lone l.l l.alias l.i l.j
+
+abbrev pub decreases-later : goal.decreases-later
+decreases-later l = l.used - l.j
+
+abbrev pub invariant-rows : goal.invariant-rows
+invariant-rows l = Apart l.l l.i
+
+abbrev pub decreases-rows : goal.decreases-rows
+decreases-rows l = l.used - l.i

@@ -1,0 +1,24 @@
+-- `without` meets its contract: before each turn, the rows so far are those without the freed one. Assumes nothing.
+use Prim.Native.Nat.{◌-◌}
+use mathlib.Core.Path.{◌≡◌, sym, refl, ◌∙◌}
+use native.Mathlib.Omega.{arith}
+use borrow.Author.Rules.{rules}
+use lib.ListN.{length, length-map}
+use Rattle.ledger.specs.Ledgers.{most_rows}
+use Rattle.ledger.proofs.RowsMovedUp.{last_row, Moving, moves, moves-on, moved}
+use Rattle.ledger.proofs.endings.without.Goals as goal
+use Rattle.ledger.proofs.endings.without.Goals.{Start}
+
+-- there are 64 places
+places : (c : Start) → length c.args.t1.rows ≡ most_rows
+places c = sym (length-map c.args.t1.rows _) ∙ c.well-formed.0.1.1.0.1.0.1
+
+pub loop-i-init : goal.loop-i-init
+loop-i-init c = moves _ _ (places c) (omega arith)
+
+pub loop-i-preserved : goal.loop-i-preserved
+loop-i-preserved c = moves-on _ _ (places (AT.Start)) (omega arith) c.loop-i.invariant _ (omega arith)
+
+pub returns : goal.returns
+returns c =
+    rw c.unused.ensures (moved _ _ (places (AT.Start)) (omega arith) c.loop-i.invariant _ (omega arith) refl)

@@ -1,0 +1,6 @@
+-- `other` meets its contract. Assumes nothing.
+use Rattle.ledger.proofs.CodePaths.{stays}
+use Rattle.ledger.proofs.messages.other.Goals as goal
+
+pub returns : goal.returns
+returns c = stays _ c.requires 9

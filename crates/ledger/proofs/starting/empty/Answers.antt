@@ -1,0 +1,6 @@
+-- `empty` meets its contract. Assumes nothing.
+use borrow.Author.Rules.{rules}
+use Rattle.ledger.proofs.starting.empty.Goals as goal
+
+pub returns : goal.returns
+returns c = rw c.unused-row.ensures

@@ -1,0 +1,6 @@
+-- `refused` meets its contract. Assumes nothing.
+use borrow.Author.Rules.{rules}
+use Rattle.ledger.proofs.starting.refused.Goals as goal
+
+pub returns : goal.returns
+returns c = rw c.empty.ensures

@@ -1,0 +1,16 @@
+-- `range_of` meets its contract. Assumes nothing.
+use borrow.Author.Tests.{ne_eqb}
+use Rattle.ledger_numbers.specs.Naming.{range_named}
+use Rattle.ledger_numbers.proofs.rows.range_of.Goals as goal
+
+pub returns-in-0 : goal.returns-in-0
+unfolding range_named
+returns-in-0 c = rw c.in-0.is
+
+pub returns-in-1 : goal.returns-in-1
+unfolding range_named
+returns-in-1 c = rw c.in-1.is
+
+pub returns-in_default : goal.returns-in_default
+unfolding range_named
+returns-in_default c = rw (ne_eqb _ _ c.in_default.rest.0.1, ne_eqb _ _ c.in_default.rest.1)

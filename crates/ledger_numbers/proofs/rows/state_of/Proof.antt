@@ -1,9 +1,0 @@
--- `state_of` meets its contract. Assumes nothing.
-use borrow.Author.Tests.{ne_eqb}
-use Rattle.ledger_numbers.specs.Naming.{state_named}
-use Rattle.ledger_numbers.proofs.rows.state_of.Statement.{statement}
-use Rattle.ledger_numbers.proofs.rows.state_of.Tie as tie
-
-pub state-of-spec : {M : Type 1} → statement M
-unfolding state_named
-state-of-spec = tie.close (tie.spec (λ c. rw c.match.keys1) (λ c. rw (ne_eqb _ _ c.match.rest.1)))

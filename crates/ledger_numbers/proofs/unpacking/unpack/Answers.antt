@@ -1,0 +1,16 @@
+-- `unpack` meets its contract. Assumes nothing.
+use mathlib.Core.Path.{sym, ◌∙◌}
+use borrow.Author.Rules.{rules}
+use borrow.Author.Tests.{not-true, not-false}
+use Rattle.ledger_numbers.proofs.Comparing.{unpack-few, unpack-same, unpack-other}
+use Rattle.ledger_numbers.proofs.unpacking.unpack.Goals as goal
+
+pub returns-then-numbers-lt-LEDGER_NUMBERS : goal.returns-then-numbers-lt-LEDGER_NUMBERS
+returns-then-numbers-lt-LEDGER_NUMBERS c = c.none.ensures ∙ sym (unpack-few _ c.if-numbers-lt-LEDGER_NUMBERS.true)
+
+pub returns-then-not-has_numbers : goal.returns-then-not-has_numbers
+returns-then-not-has_numbers c =
+    c.none-then-not-has_numbers.ensures ∙ sym (unpack-other _ c.ledger_in-l.ensures c.has_numbers.ensures (not-true _ c.if-not-has_numbers.true))
+
+pub returns : goal.returns
+returns c = unpack-same _ c.ledger_in-l.ensures c.has_numbers.ensures (not-false _ c.if-not-has_numbers.false)

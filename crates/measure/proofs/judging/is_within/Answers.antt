@@ -1,0 +1,19 @@
+-- `is_within` meets its contract: what is left of 4,096 is tested, so nothing wraps. Assumes nothing.
+use borrow.Author.Rules.{rules}
+use Rattle.layout.specs.Permitted.{within}
+use Rattle.measure.proofs.Sizes.{namespace-over, namespace-left}
+use Rattle.measure.proofs.judging.is_within.Goals as goal
+
+pub returns-then-held-gt-LONGEST_TRACK : goal.returns-then-held-gt-LONGEST_TRACK
+returns-then-held-gt-LONGEST_TRACK c = namespace-over _ _ c.in-Namespace.is c.if-held-gt-LONGEST_TRACK.true
+
+pub returns-else-held-gt-LONGEST_TRACK : goal.returns-else-held-gt-LONGEST_TRACK
+returns-else-held-gt-LONGEST_TRACK c = namespace-left _ _ c.in-Namespace.is c.if-held-gt-LONGEST_TRACK.false
+
+pub returns-in-Parameters : goal.returns-in-Parameters
+unfolding within
+returns-in-Parameters c = rw c.in-Parameters.is
+
+pub returns-in-Versions : goal.returns-in-Versions
+unfolding within
+returns-in-Versions c = rw c.in-Versions.is

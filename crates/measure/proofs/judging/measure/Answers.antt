@@ -1,0 +1,24 @@
+-- `measure` meets its contract: each arm judges one kind of field. Assumes nothing.
+use mathlib.Core.Path.{◌∙◌}
+use borrow.Author.Rules.{rules}
+use Rattle.measure.proofs.Numbers.{measured, judgement-joined}
+use Rattle.measure.proofs.Pieces.{number-judged, byte_fits, bytes-judged, list-judged, track-backward, track-judged}
+use Rattle.measure.proofs.judging.measure.Goals as goal
+
+pub returns-then-start-end : goal.returns-then-start-end
+returns-then-start-end c = measured _ _ _ (track-backward _ _ c.in-Track.is c.if-start-end.true)
+
+pub returns-in-Number : goal.returns-in-Number
+returns-in-Number c = measured _ _ _ (c.measure_number.ensures ∙ number-judged _ _ c.in-Number.is)
+
+pub returns-in-Byte : goal.returns-in-Byte
+returns-in-Byte c = measured _ _ _ (c.add.ensures ∙ byte_fits _ _ c.in-Byte.is)
+
+pub returns-in-Bytes : goal.returns-in-Bytes
+returns-in-Bytes c = measured _ _ _ (c.measure_span.ensures ∙ bytes-judged _ _ c.in-Bytes.is)
+
+pub returns-in-List : goal.returns-in-List
+returns-in-List c = measured _ _ _ (c.measure_list.ensures ∙ list-judged _ _ c.in-List.is)
+
+pub returns-else-start-end : goal.returns-else-start-end
+returns-else-start-end c = measured _ _ _ (judgement-joined c.measure_list-fields.result c.measure_span-in-Track.result _ {r = c.join.result} c.join.ensures ∙ rw (c.measure_list-fields.ensures, c.measure_span-in-Track.ensures) (track-judged _ _ c.in-Track.is))

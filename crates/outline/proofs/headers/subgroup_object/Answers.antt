@@ -1,0 +1,21 @@
+-- `subgroup_object` meets its contract. Assumes nothing.
+use borrow.Author.Rules.{rules}
+use native.Mathlib.Omega.{arith}
+use Rattle.common.proofs.Parts.{to_end}
+use Rattle.header.specs.Layouts.{subgroup_object}
+use Rattle.outline.specs.Places.{rest_of, ahead_of}
+use Rattle.outline.proofs.OneByOne.{stands, past}
+use Rattle.outline.proofs.headers.subgroup_object.Goals as goal
+
+pub returns-in-0 : goal.returns-in-0
+unfolding rest_of ahead_of subgroup_object
+returns-in-0 c = stands subgroup_object 0 c.args.v.now (omega arith) c.number.ensures
+
+pub returns-in-1 : goal.returns-in-1
+unfolding rest_of ahead_of subgroup_object
+returns-in-1 c = stands subgroup_object 1 c.args.v.now (omega arith) c.bytes.ensures
+
+pub returns-in_default : goal.returns-in_default
+unfolding rest_of ahead_of subgroup_object
+returns-in_default c =
+    let v = c.args.v.now in past subgroup_object 2 v (omega arith) (rw (to_end v 2) at c.payload.ensures)

@@ -1,0 +1,18 @@
+-- `stream` meets its contract. Assumes nothing.
+use borrow.Author.Rules.{rules}
+use borrow.Author.Tests.{ne_eqb}
+use Rattle.header.specs.Layouts.{streams}
+use Rattle.outline.proofs.OneByOne.{forbidden-ahead}
+use Rattle.outline.proofs.laid.stream.Goals as goal
+
+pub returns-in-4 : goal.returns-in-4
+unfolding streams
+returns-in-4 c = rw c.in-4.is c.subgroup_header.ensures
+
+pub returns-in-5 : goal.returns-in-5
+unfolding streams
+returns-in-5 c = rw c.in-5.is c.fetch_header.ensures
+
+pub returns-in_default : goal.returns-in_default
+unfolding streams
+returns-in_default c = rw (ne_eqb _ _ c.in_default.rest.0.1, ne_eqb _ _ c.in_default.rest.1) (forbidden-ahead c.args.v.now)

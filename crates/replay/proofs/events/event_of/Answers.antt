@@ -1,0 +1,25 @@
+-- `event_of` meets its contract. Assumes nothing.
+use Rattle.std.proofs.Common.{sym, ap, ◌∙◌, rules, ne_eqb}
+use Rattle.replay.specs.Events.{as_event, event_of}
+use Rattle.replay.proofs.events.event_of.Goals as goal
+
+pub returns-in-1 : goal.returns-in-1
+unfolding event_of
+returns-in-1 c = c.started.ensures ∙ rw c.in-1.is
+
+pub returns-in-2 : goal.returns-in-2
+unfolding event_of
+returns-in-2 c = c.control.ensures ∙ rw c.in-2.is
+
+pub returns-in_default-arrived : goal.returns-in_default-arrived
+unfolding event_of
+returns-in_default-arrived c = sym (ap as_event c.in_default-arrived.is) ∙ c.arrived.ensures ∙ rw c.in-3.is
+
+pub returns-in-3 : goal.returns-in-3
+unfolding event_of
+returns-in-3 c = sym (ap as_event c.in-One.is) ∙ c.arrived.ensures ∙ rw c.in-3.is
+
+pub returns-in_default : goal.returns-in_default
+unfolding event_of
+returns-in_default c =
+    rw (ne_eqb _ _ c.in_default.rest.0.0.1, ne_eqb _ _ c.in_default.rest.0.1, ne_eqb _ _ c.in_default.rest.1)

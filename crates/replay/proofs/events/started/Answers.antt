@@ -1,0 +1,23 @@
+-- `started` meets its contract. Assumes nothing.
+use Rattle.std.proofs.Common.{rules, ne_eqb}
+use Rattle.replay.proofs.Meaning.{start-cut, start-over, start-part, start-filled}
+use Rattle.replay.proofs.events.started.Goals as goal
+
+pub returns-in_default : goal.returns-in_default
+returns-in_default c = search start-cut
+
+pub returns-then-end-value : goal.returns-then-end-value
+returns-then-end-value c = search start-over
+
+pub bounds-value-0 : goal.bounds-value-0
+bounds-value-0 c = search start-part
+
+pub returns-in-0 : goal.returns-in-0
+returns-in-0 c = start-filled _ c.read_number.ensures c.in-Whole.is (search rules) (rw c.in-0.is)
+
+pub returns-in-1 : goal.returns-in-1
+returns-in-1 c = start-filled _ c.read_number.ensures c.in-Whole.is (search rules) (rw c.in-1.is)
+
+pub returns-in_default-part : goal.returns-in_default-part
+returns-in_default-part c =
+    start-filled _ c.read_number.ensures c.in-Whole.is (search rules) (rw (ne_eqb _ _ c.in_default-part.rest.0.1, ne_eqb _ _ c.in_default-part.rest.1))

@@ -1,0 +1,11 @@
+use Rattle.std.proofs.Common.{◌-◌, ap, arith, length-set, rules}
+use Rattle.replay.specs.Events.{as_event}
+use Rattle.replay.specs.Gathering.{Gathers}
+use Rattle.replay.proofs.FieldSteps.{stands, gathers-none, gathers-more}
+use Rattle.replay.proofs.gathering.gather.Given as goal
+
+abbrev pub invariant-loop-count : goal.invariant-loop-count
+invariant-loop-count l = Gathers l.s l.at (record { count = l.count; end = l.end }) l.initial.run l.run
+
+abbrev pub decreases-loop-count : goal.decreases-loop-count
+decreases-loop-count l = l.room - l.count

@@ -1,0 +1,11 @@
+-- `group_item` meets its contract. Assumes nothing.
+use borrow.Author.Rules.{rules}
+use Rattle.common.proofs.Telling.{told_of}
+use Rattle.report.specs.Rows.{group_item}
+use Rattle.report.proofs.lines.group_item.Goals as goal
+
+pub returns-in-Nowhere : goal.returns-in-Nowhere
+returns-in-Nowhere c = search (told_of group_item)
+
+pub returns-in-At : goal.returns-in-At
+returns-in-At c = search (told_of group_item)

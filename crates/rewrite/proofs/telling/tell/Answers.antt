@@ -1,0 +1,19 @@
+-- `tell` meets its contract. Assumes nothing.
+use mathlib.Core.Path.{refl}
+use native.Mathlib.Omega.{arith}
+use borrow.Author.Rules.{rules}
+use lib.ListN.{length-set}
+use Rattle.rewrite.specs.Ends.{end_number, end_info}
+use Rattle.rewrite.proofs.InfoTold.{three, not_done}
+use Rattle.rewrite.proofs.telling.tell.Goals as goal
+
+pub returns : goal.returns
+unfolding end_number end_info
+returns c =
+    rw c.in-Done.is (refl, three c.args.info.now _ _ _ c.requires)
+
+pub returns-in_default : goal.returns-in_default
+returns-in_default c = not_done c.args.writing c.args.used c.args.number c.args.info.now c.in_default.keys2
+
+pub bounds-info-1 : goal.bounds-info-1
+bounds-info-1 c = simp length-set (omega arith)

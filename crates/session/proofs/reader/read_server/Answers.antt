@@ -1,0 +1,19 @@
+-- `read_server` meets its contract. Assumes nothing.
+use borrow.Author.Rules.{rules}
+use Rattle.layout.specs.Layout.{parameters}
+use Rattle.layout.proofs.Family.{typed_no, typed-whole}
+use Rattle.layout.proofs.Steps.{stopping, going}
+use Rattle.types.specs.Sessions.{server_setup}
+use Rattle.session.proofs.reader.read_server.Goals as goal
+
+pub returns-in_default : goal.returns-in_default
+unfolding server_setup parameters
+returns-in_default c = typed_no _ (search stopping depth 20)
+
+pub returns-in-No : goal.returns-in-No
+unfolding server_setup parameters
+returns-in-No c = typed_no _ (search stopping depth 20)
+
+pub returns-in-Whole-read_list : goal.returns-in-Whole-read_list
+unfolding server_setup parameters
+returns-in-Whole-read_list c = typed-whole _ (search going depth 20)
