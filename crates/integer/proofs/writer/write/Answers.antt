@@ -39,5 +39,5 @@ returns-in-8 c =
 
 pub returns-in_default : goal.returns-in_default
 returns-in_default c =
-    let r = c.in_default.rest in
-    no-row _ _ c.size.ensures (and r.0.0.0.1 (and r.0.0.1 (and r.0.1 (and r.1 no_more))))
+    no-row _ _ c.size.ensures (and (omega arith) (and (omega arith) (and (omega arith) (and (omega arith) no_more))))
+
