@@ -2,9 +2,9 @@
 -- nothing.
 use Prim.Native.Nat.{ℕ, ◌+◌, ◌≤◌, ◌<◌}
 use mathlib.Core.Path.{◌≡◌, refl, sym, ◌∙◌}
-use mathlib.Core.Bool.{Bool, true, false, not}
+use mathlib.Core.Bool.{Bool, true, false}
 use native.Mathlib.Omega.{arith}
-use borrow.Author.Tests.{le-leb, lt-leb, not-true, not-false}
+use borrow.Author.Tests.{le-leb, lt-leb}
 use lib.ListN.{length, get_or}
 use Rattle.integer.specs.Integer.{greatest}
 use Rattle.field.specs.Entries.{size}
@@ -46,14 +46,14 @@ all_left f = rw (from_first f)
 
 module _ (f : Fields) (i : ℕ) (l : length f.at ≡ most_pieces) (a : Left f i) where
   -- one that is too great decides
-  pub one-great : {b : Bool} (d : Slot) → i < piece_count f.used → b ≡ small_piece (slot (get_or f.at i d)) → not b ≡ true → false ≡ small_all (fields_of f)
+  pub one-great : {b : Bool} (d : Slot) → i < piece_count f.used → b ≡ small_piece (slot (get_or f.at i d)) → b ≡ false → false ≡ small_all (fields_of f)
   unfolding Left small_all
-  one-great {b} d h e n = sym (rw (from_next f i l d h, ← e, not-true b n)) ∙ a
+  one-great {b} d h e n = sym (rw (from_next f i l d h, ← e, n)) ∙ a
 
   -- one that isn't leaves it to the rest
-  pub one-small : {b : Bool} (d : Slot) → i < piece_count f.used → b ≡ small_piece (slot (get_or f.at i d)) → not b ≡ false → Left f (i + 1)
+  pub one-small : {b : Bool} (d : Slot) → i < piece_count f.used → b ≡ small_piece (slot (get_or f.at i d)) → b ≡ true → Left f (i + 1)
   unfolding Left small_all
-  one-small {b} d h e n = sym (rw (from_next f i l d h, ← e, not-false b n)) ∙ a
+  one-small {b} d h e n = sym (rw (from_next f i l d h, ← e, n)) ∙ a
 
   -- after the last, none was too great
   pub none-great : piece_count f.used ≤ i → true ≡ small_all (fields_of f)

@@ -1,6 +1,5 @@
 -- `measure_list` meets its contract: the entries are walked once, then what they came to is judged. Assumes nothing.
 use mathlib.Core.Path.{sym, ◌∙◌}
-use borrow.Author.Tests.{not-true, not-false}
 use borrow.Author.Rules.{rules}
 use Rattle.measure.proofs.Lists.{list-great, list-outside, list-missing, list-other, list-many, list_over, list-fits}
 use Rattle.measure.proofs.judging.measure_list.Goals as goal
@@ -20,13 +19,13 @@ returns-then-last-end c =
 
 pub returns-then-not-is_few : goal.returns-then-not-is_few
 returns-then-not-is_few c =
-    list-many _ _ _ _ _ c.if-count-gt-GREATEST.false c.if-end-bytes.false c.walk.ensures c.in-Whole.is c.if-last-end.false (sym c.is_few.ensures ∙ not-true _ c.if-not-is_few.true)
+    list-many _ _ _ _ _ c.if-count-gt-GREATEST.false c.if-end-bytes.false c.walk.ensures c.in-Whole.is c.if-last-end.false (sym c.is_few.ensures ∙ c.if-not-is_few.true)
 
 pub returns-then-not-is_within : goal.returns-then-not-is_within
 returns-then-not-is_within c =
-    list_over _ _ _ _ _ c.if-count-gt-GREATEST.false c.if-end-bytes.false c.walk.ensures c.in-Whole.is c.if-last-end.false (sym c.is_few.ensures ∙ not-false _ c.if-not-is_few.false) (sym c.is_within.ensures ∙ not-true _ c.if-not-is_within.true)
+    list_over _ _ _ _ _ c.if-count-gt-GREATEST.false c.if-end-bytes.false c.walk.ensures c.in-Whole.is c.if-last-end.false (sym c.is_few.ensures ∙ c.if-not-is_few.false) (sym c.is_within.ensures ∙ c.if-not-is_within.true)
 
 pub returns : goal.returns
 returns c =
     c.add.ensures
-    ∙ list-fits _ _ _ _ _ c.if-count-gt-GREATEST.false c.if-end-bytes.false c.walk.ensures c.in-Whole.is c.if-last-end.false (sym c.is_few.ensures ∙ not-false _ c.if-not-is_few.false) (sym c.is_within.ensures ∙ not-false _ c.if-not-is_within.false) c.size.ensures
+    ∙ list-fits _ _ _ _ _ c.if-count-gt-GREATEST.false c.if-end-bytes.false c.walk.ensures c.in-Whole.is c.if-last-end.false (sym c.is_few.ensures ∙ c.if-not-is_few.false) (sym c.is_within.ensures ∙ c.if-not-is_within.false) c.size.ensures

@@ -8,26 +8,21 @@ use Rattle.measure.specs.Fields.{most_pieces}
 use Rattle.measure.proofs.FieldsFrom.{count_most}
 use Rattle.measure.proofs.AllSmall.{Left, all_left, one-great, one-small, none-great}
 use Rattle.measure.proofs.small.are_small.Goals as goal
-use Rattle.measure.proofs.small.are_small.Goals.{Start}
-
--- there are places for all fields
-places : (c : Start) → length c.args.t1.at ≡ most_pieces
-places c = sym (length-map c.args.t1.at _) ∙ c.well-formed.0.1.1.0.1.0.1
 
 pub offset_bounds-f-i : goal.offset_bounds-f-i
-offset_bounds-f-i c = omega (arith, count_most c.args.t1.used)
+offset_bounds-f-i c = omega (arith, count_most c.args.f.used)
 
 pub bounds-f-i : goal.bounds-f-i
-bounds-f-i c = omega (arith, count_most c.args.t1.used)
+bounds-f-i c = omega (arith, count_most c.args.f.used)
 
 pub returns-then-not-is_small : goal.returns-then-not-is_small
-returns-then-not-is_small c = one-great _ _ (places (AT.Start)) c.loop-i.invariant _ (omega arith) c.is_small.ensures c.if-not-is_small.true
+returns-then-not-is_small c = one-great _ _ (omega arith) c.loop-i.invariant _ (omega arith) c.is_small.ensures c.if-not-is_small.true
 
 pub loop-i-preserved : goal.loop-i-preserved
-loop-i-preserved c = one-small _ _ (places (AT.Start)) c.loop-i.invariant _ (omega arith) c.is_small.ensures c.if-not-is_small.false
+loop-i-preserved c = one-small _ _ (omega arith) c.loop-i.invariant _ (omega arith) c.is_small.ensures c.if-not-is_small.false
 
 pub returns : goal.returns
-returns c = none-great _ _ (places (AT.Start)) c.loop-i.invariant (omega arith)
+returns c = none-great _ _ (omega arith) c.loop-i.invariant (omega arith)
 
 pub loop-i-init : goal.loop-i-init
 loop-i-init c = search all_left
