@@ -11,7 +11,7 @@ use Rattle.types.specs.SubscriptionKinds.{type_row as subscription_row}
 use Rattle.types.specs.FetchKinds.{type_row as fetch_row}
 use Rattle.types.specs.AnnounceKinds.{type_row as announce_row}
 use Rattle.types.specs.SessionKinds.{type_row as session_row}
-use Rattle.types.proofs.Gaps.{below-the-first}
+use Rattle.types.proofs.Gaps.{below-the-first, the-long-gap, beyond-the-last}
 use Rattle.types.specs.Kinds.{number_of}
 use Rattle.types.specs.declared.kinds.Kind.TheVariants.{Subscription, Fetch, Announce, Session}
 use Rattle.types.proofs.KnownNumbers.{type-known, type-none, type-gap, type-missed}
@@ -131,8 +131,8 @@ returns-in-0-to-1 c = type-none _ (below-the-first (omega arith))
 
 pub returns-in-27-to-63 : goal.returns-in-27-to-63
 unfolding number_of subscription_row fetch_row announce_row session_row
-returns-in-27-to-63 c = type-missed _ c.in_default-1.rest
+returns-in-27-to-63 c = type-none _ (the-long-gap (omega arith) (omega arith))
 
 pub returns-in_default : goal.returns-in_default
 unfolding number_of subscription_row fetch_row announce_row session_row
-returns-in_default c = type-missed _ c.in_default-1.rest
+returns-in_default c = type-none _ (beyond-the-last (omega arith))
