@@ -1,12 +1,10 @@
 -- What is answered of a message before a byte of it is written, and what that tells. Assumes nothing.
 use Prim.Native.Nat.{ℕ, ◌+◌, ◌≤◌, ◌<◌}
-use mathlib.Core.Path.{◌≡◌, refl, sym, ap, ◌∙◌}
+use mathlib.Core.Path.{◌≡◌, refl, sym, ◌∙◌}
 use mathlib.Core.Bool.{Bool, true, false}
-use mathlib.Core.List.{List, [], ◌∷◌}
+use mathlib.Core.List.{List}
 use native.Mathlib.Omega.{arith}
 use borrow.Author.Tests.{le-leb, lt-leb, leb-true, leb-false}
-use denote.Enum.Declared.{tag_of}
-use types.Run.{OneOf, miss}
 use lib.Dec.{leb}
 use lib.ListN.{length}
 use Rattle.common.specs.Answer.{Leaves}
@@ -20,7 +18,6 @@ use Rattle.encode.specs.Framing.{body_framing, framing_of}
 use Rattle.encode.specs.Writing.{frame, framed_of, told_writing}
 use Rattle.encode.specs.declared.Writing.{Writing}
 use Rattle.encode.specs.declared.Writing.TheVariants.{Done, Forbidden, TooShort}
-use Rattle.encode.specs.contracts.Writing.{the_type}
 use Rattle.encode.proofs.Written.{kind-great, fields-forbidden, fields-oversize, Message, message-long, message-short, message}
 
 apart : ◌≡◌ {A = ℕ} 0 1 → ⊥
@@ -59,11 +56,11 @@ module _ (found : Measured) (number room : ℕ) where
 
 module _ (longest : ℕ) (s : List ℕ) (kind : ℕ) (ps : List Piece) (before : List ℕ) where
   -- a body that takes n bytes
-  with-body : (n : ℕ) → Takes n ≡ measure_all s ps longest → kind ≤ greatest → (fits : Bool) → leb (size_of kind + size_of n + n) (length before) ≡ fits → OneOf (1 ∷ 2 ∷ 3 ∷ 4 ∷ []) (tag_of the_type (guard fits TooShort (Done n))) → Leaves (framed_of longest s kind ps before) (told_writing (guard fits TooShort (Done n))) before
-  with-body n said small true e h = absurd (miss (1 ∷ 2 ∷ 3 ∷ 4 ∷ []) 0 tt h)
+  with-body : (n : ℕ) → Takes n ≡ measure_all s ps longest → kind ≤ greatest → (fits : Bool) → leb (size_of kind + size_of n + n) (length before) ≡ fits → ((m : ℕ) → guard fits TooShort (Done n) ≡ Done m → ⊥) → Leaves (framed_of longest s kind ps before) (told_writing (guard fits TooShort (Done n))) before
+  with-body n said small true e h = absurd (h n refl)
   with-body n said small false e h = message-short longest s ps before small said refl refl refl (leb-false (size_of kind + size_of n + n) (length before) e)
 
-  refused-by : (found : Measured) → found ≡ measure_all s ps longest → (small : Bool) → leb kind greatest ≡ small → OneOf (1 ∷ 2 ∷ 3 ∷ 4 ∷ []) (tag_of the_type (guard small Forbidden (body_framing found kind (length before)))) → Leaves (framed_of longest s kind ps before) (told_writing (guard small Forbidden (body_framing found kind (length before)))) before
+  refused-by : (found : Measured) → found ≡ measure_all s ps longest → (small : Bool) → leb kind greatest ≡ small → ((m : ℕ) → guard small Forbidden (body_framing found kind (length before)) ≡ Done m → ⊥) → Leaves (framed_of longest s kind ps before) (told_writing (guard small Forbidden (body_framing found kind (length before)))) before
   unfolding body_framing framed_of measure_all
   refused-by found said false e h =
       kind-great (right_all s ps) (sized_all s ps) (leb (length (encode_all s ps)) longest) (frame kind (encode_all s ps)) before (leb-false kind greatest e)
@@ -90,10 +87,10 @@ module _ (longest : ℕ) (s : List ℕ) (kind : ℕ) (ps : List Piece) (before :
   checked-by (Takes n) said true e g d = all-checked n said (leb-true kind greatest e) g _ refl d
 
   module _ {found : Measured} (said : found ≡ measure_all s ps longest) {r : Writing} (is : r ≡ framing_of found kind (length before)) where
-    -- it is refused, by the variants that are left,
-    pub framing-refused : OneOf (1 ∷ 2 ∷ 3 ∷ 4 ∷ []) (tag_of the_type r) → Leaves (framed_of longest s kind ps before) (told_writing r) before
+    -- it is refused, where it is not done,
+    pub framing-refused : ((m : ℕ) → r ≡ Done m → ⊥) → Leaves (framed_of longest s kind ps before) (told_writing r) before
     unfolding framing_of
-    framing-refused h = rw is (refused-by found said _ refl (rw is at h))
+    framing-refused h = rw is (refused-by found said _ refl (λ m d. h m (is ∙ d)))
 
     -- or all was checked
     pub framing-checked : longest ≤ greatest → {n : ℕ} → r ≡ Done n → Message longest s kind ps before n

@@ -1,9 +1,7 @@
 -- One field: what its writer leaves. Assumes nothing.
 use Prim.Native.Nat.{ℕ}
 use mathlib.Core.Path.{◌≡◌, refl, sym, ◌∙◌}
-use mathlib.Core.List.{List, [], ◌∷◌}
-use denote.Enum.Declared.{tag_of}
-use types.Run.{OneOf, miss}
+use mathlib.Core.List.{List}
 use lib.ListN.{length}
 use Rattle.common.specs.Answer.{Leaves}
 use Rattle.common.specs.Buffer.{Put}
@@ -14,7 +12,6 @@ use Rattle.measure.specs.Measuring.{measured_of, told_measured}
 use Rattle.measure.specs.declared.Measured.{Measured}
 use Rattle.measure.specs.declared.Measured.TheVariants.{Takes, TooLong, Oversize, Forbidden}
 use Rattle.measure.proofs.Judges.{judged-takes}
-use Rattle.measure.specs.contracts.Measured.{the_type}
 use Rattle.measure.proofs.Numbers.{judgement}
 use Rattle.encode.specs.Writing.{put_field}
 use Rattle.encode.proofs.Pieces.{Asks}
@@ -39,10 +36,10 @@ module _ (s : List ℕ) (p : Piece) (before : List ℕ) {r : Measured} (said : t
       let t = bare-taken (right s p) (sized s p) (enc_field (mean s p)) before found e in
       rw e (bare-done _ _ _ _ found e (record { count = t.counts; holds = q.holds }))
 
--- or refused, by the variants that are left, and nothing was
-pub leaves_kept : (s : List ℕ) (p : Piece) (before : List ℕ) (r : Measured) → told_measured r ≡ measured_of s p (length before) → OneOf (1 ∷ 2 ∷ 3 ∷ []) (tag_of the_type r) → Leaves (put_field s p before) (told_measured r) before
+-- or refused, where it takes none, and nothing was
+pub leaves_kept : (s : List ℕ) (p : Piece) (before : List ℕ) (r : Measured) → told_measured r ≡ measured_of s p (length before) → ((n : ℕ) → r ≡ Takes n → ⊥) → Leaves (put_field s p before) (told_measured r) before
 unfolding put_field
-leaves_kept s p before (Takes n) said h = absurd (miss (1 ∷ 2 ∷ 3 ∷ []) 0 tt h)
+leaves_kept s p before (Takes n) said h = absurd (h n refl)
 leaves_kept s p before TooLong said h = bare-over _ _ _ _ (found s p before said) refl
 leaves_kept s p before Oversize said h = bare-oversize _ _ _ _ (found s p before said) refl
 leaves_kept s p before Forbidden said h = bare-forbidden _ _ _ _ (found s p before said) refl

@@ -1,11 +1,8 @@
 use Prim.Native.Nat.{◌-◌, ◌≤◌}
-use mathlib.Core.Path.{◌≡◌, refl}
+use mathlib.Core.Path.{◌≡◌}
 use mathlib.Core.List.{◌++◌}
-use native.Mathlib.Omega.{arith}
-use borrow.Author.Rules.{rules}
-use lib.ListN.{length, take, drop, length-set}
+use lib.ListN.{length, take, drop}
 use Rattle.field.specs.Value.{part}
-use Rattle.encode.proofs.Copies.{copied_next, copied}
 use Rattle.encode.proofs.putting.copy.Given as goal
 
 abbrev pub invariant-loop-i : goal.invariant-loop-i

@@ -1,5 +1,4 @@
 -- `put_number` meets its contract: there is room, so `integer::write` writes the shortest form. Assumes nothing.
-use borrow.Author.Rules.{rules}
 use Rattle.integer.proofs.Writes.{number_put}
 use Rattle.encode.proofs.putting.put_number.Goals as goal
 
