@@ -3,7 +3,6 @@ use Prim.Native.Nat.{ℕ}
 use mathlib.Core.Path.{◌≡◌, refl, sym, ◌∙◌}
 use mathlib.Core.List.{List, [], ◌∷◌}
 use mathlib.Core.Bool.{Bool, true, false, not}
-use borrow.Author.Tests.{not-true, not-false}
 use lib.Dec.{leb}
 use Rattle.common.specs.Answer.{Answer, refused, Nothing, Leaves}
 use Rattle.integer.specs.Integer.{enc_of, greatest}
@@ -69,27 +68,27 @@ stream-any s (Fetch id) before = refl
 
 module _ (s before : List ℕ) {a : Bool} (l : Layout) (ps : List Piece) (judged : a ≡ allowed l ps) where
   -- a value is forbidden,
-  pub not-allowed : (front : List ℕ) → not a ≡ true → Leaves (header_written l front s ps before) (refused 5) before
+  pub not-allowed : (front : List ℕ) → a ≡ false → Leaves (header_written l front s ps before) (refused 5) before
   unfolding header_written written_of
-  not-allowed front h = let f : allowed l ps ≡ false = sym judged ∙ not-true a h in record { says = rw f; holds = rw f }
+  not-allowed front h = let f : allowed l ps ≡ false = sym judged ∙ h in record { says = rw f; holds = rw f }
 
-  module _ {said : Answer Nothing} {after : List ℕ} (h : not a ≡ false) (sizes : sized_all s ps ≡ true) where
+  module _ {said : Answer Nothing} {after : List ℕ} (h : a ≡ true) (sizes : sized_all s ps ≡ true) where
     -- or none is, and the fields are written alone,
     alone : Leaves (bare_of s ps before) said after → Leaves (header_written l [] s ps before) said after
     unfolding header_written bare_of
-    alone w = let g : allowed l ps ≡ true = sym judged ∙ not-false a h in rw g (rw sizes at w)
+    alone w = let g : allowed l ps ≡ true = sym judged ∙ h in rw g (rw sizes at w)
 
     -- or after a type, which is one number more
     behind-type : (type : ℕ) → leb type greatest ≡ true → Leaves (bare_of s (Number type ∷ ps) before) said after → Leaves (header_written l (enc_of type) s ps before) said after
     unfolding header_written bare_of right_all right sized_all sized encode_all encode mean enc_field
-    behind-type type small w = let g : allowed l ps ≡ true = sym judged ∙ not-false a h in rw g (rw (small, sizes) at w)
+    behind-type type small w = let g : allowed l ps ≡ true = sym judged ∙ h in rw g (rw (small, sizes) at w)
 
 -- the number of its type, and then its fields
 abbrev pub numbered : Typed → List Piece
 numbered t = Number t.type ∷ t.pieces
 
 -- a datagram,
-pub datagram-written : (s : List ℕ) (d : Datagram) (before : List ℕ) {a : Bool} {said : Answer Nothing} {after : List ℕ} → a ≡ allowed (layout_of (datagrams (datagram_typed d).type)) (datagram_typed d).pieces → not a ≡ false → Leaves (bare_of s (numbered (datagram_typed d)) before) said after → Leaves (datagram_written s d before) said after
+pub datagram-written : (s : List ℕ) (d : Datagram) (before : List ℕ) {a : Bool} {said : Answer Nothing} {after : List ℕ} → a ≡ allowed (layout_of (datagrams (datagram_typed d).type)) (datagram_typed d).pieces → a ≡ true → Leaves (bare_of s (numbered (datagram_typed d)) before) said after → Leaves (datagram_written s d before) said after
 unfolding datagram_written
 datagram-written s d before judged h l =
     let w = datagram-writable s d in
@@ -103,12 +102,12 @@ stream-written h before l =
     behind-type [] before (layout_of (streams (stream_typed h).type)) (stream_typed h).pieces (stream-allowed h) refl w.1 (stream_typed h).type w.0 l
 
 -- and the headers of objects, which have no type
-pub subgroup-object-written : (s : List ℕ) (o : SubgroupObject) (before : List ℕ) {a : Bool} {said : Answer Nothing} {after : List ℕ} → a ≡ allowed payload (payload_pieces o.payload) → not a ≡ false → Leaves (bare_of s (subgroup_object_pieces o) before) said after → Leaves (subgroup_object_written s o before) said after
+pub subgroup-object-written : (s : List ℕ) (o : SubgroupObject) (before : List ℕ) {a : Bool} {said : Answer Nothing} {after : List ℕ} → a ≡ allowed payload (payload_pieces o.payload) → a ≡ true → Leaves (bare_of s (subgroup_object_pieces o) before) said after → Leaves (subgroup_object_written s o before) said after
 unfolding subgroup_object_written allowed subgroup_object
 subgroup-object-written s o before judged h l =
     alone s before subgroup_object (subgroup_object_pieces o) judged h (subgroup-object-sized s o) l
 
-pub fetch-object-written : (s : List ℕ) (o : FetchObject) (before : List ℕ) {a : Bool} {said : Answer Nothing} {after : List ℕ} → a ≡ allowed payload (payload_pieces o.payload) → not a ≡ false → Leaves (bare_of s (fetch_object_pieces o) before) said after → Leaves (fetch_object_written s o before) said after
+pub fetch-object-written : (s : List ℕ) (o : FetchObject) (before : List ℕ) {a : Bool} {said : Answer Nothing} {after : List ℕ} → a ≡ allowed payload (payload_pieces o.payload) → a ≡ true → Leaves (bare_of s (fetch_object_pieces o) before) said after → Leaves (fetch_object_written s o before) said after
 unfolding fetch_object_written allowed fetch_object
 fetch-object-written s o before judged h l =
     alone s before fetch_object (fetch_object_pieces o) judged h (fetch-object-sized s o) l
