@@ -9,7 +9,6 @@ use Rattle.field.specs.Fields.{field_at, integer, bytes, place_at, failure_at}
 use Rattle.field.specs.Told.{told_number, told_bytes}
 use Rattle.field.specs.declared.Fault.TheVariants.{Cut}
 use Rattle.field.specs.declared.Span.{Span}
-use Rattle.field.specs.declared.Piece.TheVariants.{Number, Bytes}
 use Rattle.field.specs.declared.Place.{Place}
 use Rattle.field.specs.declared.Failure.{Failure}
 use Rattle.field.specs.declared.NumberRead.{NumberRead}

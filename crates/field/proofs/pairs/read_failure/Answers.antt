@@ -1,5 +1,4 @@
 -- `read_failure` meets its contract: an integer, then bytes. Assumes nothing.
-use borrow.Author.Rules.{rules}
 use Rattle.field.proofs.TwoReads.{failure-cut, failure-half, failure-whole}
 use Rattle.field.proofs.pairs.read_failure.Goals as goal
 

@@ -1,5 +1,4 @@
 -- `read_place` meets its contract: two integers, one after the other. Assumes nothing.
-use borrow.Author.Rules.{rules}
 use Rattle.field.proofs.TwoReads.{place-cut, place-half, place-whole}
 use Rattle.field.proofs.pairs.read_place.Goals as goal
 

@@ -1,5 +1,4 @@
 -- `counted` meets its contract: a count, judged, and the entries after it. Assumes nothing.
-use borrow.Author.Rules.{rules}
 use Rattle.field.proofs.Answers.{read_fits}
 use Rattle.field.proofs.Lists.{list-cut, list_over, list-no, list-whole}
 use Rattle.field.proofs.reader.counted.Goals as goal

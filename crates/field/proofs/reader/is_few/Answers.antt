@@ -1,6 +1,5 @@
 -- `is_few` meets its contract: the count is judged by its kind. Assumes nothing.
 use borrow.Author.Tests.{le-leb, lt-leb}
-use borrow.Author.Rules.{rules}
 use Rattle.field.specs.Entries.{few}
 use Rattle.field.proofs.reader.is_few.Goals as goal
 

@@ -1,6 +1,5 @@
 -- `read_byte` meets its contract: the byte at an offset within the bytes. Assumes nothing.
 use borrow.Author.Tests.{lt-ltb, le-ltb}
-use borrow.Author.Rules.{rules}
 use Rattle.field.specs.Fields.{field_at}
 use Rattle.field.proofs.reader.read_byte.Goals as goal
 

@@ -1,5 +1,4 @@
 -- `read_bytes` meets its contract: an entry without a number, of any length. Assumes nothing.
-use borrow.Author.Rules.{rules}
 use Rattle.field.proofs.Answers.{bytes-no, bytes_whole}
 use Rattle.field.proofs.reader.read_bytes.Goals as goal
 

@@ -1,5 +1,4 @@
 -- `read_list` meets its contract: what was counted, as a field. Assumes nothing.
-use borrow.Author.Rules.{rules}
 use Rattle.field.proofs.Lists.{field-list-no, field-list}
 use Rattle.field.proofs.reader.read_list.Goals as goal
 

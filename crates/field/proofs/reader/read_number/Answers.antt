@@ -1,5 +1,4 @@
 -- `read_number` meets its contract: an integer ends where its bytes do. Assumes nothing.
-use borrow.Author.Rules.{rules}
 use Rattle.field.proofs.Answers.{read_fits, number-field-cut, number-field}
 use Rattle.field.proofs.reader.read_number.Goals as goal
 

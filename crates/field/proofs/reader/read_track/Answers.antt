@@ -1,5 +1,4 @@
 -- `read_track` meets its contract: a namespace, and a name that may hold what it leaves of 4,096 bytes. Assumes nothing.
-use borrow.Author.Rules.{rules}
 use Rattle.field.proofs.Lists.{track-no, track-stop, track-whole}
 use Rattle.field.proofs.reader.read_track.Goals as goal
 

@@ -1,6 +1,5 @@
 -- `entry_at` meets its contract: the number that the entry begins with, and what stands after it. Assumes nothing.
 use mathlib.Core.Path.{◌≡◌, sym, ap, ◌∙◌}
-use borrow.Author.Rules.{rules}
 use Rattle.field.specs.Outcome.{Outcome, whole}
 use Rattle.field.specs.Entries.{numbered_at, entry_at}
 use Rattle.field.specs.Told.{told_entry}
@@ -14,8 +13,8 @@ lead : (c : Joined-has_number) → lead_at c.args.kind c.args.s.now c.args.at �
 lead c =
     let a = c.args in
     elim c.if-has_number.branch [
-      then-has_number+in-Whole w ↦ rw (w.number-is, w.next-is) (lead-read a.s.now a.at w.in-Whole.is w.read_at.ensures a.kind (sym c.has_number.ensures ∙ w.if-has_number.true))
-    | else-has_number w ↦ rw (w.number-is, w.next-is) (lead-none a.s.now a.at a.kind (sym c.has_number.ensures ∙ w.if-has_number.false))
+      | then-has_number+in-Whole w ↦ rw (w.number-is, w.next-is) (lead-read a.s.now a.at w.in-Whole.is w.read_at.ensures a.kind (sym c.has_number.ensures ∙ w.if-has_number.true))
+      | else-has_number w ↦ rw (w.number-is, w.next-is) (lead-none a.s.now a.at a.kind (sym c.has_number.ensures ∙ w.if-has_number.false))
     ]
 
 -- after it a length and bytes

@@ -1,6 +1,5 @@
 -- `entry_size` meets its contract: the sizes of its integers, and its bytes. Assumes nothing.
 use native.Mathlib.Omega.{arith}
-use borrow.Author.Rules.{rules}
 use Rattle.integer.proofs.Laws.{length-enc}
 use Rattle.integer.proofs.Widths.{size_few}
 use Rattle.field.specs.Value.{item_size}

@@ -1,6 +1,5 @@
 -- `most` meets its contract: what is left of 4,096, or anything. Assumes nothing.
 use native.Mathlib.Omega.{arith}
-use borrow.Author.Rules.{rules}
 use Rattle.field.specs.Entries.{most_of}
 use Rattle.field.proofs.walking.most.Goals as goal
 

@@ -1,5 +1,4 @@
 -- `numbered` meets its contract: a length, judged, and the bytes after it. Assumes nothing.
-use borrow.Author.Rules.{rules}
 use Rattle.field.proofs.Answers.{read-within, read_fits, numbered-cut, numbered-over, numbered-missing, numbered-fits, numbered-whole}
 use Rattle.field.proofs.walking.numbered.Goals as goal
 

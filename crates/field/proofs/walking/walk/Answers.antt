@@ -1,7 +1,6 @@
 -- `walk` meets its contract. The loop's invariant: the entries left give what the whole run gives, and no sum is more than what was read.
 -- The measure is how many are left. Assumes nothing.
-use borrow.Author.Rules.{rules}
-use Rattle.field.proofs.Walks.{Walking, walking_start, walking-end, walking-stop, walking-step, walking-size, walking-held}
+use Rattle.field.proofs.Walks.{walking_start, walking-end, walking-stop, walking-step, walking-size, walking-held}
 use Rattle.field.proofs.Answers.{entry-ordered, entry-small, entry-little}
 use Rattle.field.proofs.walking.walk.Goals as goal
 

@@ -1,6 +1,4 @@
-use borrow.Author.Rules.{rules}
-use Rattle.field.proofs.Walks.{Walking, walking_start, walking-end, walking-stop, walking-step, walking-size, walking-held}
-use Rattle.field.proofs.Answers.{entry-ordered, entry-small, entry-little}
+use Rattle.field.proofs.Walks.{Walking}
 use Rattle.field.proofs.walking.walk.Given as goal
 
 abbrev pub invariant-loop-left : goal.invariant-loop-left

@@ -1,7 +1,6 @@
 -- `read` meets its contract: each arm's range of the first byte gives its width. Assumes nothing.
 use mathlib.Core.Path.{refl, sym}
 use native.Mathlib.Omega.{arith}
-use borrow.Author.Rules.{rules}
 use lib.ListN.{get_or}
 use Rattle.integer.specs.Integer.{room}
 use Rattle.integer.proofs.Tables.{here, there}

@@ -1,7 +1,6 @@
 -- `read_at` meets its contract: a part that goes to the end is what is left of the bytes. Assumes nothing.
 use mathlib.Core.Path.{sym}
 use native.Mathlib.Nat.{le_of_lt}
-use borrow.Author.Rules.{rules}
 use Rattle.common.proofs.Parts.{to_end}
 use Rattle.integer.proofs.Offsets.{past}
 use Rattle.integer.proofs.reader.read_at.Goals as goal

@@ -1,12 +1,7 @@
-use Prim.Native.Nat.{ℕ, ◌+◌, ◌-◌, ◌*◌, ◌^◌, ◌≤◌, ◌<◌}
-use mathlib.Core.Path.{◌≡◌, refl, sym}
-use native.Mathlib.Omega.{arith}
-use borrow.Author.Rules.{rules}
-use lib.Dec.{lit<}
-use lib.ListN.{length, get_or, take}
-use lib.Seq.{take_all}
+use Prim.Native.Nat.{◌-◌, ◌^◌, ◌≤◌, ◌<◌}
+use mathlib.Core.Path.{◌≡◌}
+use lib.ListN.{length, take}
 use Rattle.integer.specs.Integer.{spell}
-use Rattle.integer.proofs.Digits.{spell_next, spell-fits, eight-fit}
 use Rattle.integer.proofs.reader.spelled.Given as goal
 
 abbrev pub invariant-loop-i : goal.invariant-loop-i

@@ -1,10 +1,9 @@
 -- `put` meets its contract. The loop runs backward: the bytes still to be put, and what stands after them, are what the
 -- whole number leaves. Assumes nothing.
-use Prim.Native.Nat.{ℕ, ◌-◌, ◌≤◌}
+use Prim.Native.Nat.{◌≤◌}
 use mathlib.Core.Path.{◌≡◌, refl, ◌∙◌}
-use mathlib.Core.List.{◌++◌}
 use native.Mathlib.Omega.{arith}
-use lib.ListN.{length, drop, length-set}
+use lib.ListN.{length, length-set}
 use Rattle.integer.specs.Integer.{bytes_of}
 use Rattle.integer.proofs.Digits.{put_next}
 use Rattle.integer.proofs.Writes.{put-short, put-done}

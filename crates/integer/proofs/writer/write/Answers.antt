@@ -1,6 +1,5 @@
 -- `write` meets its contract: each arm has the other columns of the row whose bytes it has. Assumes nothing.
 use native.Mathlib.Omega.{arith}
-use borrow.Author.Rules.{rules}
 use Rattle.integer.proofs.Tables.{here, there, and, no_more}
 use Rattle.integer.proofs.Writes.{no-row, row_fits, row_put}
 use Rattle.integer.proofs.writer.write.Goals as goal
@@ -40,4 +39,3 @@ returns-in-8 c =
 pub returns-in_default : goal.returns-in_default
 returns-in_default c =
     no-row _ _ c.size.ensures (and (omega arith) (and (omega arith) (and (omega arith) (and (omega arith) no_more))))
-

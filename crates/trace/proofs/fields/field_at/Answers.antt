@@ -2,7 +2,6 @@
 use Prim.Native.Nat.{◌+◌, ◌<◌}
 use mathlib.Core.Path.{sym}
 use native.Mathlib.Omega.{arith}
-use borrow.Author.Rules.{rules}
 use lib.ListN.{get_or}
 use Rattle.trace.proofs.Found.{no-head, no_value, there}
 use Rattle.trace.proofs.fields.field_at.Goals as goal
