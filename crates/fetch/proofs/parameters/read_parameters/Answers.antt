@@ -7,7 +7,7 @@ use Rattle.fetch.proofs.parameters.read_parameters.Goals as goal
 
 pub returns-in-No : goal.returns-in-No
 unfolding parameters
-returns-in-No c = behind-no _ _ (search stopping depth 20)
+returns-in-No c = search (behind-no, stopping) depth 20
 
 pub returns-in-Whole : goal.returns-in-Whole
 unfolding parameters

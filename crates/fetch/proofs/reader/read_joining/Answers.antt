@@ -7,11 +7,11 @@ use Rattle.fetch.proofs.reader.read_joining.Goals as goal
 
 pub returns-in_default : goal.returns-in_default
 unfolding joining
-returns-in_default c = behind-no _ _ (search stopping depth 20)
+returns-in_default c = search (behind-no, stopping) depth 20
 
 pub returns-in_default-read_number : goal.returns-in_default-read_number
 unfolding joining
-returns-in_default-read_number c = behind-no _ _ (search stopping depth 20)
+returns-in_default-read_number c = search (behind-no, stopping) depth 20
 
 pub returns : goal.returns
 unfolding joining

@@ -7,20 +7,20 @@ use Rattle.fetch.proofs.reader.read_largest.Goals as goal
 
 pub returns-in_default : goal.returns-in_default
 unfolding largest
-returns-in_default c = behind-no _ _ (search stopping depth 20)
+returns-in_default c = search (behind-no, stopping) depth 20
 
 pub returns-then-not-may_hold : goal.returns-then-not-may_hold
 unfolding largest
-returns-then-not-may_hold c = behind-no _ _ (search stopping depth 20)
+returns-then-not-may_hold c = search (behind-no, stopping) depth 20
 
 pub returns-in_default-read_number : goal.returns-in_default-read_number
 unfolding largest
-returns-in_default-read_number c = behind-no _ _ (search stopping depth 20)
+returns-in_default-read_number c = search (behind-no, stopping) depth 20
 
 pub returns-then-not-may_hold-2 : goal.returns-then-not-may_hold-2
 unfolding largest
-returns-then-not-may_hold-2 c = behind-no _ _ (search stopping depth 20)
+returns-then-not-may_hold-2 c = search (behind-no, stopping) depth 20
 
 pub returns : goal.returns
 unfolding largest
-returns c = behind-whole _ _ _ (search going depth 20)
+returns c = search (behind-whole, going) depth 20

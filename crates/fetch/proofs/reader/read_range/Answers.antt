@@ -7,7 +7,7 @@ use Rattle.fetch.proofs.reader.read_range.Goals as goal
 
 pub returns-in_default : goal.returns-in_default
 unfolding range
-returns-in_default c = behind-no _ _ (search stopping depth 20)
+returns-in_default c = search (behind-no, stopping) depth 20
 
 pub returns-in-1 : goal.returns-in-1
 unfolding range
@@ -23,4 +23,4 @@ returns-in-3 c = search (behind-on, number-as, going) depth 20
 
 pub returns-in_default-kind : goal.returns-in_default-kind
 unfolding range
-returns-in_default-kind c = behind-no _ _ (search stopping depth 20)
+returns-in_default-kind c = search (behind-no, stopping) depth 20

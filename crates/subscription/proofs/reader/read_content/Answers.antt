@@ -7,11 +7,11 @@ use Rattle.subscription.proofs.reader.read_content.Goals as goal
 
 pub returns-in_default : goal.returns-in_default
 unfolding content
-returns-in_default c = behind-no _ _ (search stopping depth 20)
+returns-in_default c = search (behind-no, stopping) depth 20
 
 pub returns-in_default-read_place : goal.returns-in_default-read_place
 unfolding content
-returns-in_default-read_place c = behind-no _ _ (search (byte-past-as, stopping) depth 20)
+returns-in_default-read_place c = search (behind-no, byte-past-as, stopping) depth 20
 
 pub returns-in-0 : goal.returns-in-0
 unfolding content
@@ -23,4 +23,4 @@ returns-in-Whole-read_place c = search (behind-on, byte-as, going) depth 20
 
 pub returns-in_default-exists : goal.returns-in_default-exists
 unfolding content
-returns-in_default-exists c = behind-no _ _ (search stopping depth 20)
+returns-in_default-exists c = search (behind-no, stopping) depth 20

@@ -7,15 +7,15 @@ use Rattle.subscription.proofs.reader.read_delivery.Goals as goal
 
 pub returns-in_default : goal.returns-in_default
 unfolding delivery
-returns-in_default c = behind-no _ _ (search stopping depth 20)
+returns-in_default c = search (behind-no, stopping) depth 20
 
 pub returns-in_default-read_byte : goal.returns-in_default-read_byte
 unfolding delivery
-returns-in_default-read_byte c = behind-no _ _ (search stopping depth 20)
+returns-in_default-read_byte c = search (behind-no, stopping) depth 20
 
 pub returns-then-not-is_askable : goal.returns-then-not-is_askable
 unfolding delivery
-returns-then-not-is_askable c = behind-no _ _ (search stopping depth 20)
+returns-then-not-is_askable c = search (behind-no, stopping) depth 20
 
 pub returns : goal.returns
 unfolding delivery

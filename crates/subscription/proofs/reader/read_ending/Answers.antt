@@ -7,11 +7,11 @@ use Rattle.subscription.proofs.reader.read_ending.Goals as goal
 
 pub returns-in_default : goal.returns-in_default
 unfolding ending
-returns-in_default c = behind-no _ _ (search stopping depth 20)
+returns-in_default c = search (behind-no, stopping) depth 20
 
 pub returns-then-not-ends_after : goal.returns-then-not-ends_after
 unfolding ending
-returns-then-not-ends_after c = behind-no _ _ (search stopping depth 20)
+returns-then-not-ends_after c = search (behind-no, stopping) depth 20
 
 pub returns : goal.returns
 unfolding ending
