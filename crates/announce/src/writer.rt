@@ -52,6 +52,7 @@ pub fn fields(m: AnnounceMessage) -> Fields
 }
 
 // The number of a kind.
+#[tactic(auto, unfolding(types::specs::AnnounceKinds::type_row))]
 fn number_of(kind: AnnounceKind) -> u64
     ensures { result ≡ number_of kind }
 {

@@ -1,5 +1,6 @@
 -- `read_largest` meets its contract. Assumes nothing.
-use borrow.Author.Rules.{rules}
+use mathlib.Core.List.{[], ◌∷◌}
+use Rattle.field.specs.declared.Piece.TheVariants.{Number, Track as Tracked}
 use Rattle.layout.proofs.Family.{behind-no, behind-whole}
 use Rattle.layout.proofs.Steps.{stopping, going}
 use Rattle.types.specs.Fetches.{largest}
@@ -23,4 +24,6 @@ returns-then-not-may_hold-2 c = search (behind-no, stopping) depth 20
 
 pub returns : goal.returns
 unfolding largest
-returns c = search (behind-whole, going) depth 20
+returns c =
+    behind-whole _ (Tracked c.args.track ∷ Number c.args.status ∷ [])
+        (Number c.in-Whole.group ∷ Number c.in-Whole-read_number.object ∷ []) (search going depth 20)
