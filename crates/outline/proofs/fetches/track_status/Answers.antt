@@ -5,7 +5,6 @@ use native.Mathlib.Omega.{arith}
 use lib.ListN.{drop, get_or}
 use Rattle.common.proofs.Parts.{to_end}
 use mathlib.Core.Path.{sym, ◌∙◌}
-use borrow.Author.Tests.{not-true, not-false}
 use Rattle.layout.specs.Layout.{forbidden}
 use Rattle.types.specs.Fetches.{largest, track_status}
 use Rattle.outline.specs.Places.{rest_of, ahead_of}
@@ -23,9 +22,9 @@ returns-in-1 c = stands track_status 1 c.args.v.now (omega arith) c.number.ensur
 pub returns-then-not-is_track_status : goal.returns-then-not-is_track_status
 unfolding rest_of ahead_of track_status
 returns-then-not-is_track_status c =
-    let v = c.args.v.now in past track_status 2 v (omega arith) (no-ahead (largest (get_or v 1 0)) forbidden (drop 2 v) (sym c.is_track_status.ensures ∙ not-true _ c.if-not-is_track_status.true) (forbidden-ahead (drop 2 v)))
+    let v = c.args.v.now in past track_status 2 v (omega arith) (no-ahead (largest (get_or v 1 0)) forbidden (drop 2 v) (sym c.is_track_status.ensures ∙ c.if-not-is_track_status.true) (forbidden-ahead (drop 2 v)))
 
 pub returns-in_default : goal.returns-in_default
 unfolding rest_of ahead_of track_status
 returns-in_default c =
-    let v = c.args.v.now in past track_status 2 v (omega arith) (yes-ahead (largest (get_or v 1 0)) forbidden (drop 2 v) (sym c.is_track_status.ensures ∙ not-false _ c.if-not-is_track_status.false) (rw (to_end v 2) at c.largest.ensures))
+    let v = c.args.v.now in past track_status 2 v (omega arith) (yes-ahead (largest (get_or v 1 0)) forbidden (drop 2 v) (sym c.is_track_status.ensures ∙ c.if-not-is_track_status.false) (rw (to_end v 2) at c.largest.ensures))

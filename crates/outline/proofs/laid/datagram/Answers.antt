@@ -1,5 +1,5 @@
 -- `datagram` meets its contract. Assumes nothing.
-use borrow.Author.Rules.{rules}
+use native.Mathlib.Omega.{arith}
 use borrow.Author.Tests.{ne_eqb}
 use Rattle.header.specs.Layouts.{datagrams}
 use Rattle.outline.proofs.OneByOne.{forbidden-ahead}
@@ -15,4 +15,5 @@ returns-in-2 c = rw c.in-2.is c.datagram_status.ensures
 
 pub returns-in_default : goal.returns-in_default
 unfolding datagrams
-returns-in_default c = rw (ne_eqb _ _ c.in_default.rest.0.1, ne_eqb _ _ c.in_default.rest.1) (forbidden-ahead c.args.v.now)
+returns-in_default c =
+    rw (ne_eqb c.args.number 1 (omega arith), ne_eqb c.args.number 2 (omega arith)) (forbidden-ahead c.args.v.now)

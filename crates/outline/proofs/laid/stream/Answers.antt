@@ -1,5 +1,5 @@
 -- `stream` meets its contract. Assumes nothing.
-use borrow.Author.Rules.{rules}
+use native.Mathlib.Omega.{arith}
 use borrow.Author.Tests.{ne_eqb}
 use Rattle.header.specs.Layouts.{streams}
 use Rattle.outline.proofs.OneByOne.{forbidden-ahead}
@@ -15,4 +15,5 @@ returns-in-5 c = rw c.in-5.is c.fetch_header.ensures
 
 pub returns-in_default : goal.returns-in_default
 unfolding streams
-returns-in_default c = rw (ne_eqb _ _ c.in_default.rest.0.1, ne_eqb _ _ c.in_default.rest.1) (forbidden-ahead c.args.v.now)
+returns-in_default c =
+    rw (ne_eqb c.args.number 4 (omega arith), ne_eqb c.args.number 5 (omega arith)) (forbidden-ahead c.args.v.now)
