@@ -20,13 +20,13 @@ returns-in-Refused c = rw c.in-Refused.is
 pub returns-in-Field : goal.returns-in-Field
 unfolding advanced
 returns-in-Field c =
-    let a = c.args in goes_on a.c a.n a.at a.len c.in_default.keys4 c.ahead_at.ensures c.in-Field.is c.advance_in.ensures
+    let a = c.args in goes_on a.c a.n a.at a.len c.in_default.not-TypeNumber c.in_default.not-Length c.in_default.not-Refused c.ahead_at.ensures c.in-Field.is c.advance_in.ensures
 
 pub returns-in-Done : goal.returns-in-Done
 unfolding advanced
-returns-in-Done c = let a = c.args in goes_on a.c a.n a.at a.len c.in_default.keys4 c.ahead_at.ensures c.in-Done.is refl
+returns-in-Done c = let a = c.args in goes_on a.c a.n a.at a.len c.in_default.not-TypeNumber c.in_default.not-Length c.in_default.not-Refused c.ahead_at.ensures c.in-Done.is refl
 
 pub returns-in-Forbidden : goal.returns-in-Forbidden
 unfolding advanced
 returns-in-Forbidden c =
-    let a = c.args in goes_on a.c a.n a.at a.len c.in_default.keys4 c.ahead_at.ensures c.in-Forbidden.is refl
+    let a = c.args in goes_on a.c a.n a.at a.len c.in_default.not-TypeNumber c.in_default.not-Length c.in_default.not-Refused c.ahead_at.ensures c.in-Forbidden.is refl

@@ -19,4 +19,4 @@ returns-in-Message c =
 
 pub returns-in_default : goal.returns-in_default
 returns-in_default c =
-    typed _ _ _ c.typed_as-outline.ensures c.look_ahead.ensures c.in-Field.is (no_length c.in-Field.field-0 c.in-Field.field-1 c.typed_as-outline.result c.in_default.keys2)
+    typed _ _ _ c.typed_as-outline.ensures c.look_ahead.ensures c.in-Field.is (no_length c.in-Field.field-0 c.in-Field.field-1 c.typed_as-outline.result c.in_default.not-Message)

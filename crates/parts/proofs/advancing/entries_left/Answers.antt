@@ -17,4 +17,4 @@ returns-in-Track c = rw (le-ltb _ _ c.if-left-gt0.false, c.in-Track.is) c.onward
 pub returns-in_default : goal.returns-in_default
 unfolding entries_left
 returns-in_default c =
-    rw (le-ltb _ _ c.if-left-gt0.false) (let a = c.args in c.hand_on.ensures ∙ no_name a.c a.form a.held a.at c.in_default.keys2)
+    rw (le-ltb _ _ c.if-left-gt0.false) (let a = c.args in c.hand_on.ensures ∙ no_name a.c a.form a.held a.at c.in_default.not-Track)

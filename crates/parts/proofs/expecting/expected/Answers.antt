@@ -18,4 +18,4 @@ returns-in-Refused c = rw c.in-Refused.is
 
 pub returns-in_default : goal.returns-in_default
 unfolding expected_of
-returns-in_default c = asked-for c.args.c c.in_default.keys4 c.ahead_at.ensures c.expected_ahead.ensures
+returns-in_default c = asked-for c.args.c c.in_default.not-TypeNumber c.in_default.not-Length c.in_default.not-Refused c.ahead_at.ensures c.expected_ahead.ensures

@@ -8,7 +8,7 @@ pub returns-in-Content : goal.returns-in-Content
 returns-in-Content c = rw c.in-Content.is
 
 pub returns-in-Entry : goal.returns-in-Entry
-returns-in-Entry c = rw (c.entry_Is_first.ensures, c.kind_in.ensures, c.in-Entry.is)
+returns-in-Entry c = rw (c.entry_first.ensures, c.kind_in.ensures, c.in-Entry.is)
 
 pub returns-in-EntryLength : goal.returns-in-EntryLength
 returns-in-EntryLength c = rw c.in-EntryLength.is
@@ -20,4 +20,4 @@ pub returns-in-NameLength : goal.returns-in-NameLength
 returns-in-NameLength c = rw c.in-NameLength.is
 
 pub returns-in_default : goal.returns-in_default
-returns-in_default c = let a = c.args in c.first.ensures ∙ begins a.name a.form a.stage c.in_default.keys6
+returns-in_default c = let a = c.args in c.first.ensures ∙ begins a.name a.form a.stage c.in_default.not-Content c.in_default.not-Entry c.in_default.not-EntryLength c.in_default.not-EntryContent c.in_default.not-NameLength
