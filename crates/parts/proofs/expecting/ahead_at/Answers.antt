@@ -1,11 +1,16 @@
 -- `ahead_at` meets its contract: the numbers have ten places. Assumes nothing.
-use Rattle.parts.specs.Cursors.{most_fields, ahead_by}
+use native.Mathlib.Omega.{arith}
+use lib.Seq.{take_all}
+use Rattle.parts.specs.Cursors.{ahead_by}
 use Rattle.parts.proofs.expecting.ahead_at.Goals as goal
 
+-- all of them are handed on
 pub returns-then-passed-ge-MOST_FIELDS : goal.returns-then-passed-ge-MOST_FIELDS
 unfolding ahead_by
-returns-then-passed-ge-MOST_FIELDS c = ?
+returns-then-passed-ge-MOST_FIELDS c =
+    rw (take_all c.args.place.passed c.args.place.numbers (omega (arith, c.well_formed.0.1.1.1.0.1.0.1))) c.look_ahead.ensures
 
-pub slice_bounds-numbers-end : goal.slice_bounds-numbers-end
+-- or the first
+pub returns : goal.returns
 unfolding ahead_by
-slice_bounds-numbers-end c = ?
+returns c = c.look_ahead-2.ensures
