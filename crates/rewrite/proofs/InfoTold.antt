@@ -4,11 +4,8 @@ use mathlib.Core.Path.{◌≡◌, refl}
 use mathlib.Core.List.{List, [], ◌∷◌}
 use native.Mathlib.Omega.{arith}
 use lib.ListN.{length, set}
-use denote.Enum.Declared.{tag_of}
-use types.Run.{OneOf, miss}
 use Rattle.common.specs.Buffer.{over}
 use Rattle.encode.specs.Writing.{told_writing}
-use Rattle.encode.specs.contracts.Writing.{the_type}
 use Rattle.encode.specs.declared.Writing.{Writing}
 use Rattle.encode.specs.declared.Writing.TheVariants.{Done, Forbidden, Oversize, TooLong, TooShort}
 use Rattle.rewrite.specs.Ends.{end_number, end_info}
@@ -32,9 +29,9 @@ three [] a b c h = absurd (omega (arith, h))
 
 -- ---- nothing was written
 
-pub not_done : (w : Writing) (used type : ℕ) (info : List ℕ) → OneOf (1 ∷ 2 ∷ 3 ∷ 4 ∷ []) (tag_of the_type w) → (7 ≡ end_number (told_writing w)) × (info ≡ end_info (told_writing w) used type info)
+pub not_done : (w : Writing) (used type : ℕ) (info : List ℕ) → ((n : ℕ) → w ≡ Done n → ⊥) → (7 ≡ end_number (told_writing w)) × (info ≡ end_info (told_writing w) used type info)
 unfolding end_number end_info
-not_done (Done n) used type info h = absurd (miss (1 ∷ 2 ∷ 3 ∷ 4 ∷ []) 0 tt h)
+not_done (Done n) used type info h = absurd (h n refl)
 not_done Forbidden used type info h = (refl, refl)
 not_done Oversize used type info h = (refl, refl)
 not_done TooLong used type info h = (refl, refl)

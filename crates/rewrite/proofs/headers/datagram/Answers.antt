@@ -23,4 +23,4 @@ returns-in-Forbidden c =
 pub returns-else-info-lt3 : goal.returns-else-info-lt3
 returns-else-info-lt3 c =
     again.writing again.datagram _ _ _ _ (sym c.read_datagram.ensures ∙ ap told_datagram c.in-Whole.is) (omega (arith, c.if-info-lt3.false))
-    (record { said = _; leaves = c.write_datagram-writing.ensures; ends = c.tell.ensures.0; tells = rw c.datagram_type.ensures at c.tell.ensures.1 })
+    (record { said = _; leaves = c.write_datagram-writing.ensures; ends = c.tell.ensures.says; tells = rw c.datagram_type.ensures at c.tell.ensures.tells })

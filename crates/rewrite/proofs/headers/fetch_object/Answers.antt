@@ -21,4 +21,4 @@ returns-in-Forbidden c =
 pub returns-else-info-lt3 : goal.returns-else-info-lt3
 returns-else-info-lt3 c =
     again.writing again.fetch-object _ _ _ _ (sym c.read_fetch_object.ensures ∙ ap told_fetch_object c.in-Whole.is) (omega (arith, c.if-info-lt3.false))
-    (record { said = _; leaves = c.write_fetch_object-writing.ensures; ends = c.tell.ensures.0; tells = c.tell.ensures.1 })
+    (record { said = _; leaves = c.write_fetch_object-writing.ensures; ends = c.tell.ensures.says; tells = c.tell.ensures.tells })

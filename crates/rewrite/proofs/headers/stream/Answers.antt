@@ -19,4 +19,4 @@ returns-in-Unknown c = again.refusing again.stream _ _ _ (sym c.read_stream.ensu
 pub returns-else-info-lt3 : goal.returns-else-info-lt3
 returns-else-info-lt3 c =
     again.writing again.stream _ _ _ _ (sym c.read_stream.ensures ∙ ap told_stream c.in-Whole.is) (omega (arith, c.if-info-lt3.false))
-    (record { said = _; leaves = c.write_stream-writing.ensures; ends = c.tell.ensures.0; tells = rw c.stream_type.ensures at c.tell.ensures.1 })
+    (record { said = _; leaves = c.write_stream-writing.ensures; ends = c.tell.ensures.says; tells = rw c.stream_type.ensures at c.tell.ensures.tells })

@@ -31,4 +31,4 @@ returns-in-Oversize c = again.refusing again.control _ _ _ (sym c.read.ensures â
 pub returns-else-info-lt3 : goal.returns-else-info-lt3
 returns-else-info-lt3 c =
     again.writing again.control _ _ _ _ (sym c.read.ensures âˆ™ ap told c.in-Whole.is) (omega (arith, c.if-info-lt3.false))
-    (record { said = _; leaves = c.write-writing.ensures; ends = c.tell.ensures.0; tells = rw c.number.ensures at c.tell.ensures.1 })
+    (record { said = _; leaves = c.write-writing.ensures; ends = c.tell.ensures.says; tells = rw c.number.ensures at c.tell.ensures.tells })

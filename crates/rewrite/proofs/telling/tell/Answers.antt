@@ -10,10 +10,12 @@ use Rattle.rewrite.proofs.telling.tell.Goals as goal
 pub returns : goal.returns
 unfolding end_number end_info
 returns c =
-    rw c.in-Done.is (refl, three c.args.info.now _ _ _ c.requires)
+    rw c.in-Done.is (record { says = refl; tells = three c.args.info.now _ _ _ c.requires })
 
 pub returns-in_default : goal.returns-in_default
-returns-in_default c = not_done c.args.writing c.args.used c.args.number c.args.info.now c.in_default.keys2
+returns-in_default c =
+    let n = not_done c.args.writing c.args.used c.args.number c.args.info.now c.in_default.not-Done in
+    record { says = n.0; tells = n.1 }
 
 pub bounds-info-1 : goal.bounds-info-1
 bounds-info-1 c = simp length-set (omega arith)
