@@ -54,6 +54,9 @@ InField (AtName held) = Unit {0}
 
 -- there the answer for a cut part is that for a cut field
 cuts-alike : (outline : Outline) (stage : Stage) → InField stage → cut_by outline stage ≡ cut_of outline
+cuts-alike (Message type) AtType i = absurd i
+cuts-alike (Message type) AtLength i = absurd i
+cuts-alike (Message type) (Stopped number) i = absurd i
 cuts-alike (Message type) AtField i = refl
 cuts-alike (Message type) (AtContent size) i = refl
 cuts-alike (Message type) (AtEntry left held) i = refl
@@ -100,6 +103,9 @@ module _ (outline : Outline) (last size : ℕ) where
       -- behind a part the machine goes on by the field's form
       goes : (stage : Stage) (at n mid : ℕ) → InField stage → advanced (cursor stage at) n mid size ≡ advanced_by stage (cursor stage at) form n mid
       unfolding advanced
+      goes AtType at n mid i = absurd i
+      goes AtLength at n mid i = absurd i
+      goes (Stopped number) at n mid i = absurd i
       goes AtField at n mid i = rw ahead
       goes (AtContent size) at n mid i = rw ahead
       goes (AtEntry left held) at n mid i = rw ahead
@@ -110,6 +116,9 @@ module _ (outline : Outline) (last size : ℕ) where
       -- and looks for what the form says
       looks-for : (stage : Stage) (at : ℕ) (t : List ℕ) → InField stage → tell_in t (cursor stage at) ≡ tell_as (expected_in name form stage) t (cursor stage at)
       unfolding tell_in expected_of
+      looks-for AtType at t i = absurd i
+      looks-for AtLength at t i = absurd i
+      looks-for (Stopped number) at t i = absurd i
       looks-for AtField at t i = rw ahead
       looks-for (AtContent size) at t i = rw ahead
       looks-for (AtEntry left held) at t i = rw ahead
