@@ -7,6 +7,9 @@ use Rattle.text.proofs.lines.put_item.Goals as goal
 pub bounds-out-0 : goal.bounds-out-0
 bounds-out-0 c = letter-fits c.args.out.now c.requires c.in-Rule.is
 
+pub slice_bounds-put_number-start : goal.slice_bounds-put_number-start
+slice_bounds-put_number-start c = letter-within c.args.out.now c.requires c.in-Rule.is
+
 pub slice_bounds-put_number-count : goal.slice_bounds-put_number-count
 slice_bounds-put_number-count c = letter-within c.args.out.now c.requires c.in-Rule.is
 

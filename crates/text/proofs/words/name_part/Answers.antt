@@ -12,7 +12,7 @@ use Rattle.text.proofs.words.name_part.Goals as goal
 pub returns-in_default : goal.returns-in_default
 unfolding letters messages in_one_text names_text
 returns-in_default c =
-    rw (nameless-missed (map (λ (r : TypeRow). r.number) messages) refl _ c.in_default.rest) (standing 0 0 refl refl refl)
+    rw (nameless-missed (map (λ (r : TypeRow). r.number) messages) refl _ c.in_default.in_default-own.rest) (standing 0 0 refl refl refl)
 
 pub returns-in-64 : goal.returns-in-64
 unfolding letters messages type_row_in type_row_of name_of in_one_text names_text
