@@ -24,4 +24,6 @@ returns-then-not-may_hold-2 c = search (behind-no, stopping) depth 20
 
 pub returns : goal.returns
 unfolding largest
-returns c = search (behind-whole, going) depth 20
+returns c =
+    behind-whole _ (Tracked c.args.track ∷ Number c.args.status ∷ [])
+        (Number c.in-Whole.group ∷ Number c.in-Whole-read_number.object ∷ []) (search going depth 20)
