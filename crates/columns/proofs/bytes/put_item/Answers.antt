@@ -5,9 +5,9 @@ use native.Mathlib.Omega.{arith}
 use lib.ListN.{length}
 use Rattle.columns.proofs.ItemAlone.{never-short, Alone, item-alone}
 use Rattle.columns.proofs.bytes.put_item.Goals as goal
-use Rattle.columns.proofs.bytes.put_item.Goals.{After-put_bytes-arg-1}
+use Rattle.columns.proofs.bytes.put_item.Goals.{In-Done}
 
-alone : (c : After-put_bytes-arg-1) → Alone c.args.item c.in-Done.end c.put.new.0
+alone : (c : In-Done) → Alone c.args.item c.in-Done.end c.put.new.out
 alone c =
     item-alone _ c.of1.ensures _ (omega arith) (rw c.in-Done.is at c.put.ensures)
 
@@ -16,14 +16,14 @@ returns-in_default c =
     absurd (never-short _ c.of1.ensures _ (omega arith) (rw c.in_default.is at c.put.ensures))
 
 pub returns : goal.returns
-returns c = rw (← (alone (AT.After-put_bytes-arg-1)).is) c.put_bytes.ensures
+returns c = rw (← (alone (goal.at.returns c).In-Done).is) c.put_bytes.ensures
 
 pub slice_bounds-line-count : goal.slice_bounds-line-count
-slice_bounds-line-count c = omega (arith, (alone c).count)
+slice_bounds-line-count c = omega (arith, (alone (goal.at.slice_bounds-line-count c).In-Done).count)
 
 pub slice_bounds-line-end : goal.slice_bounds-line-end
-slice_bounds-line-end c = omega (arith, (alone c).few)
+slice_bounds-line-end c = omega (arith, (alone (goal.at.slice_bounds-line-end c).In-Done).few)
 
 pub slice_bounds-put_bytes-length : goal.slice_bounds-put_bytes-length
 slice_bounds-put_bytes-length c =
-    omega (arith, (alone (AT.After-put_bytes-arg-1)).count, ap length (alone (AT.After-put_bytes-arg-1)).is)
+    omega (arith, (alone (goal.at.slice_bounds-put_bytes-length c).In-Done).count, ap length (alone (goal.at.slice_bounds-put_bytes-length c).In-Done).is)

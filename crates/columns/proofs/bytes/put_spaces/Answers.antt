@@ -9,14 +9,14 @@ use Rattle.columns.proofs.Turns.{space-next}
 use Rattle.columns.proofs.bytes.put_spaces.Goals as goal
 
 pub returns : goal.returns
-returns c = let z : c.loop-left.false ≡ 0 = omega arith in poured-end (ap spaces z) c.loop-left.invariant
+returns c = let z : c.loop-left.left ≡ 0 = omega arith in poured-end (ap spaces z) c.loop-left.invariant
 
 pub loop-left-init : goal.loop-left-init
 loop-left-init c = refl
 
 pub loop-left-preserved : goal.loop-left-preserved
 loop-left-preserved c =
-    poured-next _ (space-next c.loop-left.false c.loop-left-test.true) c.loop-left.invariant c.put_byte-end.ensures
+    poured-next _ (space-next c.loop-left.left c.loop-left-test.true) c.loop-left.invariant c.put_byte-end.ensures
 
 pub shape_of-out : goal.shape_of-out
 shape_of-out c = poured-length _ _ _ (returns c)

@@ -1,12 +1,11 @@
 -- `put_text_or` meets its contract. Assumes nothing.
 use borrow.Author.Rules.{rules}
-use borrow.Author.Tests.{not-true, not-false}
 use Rattle.columns.proofs.Poured.{poured-three}
 use Rattle.columns.proofs.texts.put_text_or.Goals as goal
 
 pub returns-then-not-printable : goal.returns-then-not-printable
-returns-then-not-printable c = rw (not-true c.args.printable c.if-not-printable.true) c.put_hex.ensures
+returns-then-not-printable c = rw c.if-not-printable.true c.put_hex.ensures
 
 pub returns : goal.returns
 returns c =
-    rw (not-false c.args.printable c.if-not-printable.false) (poured-three _ _ _ _ c.put_byte-first.ensures c.put_bytes-next.ensures c.put_byte.ensures)
+    rw c.if-not-printable.false (poured-three _ _ _ _ c.put_byte-first.ensures c.put_bytes-next.ensures c.put_byte.ensures)

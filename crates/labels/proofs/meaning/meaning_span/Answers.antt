@@ -90,4 +90,4 @@ returns-in-19 c = rw c.in-19.is (standing _ _ refl refl refl)
 
 pub returns-in_default : goal.returns-in_default
 unfolding letters in_one_text meanings meaning_of meanings_text
-returns-in_default c = rw (get_or-eq_default meanings "" (beyond 20 _ c.in_default.rest)) (standing _ _ refl refl refl)
+returns-in_default c = rw (get_or-eq_default meanings "" (beyond 20 _ c.in_default.in_default-own.rest)) (standing _ _ refl refl refl)
