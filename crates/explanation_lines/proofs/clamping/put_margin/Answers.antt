@@ -7,4 +7,4 @@ use Rattle.explanation_lines.proofs.clamping.put_margin.Goals as goal
 
 pub returns : goal.returns
 unfolding margin offset_of
-returns c = rw (← c.wrapping_add_u64.ensures) (search poured-both)
+returns c = rw (← c.wrapping_add_u64.ensures.value) (search poured-both)

@@ -9,7 +9,7 @@ use Rattle.explanation_lines.proofs.lines.put_tag.Goals as goal
 pub returns-in_default : goal.returns-in_default
 unfolding letters item_of tag_words
 returns-in_default c =
-    let r = c.in_default.rest in rw (ne_eqb _ 1 r.0.0.1, ne_eqb _ 2 r.0.1, ne_eqb _ 3 r.1) (poured-both _ _ _ c.put_bytes-next.ensures c.put_item.ensures)
+    let r = c.in_default.in_default-own.rest in rw (ne_eqb _ 1 r.0.0.1, ne_eqb _ 2 r.0.1, ne_eqb _ 3 r.1) (poured-both _ _ _ c.put_bytes-next.ensures c.put_item.ensures)
 
 pub returns-in-3 : goal.returns-in-3
 unfolding letters item_of tag_words

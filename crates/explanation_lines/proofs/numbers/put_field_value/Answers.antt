@@ -14,4 +14,4 @@ returns-in-3 c = rw c.in-3.is c.put_arrival.ensures
 
 pub returns-in_default : goal.returns-in_default
 unfolding pour value_lines
-returns-in_default c = rw (ne_eqb _ _ c.in_default.rest.0.1, ne_eqb _ _ c.in_default.rest.1)
+returns-in_default c = rw (ne_eqb _ _ c.in_default.in_default-own.rest.0.1, ne_eqb _ _ c.in_default.in_default-own.rest.1)

@@ -14,7 +14,7 @@ returns c =
 
 pub slice_bounds-put_hex-end : goal.slice_bounds-put_hex-end
 unfolding letters shortest_text
-slice_bounds-put_hex-end c = sym (length-take-le _ c.write.new.0 (omega (arith, c.size-size.ensures, size_few c.args.n)))
+slice_bounds-put_hex-end c = sym (length-take-le _ c.write.new.out (omega (arith, c.size-size.ensures, size_few c.args.n)))
 
 pub slice_bounds-form-end : goal.slice_bounds-form-end
 unfolding letters shortest_text
