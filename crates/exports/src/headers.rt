@@ -3,8 +3,7 @@
 ghost use Rattle.rewrite.specs.Rewriting.{datagram_again, stream_again, subgroup_object_again, fetch_object_again, Does};
 
 // The header of a datagram.
-#[unsafe(no_mangle)]
-pub extern "C" fn moq_datagram_rewrite(s: &[u8], out: &mut [u8], info: &mut [u64]) -> u64
+pub fn moq_datagram_rewrite(s: &[u8], out: &mut [u8], info: &mut [u64]) -> u64
     ensures { Does (datagram_again s.now out.old info.old) result out.new
         info.new }
 {
@@ -12,8 +11,7 @@ pub extern "C" fn moq_datagram_rewrite(s: &[u8], out: &mut [u8], info: &mut [u64
 }
 
 // The header of a stream.
-#[unsafe(no_mangle)]
-pub extern "C" fn moq_stream_rewrite(s: &[u8], out: &mut [u8], info: &mut [u64]) -> u64
+pub fn moq_stream_rewrite(s: &[u8], out: &mut [u8], info: &mut [u64]) -> u64
     ensures { Does (stream_again s.now out.old info.old) result out.new
         info.new }
 {
@@ -21,8 +19,7 @@ pub extern "C" fn moq_stream_rewrite(s: &[u8], out: &mut [u8], info: &mut [u64])
 }
 
 // The header of an object on a subgroup's stream; it has no type, and 0 is told.
-#[unsafe(no_mangle)]
-pub extern "C" fn moq_subgroup_object_rewrite(s: &[u8], out: &mut [u8], info: &mut [u64]) -> u64
+pub fn moq_subgroup_object_rewrite(s: &[u8], out: &mut [u8], info: &mut [u64]) -> u64
     ensures { Does (subgroup_object_again s.now out.old info.old) result
         out.new info.new }
 {
@@ -30,8 +27,7 @@ pub extern "C" fn moq_subgroup_object_rewrite(s: &[u8], out: &mut [u8], info: &m
 }
 
 // The header of an object on a fetch's stream; it has no type, and 0 is told.
-#[unsafe(no_mangle)]
-pub extern "C" fn moq_fetch_object_rewrite(s: &[u8], out: &mut [u8], info: &mut [u64]) -> u64
+pub fn moq_fetch_object_rewrite(s: &[u8], out: &mut [u8], info: &mut [u64]) -> u64
     ensures { Does (fetch_object_again s.now out.old info.old) result out.new
         info.new }
 {

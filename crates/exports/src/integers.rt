@@ -6,8 +6,7 @@ ghost use Rattle.exports.specs.Integers.{integer_read, integer_written};
 use integer::{Reading, Writing};
 
 // The integer at the front of `s`: into `info` the number and the bytes used.
-#[unsafe(no_mangle)]
-pub extern "C" fn moq_integer_read(s: &[u8], info: &mut [u64]) -> u64
+pub fn moq_integer_read(s: &[u8], info: &mut [u64]) -> u64
     ensures { Does (integer_read s.now info.old) result [] info.new }
 {
     let Reading::Whole(n, used) = integer::read(s) else {
@@ -22,8 +21,7 @@ pub extern "C" fn moq_integer_read(s: &[u8], info: &mut [u64]) -> u64
 }
 
 // A number's shortest form at the front of `out`: into `info` the bytes written.
-#[unsafe(no_mangle)]
-pub extern "C" fn moq_integer_write(n: u64, out: &mut [u8], info: &mut [u64]) -> u64
+pub fn moq_integer_write(n: u64, out: &mut [u8], info: &mut [u64]) -> u64
     ensures { Does (integer_written n out.old info.old) result out.new
         info.new }
 {

@@ -1,5 +1,5 @@
-// The calls that C makes: include/moq.h declares them. A slice is passed as a pointer and a count of elements. Each
-// call answers document 01's number; the declarations say with which of them what is lent is changed.
+// The calls that C makes; the crate exports_c lends each its name in C, and include/moq.h declares them. Each call answers
+// document 01's number; the declarations say with which of them what is lent is changed.
 #![tactic(auto)]
 
 pub mod headers;

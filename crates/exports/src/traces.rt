@@ -7,8 +7,7 @@ ghost use Rattle.exports.specs.Texts.{text_put};
 use text::Putting;
 
 // The report.
-#[unsafe(no_mangle)]
-pub extern "C" fn moq_report(trace: &[u8], out: &mut [u8], info: &mut [u64]) -> u64
+pub fn moq_report(trace: &[u8], out: &mut [u8], info: &mut [u64]) -> u64
     ensures { Does (text_put (report_of trace.now) out.old info.old) result
         out.new info.new }
 {
@@ -23,8 +22,7 @@ pub extern "C" fn moq_report(trace: &[u8], out: &mut [u8], info: &mut [u64]) -> 
 }
 
 // What each field was answered.
-#[unsafe(no_mangle)]
-pub extern "C" fn moq_answers(trace: &[u8], out: &mut [u8], info: &mut [u64]) -> u64
+pub fn moq_answers(trace: &[u8], out: &mut [u8], info: &mut [u64]) -> u64
     ensures { Does (text_put (answers_of trace.now) out.old info.old) result
         out.new info.new }
 {

@@ -31,4 +31,4 @@ returns-else-first-3 c = rw (c.in-3.is, ← c.is_empty-first.ensures, c.if-first
 pub returns-in_default : goal.returns-in_default
 unfolding reason_of
 returns-in_default c =
-    rw (ne_eqb _ _ c.in_default.rest.0.0.1, ne_eqb _ _ c.in_default.rest.0.1, ne_eqb _ _ c.in_default.rest.1)
+    rw (ne_eqb _ _ c.in_default.in_default-own.rest.0.0.1, ne_eqb _ _ c.in_default.in_default-own.rest.0.1, ne_eqb _ _ c.in_default.in_default-own.rest.1)

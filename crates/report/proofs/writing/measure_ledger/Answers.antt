@@ -10,7 +10,7 @@ use Rattle.report.proofs.writing.measure_ledger.Goals.{Start}
 
 -- there are places for all rows
 places : (c : Start) → length c.args.l.rows ≡ most_rows
-places c = sym (length-map c.args.l.rows _) ∙ c.well-formed.0.1.1.0.1.0.1
+places c = c.well_formed.0.1.1.0.1.0.1
 
 pub returns : goal.returns
 returns c =
@@ -18,8 +18,8 @@ returns c =
 
 pub overflow_add-result-2 : goal.overflow_add-result-2
 overflow_add-result-2 c =
-    omega (arith, returns c, ledger-bound c.args.l (places (AT.Start)))
+    omega (arith, returns c, ledger-bound c.args.l (places (goal.at.overflow_add-result-2 c).Start))
 
 pub overflow_add-result : goal.overflow_add-result
 overflow_add-result c =
-    omega (arith, returns c, ledger-bound c.args.l (places (AT.Start)))
+    omega (arith, returns c, ledger-bound c.args.l (places (goal.at.overflow_add-result c).Start))

@@ -7,6 +7,9 @@ use Rattle.report.proofs.writing.put_ledger.Goals as goal
 pub put_line-a-requires : goal.put_line-a-requires
 put_line-a-requires c = session-fits _ c.args.out.now c.requires c.session_line.ensures
 
+pub slice_bounds-put_line-start : goal.slice_bounds-put_line-start
+slice_bounds-put_line-start c = session-ends _ _ c.requires c.session_line.ensures c.put_line-a.ensures
+
 pub slice_bounds-put_line-count : goal.slice_bounds-put_line-count
 slice_bounds-put_line-count c = session-ends _ _ c.requires c.session_line.ensures c.put_line-a.ensures
 
@@ -15,6 +18,9 @@ put_line-b-requires c = columns-fit _ _ c.requires c.session_line.ensures c.put_
 
 pub overflow_add-at : goal.overflow_add-at
 overflow_add-at c = omega (arith, front-sum _ _ c.requires c.session_line.ensures c.put_line-a.ensures c.columns_line.ensures c.put_line-b.ensures)
+
+pub slice_bounds-put_rows-start : goal.slice_bounds-put_rows-start
+slice_bounds-put_rows-start c = front_ends _ _ c.requires c.session_line.ensures c.put_line-a.ensures c.columns_line.ensures c.put_line-b.ensures
 
 pub slice_bounds-put_rows-count : goal.slice_bounds-put_rows-count
 slice_bounds-put_rows-count c = front_ends _ _ c.requires c.session_line.ensures c.put_line-a.ensures c.columns_line.ensures c.put_line-b.ensures
