@@ -5,7 +5,6 @@ use mathlib.Core.Bool.{Bool, true, false, not}
 use borrow.Author.Tests.{le-leb, lt-leb, lt-ltb, le-ltb, eq-eqb, ne_eqb}
 use lib.ListN.{length, drop, get_or}
 use Rattle.common.specs.Choice.{both}
-use Rattle.common.proofs.Tests.{kept, broken}
 use Rattle.row.specs.Rows.{is_row, is_unused}
 use Rattle.row.specs.declared.Row.{Row}
 use Rattle.ledger.specs.Ledgers.{most_rows, held, rising, has_alias, distinct, all_unused}
@@ -33,13 +32,13 @@ module _ (l : Ledger) (low i : ℕ) (long : length l.rows ≡ most_rows) (few : 
       not-below e = sym (rw (held_next l long few i d h, le-leb _ _ above, le-ltb _ _ e)) ∙ a
 
       module _ (below : (get_or l.rows i d).id < l.next) {b : Bool} (judged : b ≡ is_row (get_or l.rows i d)) where
-        pub no-such-row : not b ≡ true → false ≡ rising 0 l.next (held l)
+        pub no-such-row : b ≡ false → false ≡ rising 0 l.next (held l)
         unfolding Rising rising
-        no-such-row e = sym (rw (held_next l long few i d h, le-leb _ _ above, lt-ltb _ _ below, broken judged e)) ∙ a
+        no-such-row e = sym (rw (held_next l long few i d h, le-leb _ _ above, lt-ltb _ _ below, sym judged ∙ e)) ∙ a
 
-        pub rises-on : not b ≡ false → Rising l ((get_or l.rows i d).id + 1) (i + 1)
+        pub rises-on : b ≡ true → Rising l ((get_or l.rows i d).id + 1) (i + 1)
         unfolding Rising rising
-        rises-on e = sym (rw (held_next l long few i d h, le-leb _ _ above, lt-ltb _ _ below, kept judged e)) ∙ a
+        rises-on e = sym (rw (held_next l long few i d h, le-leb _ _ above, lt-ltb _ _ below, sym judged ∙ e)) ∙ a
 
   pub all-rise : l.used ≤ i → true ≡ rising 0 l.next (held l)
   unfolding Rising rising
@@ -91,13 +90,13 @@ are-unused l = refl
 
 module _ (l : Ledger) (i : ℕ) (a : Unused l i) where
   module _ (d : Row) (h : i < length l.rows) {b : Bool} (judged : b ≡ is_unused (get_or l.rows i d)) where
-    pub is-used : not b ≡ true → false ≡ all_unused (drop l.used l.rows)
+    pub is-used : b ≡ false → false ≡ all_unused (drop l.used l.rows)
     unfolding Unused all_unused
-    is-used e = sym (rw (rest-next l.rows i d h, broken judged e)) ∙ a
+    is-used e = sym (rw (rest-next l.rows i d h, sym judged ∙ e)) ∙ a
 
-    pub unused-on : not b ≡ false → Unused l (i + 1)
+    pub unused-on : b ≡ true → Unused l (i + 1)
     unfolding Unused all_unused
-    unused-on e = sym (rw (rest-next l.rows i d h, kept judged e)) ∙ a
+    unused-on e = sym (rw (rest-next l.rows i d h, sym judged ∙ e)) ∙ a
 
   pub all-unused : length l.rows ≤ i → true ≡ all_unused (drop l.used l.rows)
   unfolding Unused all_unused

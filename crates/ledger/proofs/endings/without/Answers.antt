@@ -10,15 +10,15 @@ use Rattle.ledger.proofs.endings.without.Goals as goal
 use Rattle.ledger.proofs.endings.without.Goals.{Start}
 
 -- there are 64 places
-places : (c : Start) → length c.args.t1.rows ≡ most_rows
-places c = sym (length-map c.args.t1.rows _) ∙ c.well-formed.0.1.1.0.1.0.1
+places : (c : Start) → length c.args.l.rows ≡ most_rows
+places c = c.well_formed.0.1.1.0.1.0.1
 
 pub loop-i-init : goal.loop-i-init
 loop-i-init c = moves _ _ (places c) (omega arith)
 
 pub loop-i-preserved : goal.loop-i-preserved
-loop-i-preserved c = moves-on _ _ (places (AT.Start)) (omega arith) c.loop-i.invariant _ (omega arith)
+loop-i-preserved c = moves-on _ _ (places (goal.at.loop-i-preserved c).Start) (omega arith) c.loop-i.invariant _ (omega arith)
 
 pub returns : goal.returns
 returns c =
-    rw c.unused.ensures (moved _ _ (places (AT.Start)) (omega arith) c.loop-i.invariant _ (omega arith) refl)
+    rw c.unused.ensures (moved _ _ (places (goal.at.returns c).Start) (omega arith) c.loop-i.invariant _ (omega arith) refl)

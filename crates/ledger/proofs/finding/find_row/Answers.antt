@@ -11,8 +11,8 @@ use Rattle.ledger.proofs.finding.find_row.Goals as goal
 use Rattle.ledger.proofs.finding.find_row.Goals.{Start}
 
 -- there are 64 places
-places : (c : Start) → length c.args.t1.rows ≡ most_rows
-places c = sym (length-map c.args.t1.rows _) ∙ c.well-formed.0.1.1.0.1.0.1
+places : (c : Start) → length c.args.l.rows ≡ most_rows
+places c = c.well_formed.0.1.1.0.1.0.1
 
 pub loop-i-init : goal.loop-i-init
 unfolding held
@@ -21,13 +21,13 @@ loop-i-init c = looks _ _ _ _
 pub returns-then-key_of-n : goal.returns-then-key_of-n
 unfolding held
 returns-then-key_of-n c =
-    is-here _ _ _ _ _ (omega (arith, places (AT.Start))) c.loop-i.invariant _ (omega arith) c.key_of.ensures c.if-key_of-n.true
+    is-here _ _ _ _ _ (omega (arith, places (goal.at.returns-then-key_of-n c).Start)) c.loop-i.invariant _ (omega arith) c.key_of.ensures c.if-key_of-n.true
 
 pub loop-i-preserved : goal.loop-i-preserved
 unfolding held
 loop-i-preserved c =
-    not-here _ _ _ _ _ (omega (arith, places (AT.Start))) c.loop-i.invariant _ (omega arith) c.key_of.ensures c.if-key_of-n.false
+    not-here _ _ _ _ _ (omega (arith, places (goal.at.loop-i-preserved c).Start)) c.loop-i.invariant _ (omega arith) c.key_of.ensures c.if-key_of-n.false
 
 pub returns : goal.returns
 unfolding held
-returns c = nowhere _ _ _ _ _ (omega (arith, places (AT.Start))) c.loop-i.invariant (omega arith)
+returns c = nowhere _ _ _ _ _ (omega (arith, places (goal.at.returns c).Start)) c.loop-i.invariant (omega arith)

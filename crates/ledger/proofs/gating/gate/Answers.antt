@@ -1,24 +1,23 @@
 -- `gate` meets its contract. Assumes nothing.
+use mathlib.Core.Path.{sym, ◌∙◌}
 use borrow.Author.Rules.{rules}
-use borrow.Author.Tests.{not-true, not-false}
-use Rattle.common.proofs.Tests.{kept, broken}
 use Rattle.ledger.specs.Answers.{stops, gate_of}
 use Rattle.ledger.proofs.gating.gate.Goals as goal
 
 pub returns-then-not-is_ledger : goal.returns-then-not-is_ledger
 unfolding gate_of stops
-returns-then-not-is_ledger c = rw (broken c.is_ledger.ensures c.if-not-is_ledger.true)
+returns-then-not-is_ledger c = rw (sym c.is_ledger.ensures ∙ c.if-not-is_ledger.true)
 
 pub returns-then-not-sound : goal.returns-then-not-sound
 unfolding gate_of stops
-returns-then-not-sound c = rw (kept c.is_ledger.ensures c.if-not-is_ledger.false, not-true c.args.sound c.if-not-sound.true)
+returns-then-not-sound c = rw (sym c.is_ledger.ensures ∙ c.if-not-is_ledger.false, c.if-not-sound.true)
 
 pub returns-in-Open : goal.returns-in-Open
 unfolding gate_of stops
 returns-in-Open c =
-    rw (kept c.is_ledger.ensures c.if-not-is_ledger.false, not-false c.args.sound c.if-not-sound.false, c.in-Open.is)
+    rw (sym c.is_ledger.ensures ∙ c.if-not-is_ledger.false, c.if-not-sound.false, c.in-Open.is)
 
 pub returns-in-Closed : goal.returns-in-Closed
 unfolding gate_of stops
 returns-in-Closed c =
-    rw (kept c.is_ledger.ensures c.if-not-is_ledger.false, not-false c.args.sound c.if-not-sound.false, c.in-Closed.is)
+    rw (sym c.is_ledger.ensures ∙ c.if-not-is_ledger.false, c.if-not-sound.false, c.in-Closed.is)

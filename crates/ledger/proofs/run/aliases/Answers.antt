@@ -10,14 +10,14 @@ use Rattle.ledger.proofs.run.aliases.Goals as goal
 use Rattle.ledger.proofs.run.aliases.Goals.{Start}
 
 -- there are 64 places
-places : (c : Start) → length c.args.t1.rows ≡ most_rows
-places c = sym (length-map c.args.t1.rows _) ∙ c.well-formed.0.1.1.0.1.0.1
+places : (c : Start) → length c.args.l.rows ≡ most_rows
+places c = c.well_formed.0.1.1.0.1.0.1
 
 pub loop-i-init : goal.loop-i-init
 loop-i-init c = record { to = omega arith; long = refl; so_far = refl }
 
 pub loop-i-preserved : goal.loop-i-preserved
-loop-i-preserved c = named-next _ _ _ (places (AT.Start)) c.loop-i.invariant _ (omega arith)
+loop-i-preserved c = named-next _ _ _ (places (goal.at.loop-i-preserved c).Start) c.loop-i.invariant _ (omega arith)
 
 pub returns : goal.returns
-returns c = all_named _ _ _ (places (AT.Start)) c.loop-i.invariant (omega arith)
+returns c = all_named _ _ _ (places (goal.at.returns c).Start) c.loop-i.invariant (omega arith)
