@@ -5,19 +5,18 @@ use mathlib.Core.Bool.{Bool, true, false}
 use mathlib.Core.List.{[], ◌∷◌, ◌++◌}
 use native.Mathlib.Omega.{arith}
 use borrow.Author.Tests.{lt-ltb, le-ltb, le-leb, lt-leb}
-use types.Run.{OneOf, miss}
-use denote.Enum.Declared.{tag_of}
 use lib.Dec.{eqb}
 use Rattle.common.specs.Choice.{pick}
 use Rattle.field.specs.declared.Arrival.{Arrival}
 use Rattle.subscription.specs.declared.Content.{Content}
 use Rattle.subscription.specs.declared.Subscribe.{Subscribe}
+use Rattle.subscription.specs.declared.SubscribeOk.{SubscribeOk}
+use Rattle.subscription.specs.declared.SubscribeError.{SubscribeError}
+use Rattle.subscription.specs.declared.SubscribeDone.{SubscribeDone}
 use Rattle.subscription.specs.declared.SubscriptionMessage.{SubscriptionMessage}
 use Rattle.subscription.specs.declared.SubscriptionMessage.TheVariants.{SubscribeUpdate as ASubscribeUpdate, Subscribe as ASubscribe, SubscribeOk as ASubscribeOk, SubscribeError as ASubscribeError, Unsubscribe as AUnsubscribe, SubscribeDone as ASubscribeDone, MaxSubscribeId as AMaxSubscribeId, SubscribesBlocked as ASubscribesBlocked}
-use Rattle.subscription.specs.contracts.SubscriptionMessage.{the_type as subscription-type}
 use Rattle.message.specs.declared.Message.{Message}
 use Rattle.message.specs.declared.Message.TheVariants.{Subscription, Fetch, Announce, Session}
-use Rattle.message.specs.contracts.Message.{the_type as message-type}
 use Rattle.row.specs.Ranges.{asked_of}
 use Rattle.row.specs.Rows.{pending_row, AtRow, arrive_of, open_of, may_end, told_arriving, told_opening}
 use Rattle.row.specs.declared.Range.{Range}
@@ -223,19 +222,28 @@ of_part l h e = h ∙ ap (λ x. came_of (message_step (view_of l) x)) (sym e)
 pub of-kind : (l : Ledger) {m v : SubscriptionMessage} {came : Came} → came ≡ came_of (subscription_step (view_of l) v) → m ≡ v → came ≡ came_of (subscription_step (view_of l) m)
 of-kind l h e = h ∙ ap (λ x. came_of (subscription_step (view_of l) x)) (sym e)
 
--- all others aren't kept; a kind is told by its place among all kinds
-pub other-part : (v : View) (m : Message) → OneOf (1 ∷ 2 ∷ 3 ∷ []) (tag_of message-type m) → unchanged v 9 ≡ message_step v m
-other-part v (Subscription x) h = absurd (miss (1 ∷ 2 ∷ 3 ∷ []) 0 Prim.tt h)
+-- all others aren't kept; each is told by what it is not
+pub other-part : (v : View) (m : Message) → ((x : SubscriptionMessage) → m ≡ Subscription x → ⊥) → unchanged v 9 ≡ message_step v m
+other-part v (Subscription x) h = absurd (h x refl)
 other-part v (Fetch x) h = refl
 other-part v (Announce x) h = refl
 other-part v (Session x) h = refl
 
-pub other-kind : (v : View) (m : SubscriptionMessage) → OneOf (0 ∷ 7 ∷ []) (tag_of subscription-type m) → unchanged v 9 ≡ subscription_step v m
+-- what is none of the kinds that are kept
+pub record Unkept (m : SubscriptionMessage) : Type 0 where
+  pub asks : (x : Subscribe) → m ≡ ASubscribe x → ⊥
+  pub accepts : (x : SubscribeOk) → m ≡ ASubscribeOk x → ⊥
+  pub errs : (x : SubscribeError) → m ≡ ASubscribeError x → ⊥
+  pub leaves : (x : ℕ) → m ≡ AUnsubscribe x → ⊥
+  pub ends : (x : SubscribeDone) → m ≡ ASubscribeDone x → ⊥
+  pub raises : (x : ℕ) → m ≡ AMaxSubscribeId x → ⊥
+
+pub other-kind : (v : View) (m : SubscriptionMessage) → Unkept m → unchanged v 9 ≡ subscription_step v m
 other-kind v (ASubscribeUpdate x) h = refl
-other-kind v (ASubscribe x) h = absurd (miss (0 ∷ 7 ∷ []) 1 Prim.tt h)
-other-kind v (ASubscribeOk x) h = absurd (miss (0 ∷ 7 ∷ []) 2 Prim.tt h)
-other-kind v (ASubscribeError x) h = absurd (miss (0 ∷ 7 ∷ []) 3 Prim.tt h)
-other-kind v (AUnsubscribe x) h = absurd (miss (0 ∷ 7 ∷ []) 4 Prim.tt h)
-other-kind v (ASubscribeDone x) h = absurd (miss (0 ∷ 7 ∷ []) 5 Prim.tt h)
-other-kind v (AMaxSubscribeId x) h = absurd (miss (0 ∷ 7 ∷ []) 6 Prim.tt h)
+other-kind v (ASubscribe x) h = absurd (h.asks x refl)
+other-kind v (ASubscribeOk x) h = absurd (h.accepts x refl)
+other-kind v (ASubscribeError x) h = absurd (h.errs x refl)
+other-kind v (AUnsubscribe x) h = absurd (h.leaves x refl)
+other-kind v (ASubscribeDone x) h = absurd (h.ends x refl)
+other-kind v (AMaxSubscribeId x) h = absurd (h.raises x refl)
 other-kind v (ASubscribesBlocked x) h = refl

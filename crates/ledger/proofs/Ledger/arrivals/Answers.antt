@@ -10,7 +10,7 @@ use Rattle.ledger.specs.Ledgers.{most_rows}
 use Rattle.ledger.specs.Arrays.{changed}
 use Rattle.ledger.proofs.RunTurns.{Along, begins, within, stopped-turn, missed-turn, counted-turn, fits, inside, ends, same-long, not-one, no_room}
 use Rattle.ledger.proofs.Ledger.arrivals.Goals as goal
-use Rattle.ledger.proofs.Ledger.arrivals.Goals.{In-At, In-loop-k}
+use Rattle.ledger.proofs.Ledger.arrivals.Goals.{In-At, In-loop-k, then-n-eq0+in-At, then-n-eq0+in_default, else-n-eq0}
 
 -- the numbers of the next arrival are there
 there : (c : In-loop-k) → 3 * c.loop-k.k + 2 < length c.args.run.now
@@ -18,7 +18,7 @@ there c = within _ _ (omega arith)
 
 -- where a row is found, it is one of the ledger's
 spotted : (c : In-At) → c.in-At.i < most_rows
-spotted c = inside c.loop-k.invariant.3 (there c.In-loop-k) (omega arith) c.first-n.ensures c.if-n-eq0.true c.find_name.ensures c.in-At.is
+spotted c = inside c.loop-k.invariant.3 (within (length c.args.run.now) c.loop-k.k (omega arith)) (omega arith) c.first-n.ensures c.if-n-eq0.true c.find_name.ensures c.in-At.is
 
 pub loop-k-preserved : goal.loop-k-preserved
 unfolding changed
@@ -29,12 +29,11 @@ loop-k-preserved c =
       c.loop-k.invariant.0,
       c.loop-k.invariant.1,
       omega arith,
-      ⊎_elim
-          (λ w. rw (w.10, w.11) (counted-turn g h (omega arith) first w.0.taken w.2.ensures w.4.given.1 w.7.result w.7.ensures w.8.ensures w.9.ensures))
-          (⊎_elim
-          (λ w. rw (w.5, w.6) (missed-turn g h (omega arith) first w.0.taken w.2.ensures w.4.given.1))
-          (λ w. rw (w.1, w.2) (stopped-turn g h (omega arith) first w.0.left)))
-          c.if-n-eq0.branch,
+      elim c.if-n-eq0.branch [
+        then-n-eq0+in-At w ↦ rw (w.l-is, w.n-is) (counted-turn g h (omega arith) first w.if-n-eq0.true w.find_name.ensures w.in-At.is w.arrive-came.result w.arrive-came.ensures w.left.ensures w.arrived_number-n.ensures)
+        | then-n-eq0+in_default w ↦ rw (w.l-is, w.n-is) (missed-turn g h (omega arith) first w.if-n-eq0.true w.find_name.ensures w.in_default.is)
+        | else-n-eq0 w ↦ rw (w.l-is, w.n-is) (stopped-turn g h (omega arith) first w.if-n-eq0.false)
+      ],
     )
 
 pub returns-then-not-is_ledger : goal.returns-then-not-is_ledger

@@ -27,4 +27,4 @@ other-requires c = went-ledger _ c.is_sound.ensures c.gate.ensures c.in_default.
 pub returns-in_default-m : goal.returns-in_default-m
 unfolding take_of
 returns-in_default-m c =
-    went _ c.is_sound.ensures c.gate.ensures c.in_default.is (c.other.ensures ∙ ap came_of (other-part (view_of c.args.self) c.args.m c.in_default-m.keys2))
+    went _ c.is_sound.ensures c.gate.ensures c.in_default.is (c.other.ensures ∙ ap came_of (other-part (view_of c.args.self) c.args.m c.in_default-m.not-Subscription))

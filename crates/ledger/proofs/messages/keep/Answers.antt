@@ -2,7 +2,7 @@
 use borrow.Author.Rules.{rules}
 use mathlib.Core.Path.{ap, ◌∙◌}
 use Rattle.ledger.specs.Views.{view_of, came_of}
-use Rattle.ledger.proofs.CodePaths.{of-kind, other-kind}
+use Rattle.ledger.proofs.CodePaths.{of-kind, Unkept, other-kind}
 use Rattle.ledger.proofs.messages.keep.Goals as goal
 
 pub returns-in-Subscribe : goal.returns-in-Subscribe
@@ -24,4 +24,13 @@ pub returns-in-MaxSubscribeId : goal.returns-in-MaxSubscribeId
 returns-in-MaxSubscribeId c = of-kind _ c.raise.ensures c.in-MaxSubscribeId.is
 
 pub returns-in_default : goal.returns-in_default
-returns-in_default c = c.other.ensures ∙ ap came_of (other-kind (view_of c.args.l) c.args.m c.in_default.keys7)
+returns-in_default c =
+    let unkept : Unkept c.args.m = record {
+      asks = c.in_default.not-Subscribe;
+      accepts = c.in_default.not-SubscribeOk;
+      errs = c.in_default.not-SubscribeError;
+      leaves = c.in_default.not-Unsubscribe;
+      ends = c.in_default.not-SubscribeDone;
+      raises = c.in_default.not-MaxSubscribeId;
+    } in
+    c.other.ensures ∙ ap came_of (other-kind (view_of c.args.l) c.args.m unkept)
