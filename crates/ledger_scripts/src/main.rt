@@ -4,22 +4,25 @@
 // `unsubscribe ID`, `max ID`, `malformed`, `other`, `arrive ALIAS GROUP OBJECT`.
 #![tactic(auto)]
 
-ghost use Rattle.std.specs.Prelude.{◌≡◌, ◌≤◌, length};
+ghost use Rattle.std.specs.Prelude.{◌≡◌, ◌≤◌, IfOk, length};
 
 use field::{Arrival, Entries, Failure, Place, Span, Track};
 use ledger::{Answer, Ledger, Part, Taken};
 use message::Message;
 use session::SessionMessage;
+use std::io;
+use std::io::Read;
 use subscription::{Content, Filter, Subscribe, SubscribeDone, SubscribeError, SubscribeOk};
 
 // ---- answers
 
-fn print(answer: Answer) {
-    io::print_decimal(libc::STDOUT_FILENO, ledger::number(answer) as u64);
+fn print(rt: &impl Print, answer: Answer) -> io::Result<()> {
+    rt.print(ledger::number(answer))?;
     if let Answer::Breaks(rule) = answer {
-        io::write_all(libc::STDOUT_FILENO, b" R");
-        io::print_decimal(libc::STDOUT_FILENO, ledger::rule_number(rule) as u64);
+        rt.print(" R")?;
+        rt.print(ledger::rule_number(rule))?;
     }
+    Ok(())
 }
 
 // ---- calls
@@ -274,20 +277,20 @@ fn take(word: &mut [u8], numbers: &mut [u64], held: Held, c: u8) -> Held
 }
 
 // Answers a call, and prints what stands between it and the next.
-fn answer(l: Ledger, word: &[u8], n: [u64; 8], c: u8) -> Ledger {
+fn answer(rt: &impl Print, l: Ledger, word: &[u8], n: [u64; 8], c: u8) -> io::Result<Ledger> {
     let taken = call(l, word, n);
     let said = taken.answer;
-    print(said);
+    print(rt, said)?;
     if c == b';' {
-        io::write_all(libc::STDOUT_FILENO, b", ");
+        rt.print(", ")?;
     } else {
-        io::write_all(libc::STDOUT_FILENO, b"\n");
+        rt.print("\n")?;
     }
-    taken.ledger
+    Ok(taken.ledger)
 }
 
 // Takes the text apart, character by character. What stands after its last line's end is not answered.
-fn answer_scripts(text: &[u8]) {
+fn answer_scripts(rt: &impl Print, text: &[u8]) -> io::Result<()> {
     let mut word = [0u8; 16];
     let mut numbers = [0u64; 8];
     let mut held = nothing();
@@ -299,7 +302,7 @@ fn answer_scripts(text: &[u8]) {
         match c {
             b';' | b'\n' => {
                 let letters = held.letters;
-                l = answer(l, &word[..letters], numbers, c);
+                l = answer(rt, l, &word[..letters], numbers, c)?;
                 held = nothing();
                 numbers = [0u64; 8];
             }
@@ -309,11 +312,27 @@ fn answer_scripts(text: &[u8]) {
         }
         i += 1;
     }
+    Ok(())
+}
+
+// Fills buffer from standard input, as far as the input goes. It answers how many bytes came.
+fn read_full(rt: &impl Input, buffer: &mut [u8]) -> io::Result<usize>
+    ensures { IfOk result (λ n. n ≤ length buffer.old) }
+{
+    let mut filled: usize = 0;
+    while filled < buffer.len() {
+        let n = rt.reader().read(&mut buffer[filled..])?;
+        if n == 0 {
+            break;
+        }
+        filled += n;
+    }
+    Ok(filled)
 }
 
 // Reads 65,536 bytes of standard input at most.
-fn main() {
-    let mut text = io::large_buffer();
-    let n = io::read_full(libc::STDIN_FILENO, &mut text);
-    answer_scripts(&text[..n]);
+fn main(rt: HostRuntime) -> io::Result<()> {
+    let mut text = [0u8; 65536];
+    let n = read_full(&rt, &mut text)?;
+    answer_scripts(&rt, &text[..n])
 }

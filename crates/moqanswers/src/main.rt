@@ -6,8 +6,9 @@
 ghost use Rattle.std.specs.Prelude.{◌≤◌, length};
 ghost use Rattle.moqanswers.specs.Ending.{Ends};
 
-use libc::{STDIN_FILENO, STDOUT_FILENO};
 use replay::Progress;
+use std::io;
+use std::io::Read;
 use text::{Line, Putting};
 
 // How far some bytes were told of: the progress after their whole fields, how many bytes those took, and whether all
@@ -28,15 +29,13 @@ struct Turned {
 }
 
 // A field has at most 65,538 bytes, so what is left of one always leaves room to read into. A proved loop has to end,
-// and nothing says that an input does: the turns are counted down from a number that no run uses up.
-fn main() {
+// and nothing says that an input does: the turns go up to a number that no run comes to.
+fn main(rt: HostRuntime) {
     let mut buffer = [0u8; 131072];
     let mut progress = replay::begin();
     let mut left: usize = 0;
-    let mut turns = u64::MAX;
-    while turns > 0 {
-        turns -= 1;
-        let turned = turn(progress, &mut buffer, left);
+    for _ in 0..u64::MAX {
+        let turned = turn(&rt, progress, &mut buffer, left);
         if !turned.more {
             return;
         }
@@ -46,21 +45,23 @@ fn main() {
 }
 
 // One read into buffer, after what is left of the bytes before; what is then left of the bytes goes to its front.
-fn turn(p: Progress, buffer: &mut [u8], left: usize) -> Turned
+fn turn(rt: &(impl Input + Print + Eprint), p: Progress, buffer: &mut [u8], left: usize) -> Turned
     requires { left ≤ length buffer.old }
     ensures { result.left ≤ length buffer.old }
 {
-    let got = libc::read(STDIN_FILENO, &mut buffer[left..]);
-    if got <= 0 {
-        finish(p, left, got);
-        return Turned {
-            progress: p,
-            left,
-            more: false,
-        };
-    }
-    let end = left + io::count(got, &buffer[left..]);
-    let printed = print_fields(p, &buffer[..end]);
+    let n = match rt.reader().read(&mut buffer[left..]) {
+        Ok(n) if n > 0 => n,
+        got => {
+            finish(rt, p, left, got);
+            return Turned {
+                progress: p,
+                left,
+                more: false,
+            };
+        }
+    };
+    let end = left + n;
+    let printed = print_fields(rt, p, &buffer[..end]);
     let used = printed.used;
     replay::keep(buffer, used, end);
     let progress = printed.progress;
@@ -72,25 +73,31 @@ fn turn(p: Progress, buffer: &mut [u8], left: usize) -> Turned
 }
 
 // No more bytes came: the trace ends here, or the read failed.
-fn finish(p: Progress, left: usize, got: isize) {
-    if got < 0 {
-        os::fail(b"moqanswers: standard input");
-        return;
+fn finish(rt: &(impl Print + Eprint), p: Progress, left: usize, got: io::Result<usize>) {
+    match got {
+        Ok(_) => print_end(rt, p, left),
+        Err(e) => fail(rt, "moqanswers: standard input", e),
     }
-    print_end(p, left);
+}
+
+// Says on standard error what failed, and why.
+fn fail(rt: &impl Eprint, what: &str, e: io::Error) {
+    let _ = eprintln!(rt; "{what}: {e}");
 }
 
 // Whether text was written; where it wasn't, that is said.
-fn write(s: &[u8]) -> bool {
-    if io::write_all(STDOUT_FILENO, s) {
-        return true;
+fn write(rt: &(impl Print + Eprint), s: &[u8]) -> bool {
+    match rt.write_all(s) {
+        Ok(()) => true,
+        Err(e) => {
+            fail(rt, "moqanswers: standard output", e);
+            false
+        }
     }
-    os::fail(b"moqanswers: standard output");
-    false
 }
 
 // The lines of all whole fields from the front of s on.
-fn print_fields(mut progress: Progress, s: &[u8]) -> Printed
+fn print_fields(rt: &(impl Print + Eprint), mut progress: Progress, s: &[u8]) -> Printed
     ensures { result.used ≤ length s.now }
 {
     let mut out = [0u8; 65536];
@@ -100,7 +107,7 @@ fn print_fields(mut progress: Progress, s: &[u8]) -> Printed
         let told = answers::tell(progress, s, used);
         let next = told.used;
         if next == used {
-            let written = write(&out[..at]);
+            let written = write(rt, &out[..at]);
             return Printed {
                 progress,
                 used,
@@ -108,7 +115,7 @@ fn print_fields(mut progress: Progress, s: &[u8]) -> Printed
             };
         }
         let line = told.line;
-        let Putting::Done(end) = print_line(&mut out, at, line) else {
+        let Putting::Done(end) = print_line(rt, &mut out, at, line) else {
             return Printed {
                 progress,
                 used,
@@ -122,32 +129,32 @@ fn print_fields(mut progress: Progress, s: &[u8]) -> Printed
 }
 
 // A line after at bytes of text. Where it has no room there, those are written, and it goes to the front.
-fn print_line(out: &mut [u8], at: usize, line: Line) -> Putting
+fn print_line(rt: &(impl Print + Eprint), out: &mut [u8], at: usize, line: Line) -> Putting
     requires { at ≤ length out.old }
     ensures { Ends result (length out.old) }
 {
     let Putting::Done(n) = text::put(&mut out[at..], line) else {
-        return print_front(out, at, line);
+        return print_front(rt, out, at, line);
     };
     Putting::Done(at + n)
 }
 
 // at bytes of text are written, and a line is put in their place; too short means that they could not be written.
-fn print_front(out: &mut [u8], at: usize, line: Line) -> Putting
+fn print_front(rt: &(impl Print + Eprint), out: &mut [u8], at: usize, line: Line) -> Putting
     requires { at ≤ length out.old }
     ensures { Ends result (length out.old) }
 {
-    if !write(&out[..at]) {
+    if !write(rt, &out[..at]) {
         return Putting::TooShort;
     }
     text::put(out, line)
 }
 
 // The line of the trace's end, if it has one.
-fn print_end(p: Progress, left: usize) {
+fn print_end(rt: &(impl Print + Eprint), p: Progress, left: usize) {
     let mut out = [0u8; text::LONGEST_LINE];
     let line = answers::tell_end(p, left);
     text::put(&mut out, line);
     let n = text::measure(line);
-    write(&out[..n]);
+    write(rt, &out[..n]);
 }

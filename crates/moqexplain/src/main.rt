@@ -8,6 +8,9 @@ mod streams;
 mod traces;
 mod writing;
 
+use std::env::Env;
+use std::io;
+
 // What stands at an offset of a control stream: a whole message, and where it ends; one that is not all there; or one
 // that is refused, after which nothing is read.
 #[derive(Clone, Copy)]
@@ -18,9 +21,11 @@ enum Found {
 }
 
 // Whether a control stream is asked for.
-fn is_stream() -> bool {
+fn is_stream(rt: &impl Env) -> bool {
     let mut word = [0u8; 3];
-    let n = os::arg(1, &mut word);
+    let Ok(n) = rt.arg(1, &mut word) else {
+        return false;
+    };
     if n != 2 {
         return false;
     }
@@ -30,10 +35,15 @@ fn is_stream() -> bool {
     word[1] == b'c'
 }
 
-fn main() {
-    if is_stream() {
-        streams::explain();
+// Says on standard error what failed, and why.
+fn fail(rt: &impl Eprint, what: &str, e: io::Error) {
+    let _ = eprintln!(rt; "{what}: {e}");
+}
+
+fn main(rt: HostRuntime) {
+    if is_stream(&rt) {
+        streams::explain(&rt);
         return;
     }
-    traces::explain();
+    traces::explain(&rt);
 }

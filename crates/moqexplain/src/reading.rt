@@ -1,16 +1,20 @@
 // The input comes a buffer at a time.
-ghost use Rattle.std.specs.Prelude.{◌≤◌, length};
+ghost use Rattle.std.specs.Prelude.{◌+◌, ◌≤◌, IfSome, length};
 
-use libc::STDIN_FILENO;
+use crate::fail;
+use std::io::Read;
 
-// One read into buffer, after what is left of the bytes before. It answers how many came; or less than 0 where it
-// failed, and that is said.
-pub fn read_behind(buffer: &mut [u8], left: usize) -> isize
+// One read into buffer, after what is left of the bytes before. It answers how many came; or nothing where it failed,
+// and that is said.
+pub fn read_behind(rt: &(impl Input + Eprint), buffer: &mut [u8], left: usize) -> Option<usize>
     requires { left ≤ length buffer.old }
+    ensures { IfSome result (λ n. left + n ≤ length buffer.old) }
 {
-    let got = libc::read(STDIN_FILENO, &mut buffer[left..]);
-    if got < 0 {
-        os::fail(b"moqexplain: standard input");
+    match rt.reader().read(&mut buffer[left..]) {
+        Ok(n) => Some(n),
+        Err(e) => {
+            fail(rt, "moqexplain: standard input", e);
+            None
+        }
     }
-    got
 }

@@ -15,21 +15,18 @@ struct Printed {
     more: bool,
 }
 
-// A message has at most 65,016 bytes, so what is left of one always leaves room to read into. The turns are counted
-// down as those of a trace.
-pub fn explain() {
+// A message has at most 65,016 bytes, so what is left of one always leaves room to read into. The turns are
+// counted as those of a trace.
+pub fn explain(rt: &(impl Input + Print + Eprint)) {
     let mut buffer = [0u8; 131072];
     let mut offset: u64 = 0;
     let mut left: usize = 0;
-    let mut turns = u64::MAX;
-    while turns > 0 {
-        turns -= 1;
-        let got = read_behind(&mut buffer, left);
-        if got < 0 {
+    for _ in 0..u64::MAX {
+        let Some(n) = read_behind(rt, &mut buffer, left) else {
             return;
-        }
-        let end = left + io::count(got, &buffer[left..]);
-        let printed = print_messages(&buffer[..end], offset, got == 0);
+        };
+        let end = left + n;
+        let printed = print_messages(rt, &buffer[..end], offset, n == 0);
         if !printed.more {
             return;
         }
@@ -55,7 +52,7 @@ fn find(s: &[u8], at: usize) -> Found
 }
 
 // The lines of all messages from the front of s on, whose first byte has that offset.
-fn print_messages(s: &[u8], offset: u64, last: bool) -> Printed
+fn print_messages(rt: &(impl Print + Eprint), s: &[u8], offset: u64, last: bool) -> Printed
     ensures { result.used ≤ length s.now }
 {
     let mut out = [0u8; 65536];
@@ -64,10 +61,10 @@ fn print_messages(s: &[u8], offset: u64, last: bool) -> Printed
     loop {
         let first = std::num::wrapping_add_u64(offset, used as u64);
         let Found::Whole(end) = find(s, used) else {
-            let more = print_rest(&mut out, at, &s[used..], first, last);
+            let more = print_rest(rt, &mut out, at, &s[used..], first, last);
             return Printed { used, more };
         };
-        let Putting::Done(next) = print_message(&mut out, at, &s[used..end], first) else {
+        let Putting::Done(next) = print_message(rt, &mut out, at, &s[used..end], first) else {
             return Printed { used, more: false };
         };
         at = next;
@@ -76,25 +73,38 @@ fn print_messages(s: &[u8], offset: u64, last: bool) -> Printed
 }
 
 // The lines of a message, after at bytes of text.
-fn print_message(out: &mut [u8], at: usize, s: &[u8], offset: u64) -> Putting
+fn print_message(
+    rt: &(impl Print + Eprint),
+    out: &mut [u8],
+    at: usize,
+    s: &[u8],
+    offset: u64,
+) -> Putting
     requires { at ≤ length out.old }
     ensures { Ends result (length out.old) }
 {
     let e = explanation::begin_message(s, offset);
-    print(out, at, s, e)
+    print(rt, out, at, s, e)
 }
 
 // What is left after the whole messages. Whether more can come.
-fn print_rest(out: &mut [u8], at: usize, s: &[u8], offset: u64, last: bool) -> bool
+fn print_rest(
+    rt: &(impl Print + Eprint),
+    out: &mut [u8],
+    at: usize,
+    s: &[u8],
+    offset: u64,
+    last: bool,
+) -> bool
     requires { at ≤ length out.old }
 {
     if !is_shown(s, last) {
-        return write(&out[..at]) && !last;
+        return write(rt, &out[..at]) && !last;
     }
-    let Putting::Done(end) = print_message(out, at, s, offset) else {
+    let Putting::Done(end) = print_message(rt, out, at, s, offset) else {
         return false;
     };
-    write(&out[..end]);
+    write(rt, &out[..end]);
     false
 }
 

@@ -16,21 +16,20 @@ struct Printed {
 }
 
 // A field has at most 65,538 bytes, so what is left of one always leaves room to read into. A proved loop has to end,
-// and nothing says that an input does: the turns are counted down from a number that no run uses up.
-pub fn explain() {
+// and nothing says that an input does: the turns go up to a number that no run comes to.
+pub fn explain(rt: &(impl Input + Print + Eprint)) {
     let mut buffer = [0u8; 131072];
     let mut progress = replay::begin();
     let mut left: usize = 0;
-    let mut turns = u64::MAX;
-    while turns > 0 {
-        turns -= 1;
-        let got = read_behind(&mut buffer, left);
-        if got <= 0 {
-            finish(progress, &buffer[..left], got);
+    for _ in 0..u64::MAX {
+        let got = read_behind(rt, &mut buffer, left);
+        let n = got.unwrap_or(0);
+        if n == 0 {
+            finish(rt, progress, &buffer[..left], got);
             return;
         }
-        let end = left + io::count(got, &buffer[left..]);
-        let printed = print_fields(progress, &buffer[..end]);
+        let end = left + n;
+        let printed = print_fields(rt, progress, &buffer[..end]);
         if !printed.written {
             return;
         }
@@ -41,17 +40,17 @@ pub fn explain() {
 }
 
 // No more bytes came: the trace ends here, and rest is left of a field; or the read failed.
-fn finish(p: Progress, rest: &[u8], got: isize) {
-    if got < 0 {
+fn finish(rt: &(impl Print + Eprint), p: Progress, rest: &[u8], got: Option<usize>) {
+    if got.is_none() {
         return;
     }
     let mut out = [0u8; explanation::LONGEST_LINES];
     let end = explanation_traces::put_end(&mut out, 0, p, rest);
-    write(&out[..end]);
+    write(rt, &out[..end]);
 }
 
 // The lines of all whole fields from the front of s on.
-fn print_fields(mut progress: Progress, s: &[u8]) -> Printed
+fn print_fields(rt: &(impl Print + Eprint), mut progress: Progress, s: &[u8]) -> Printed
     ensures { result.used ≤ length s.now }
 {
     let mut out = [0u8; 65536];
@@ -61,7 +60,7 @@ fn print_fields(mut progress: Progress, s: &[u8]) -> Printed
         let taken = explanation_traces::tell(progress, s, used);
         let next = taken.used;
         if next == used {
-            let written = write(&out[..at]);
+            let written = write(rt, &out[..at]);
             return Printed {
                 progress,
                 used,
@@ -69,7 +68,7 @@ fn print_fields(mut progress: Progress, s: &[u8]) -> Printed
             };
         }
         let explaining = taken.explaining;
-        let Putting::Done(end) = print(&mut out, at, &s[used..next], explaining) else {
+        let Putting::Done(end) = print(rt, &mut out, at, &s[used..next], explaining) else {
             return Printed {
                 progress,
                 used,

@@ -2,36 +2,44 @@
 ghost use Rattle.std.specs.Prelude.{◌≤◌, length};
 ghost use Rattle.moqexplain.specs.Ending.{Ends, Rooms};
 
+use crate::fail;
 use explanation::Explaining;
-use libc::STDOUT_FILENO;
 use text::Putting;
 
 // Whether text was written; where it wasn't, that is said.
-pub fn write(s: &[u8]) -> bool {
-    if io::write_all(STDOUT_FILENO, s) {
-        return true;
+pub fn write(rt: &(impl Print + Eprint), s: &[u8]) -> bool {
+    match rt.write_all(s) {
+        Ok(()) => true,
+        Err(e) => {
+            fail(rt, "moqexplain: standard output", e);
+            false
+        }
     }
-    os::fail(b"moqexplain: standard output");
-    false
 }
 
 // Room for the next lines after at bytes of text. Where there is none, those are written, and the lines go to the
 // front; too short means that they could not be written.
-fn make_room(out: &mut [u8], at: usize) -> Putting
+fn make_room(rt: &(impl Print + Eprint), out: &mut [u8], at: usize) -> Putting
     requires { at ≤ length out.old }
     ensures { Rooms result (length out.old) }
 {
     if out.len() - at >= explanation::LONGEST_LINES {
         return Putting::Done(at);
     }
-    if !write(&out[..at]) {
+    if !write(rt, &out[..at]) {
         return Putting::TooShort;
     }
     Putting::Done(0)
 }
 
 // All lines of a field, or of a message of a control stream, after at bytes of text.
-pub fn print(out: &mut [u8], mut at: usize, field: &[u8], mut e: Explaining) -> Putting
+pub fn print(
+    rt: &(impl Print + Eprint),
+    out: &mut [u8],
+    mut at: usize,
+    field: &[u8],
+    mut e: Explaining,
+) -> Putting
     requires { at ≤ length out.old }
     ensures { Ends result (length out.old) }
 {
@@ -41,7 +49,7 @@ pub fn print(out: &mut [u8], mut at: usize, field: &[u8], mut e: Explaining) -> 
         if explanation::is_over(e) {
             return Putting::Done(at);
         }
-        let Putting::Done(front) = make_room(out, at) else {
+        let Putting::Done(front) = make_room(rt, out, at) else {
             return Putting::TooShort;
         };
         let told = explanation::next(out, front, field, e);

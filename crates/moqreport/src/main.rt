@@ -2,47 +2,48 @@
 // time, whatever the trace's length.
 #![tactic(auto)]
 
-ghost use Rattle.std.specs.Prelude.{◌≤◌, length};
+ghost use Rattle.std.specs.Prelude.{◌+◌, ◌≤◌, IfOk, length};
 ghost use Rattle.common.specs.Buffer.{Put};
 ghost use Rattle.replay.specs.Progressing.{finish_of};
 ghost use Rattle.report.specs.Report.{text_of, longest_report};
 
-use libc::{STDIN_FILENO, STDOUT_FILENO};
 use replay::Progress;
+use std::io;
+use std::io::Read;
 use text::Putting;
 
 // A field has at most 65,538 bytes, so what is left of one always leaves room to read into.
-fn main() {
+fn main(rt: HostRuntime) {
     let mut buffer = [0u8; 131072];
     let mut progress = replay::begin();
     let mut left: usize = 0;
-    // A proved loop has to end, and nothing says that an input does: the turns are counted down from a number that no
-    // run uses up.
-    let mut turns = u64::MAX;
-    while turns > 0 {
-        turns -= 1;
-        let got = read_behind(&mut buffer, left);
-        if got < 0 {
-            os::fail(b"moqreport: standard input");
+    // A proved loop has to end, and nothing says that an input does: the turns go up to a number that no run comes to.
+    for _ in 0..u64::MAX {
+        let n = match read_behind(&rt, &mut buffer, left) {
+            Ok(n) => n,
+            Err(e) => return fail(&rt, "moqreport: standard input", e),
+        };
+        if n == 0 {
+            print(&rt, progress, left);
             return;
         }
-        if got == 0 {
-            print(progress, left);
-            return;
-        }
-        let n = io::count(got, &buffer);
         let advanced = progress.advance(&mut buffer, left + n);
         progress = advanced.progress;
         left = advanced.left;
     }
 }
 
-// One read into buffer, after what is left of the bytes before. It answers how many came, or less than 0 where it
-// failed.
-fn read_behind(buffer: &mut [u8], left: usize) -> isize
+// Says on standard error what failed, and why.
+fn fail(rt: &impl Eprint, what: &str, e: io::Error) {
+    let _ = eprintln!(rt; "{what}: {e}");
+}
+
+// One read into buffer, after what is left of the bytes before. It answers how many came.
+fn read_behind(rt: &impl Input, buffer: &mut [u8], left: usize) -> io::Result<usize>
     requires { left ≤ length buffer.old }
+    ensures { IfOk result (λ n. left + n ≤ length buffer.old) }
 {
-    libc::read(STDIN_FILENO, &mut buffer[left..])
+    rt.reader().read(&mut buffer[left..])
 }
 
 // The report, where it has room.
@@ -56,10 +57,10 @@ fn put(out: &mut [u8], p: Progress, left: usize) -> usize
     n
 }
 
-fn print(p: Progress, left: usize) {
+fn print(rt: &(impl Print + Eprint), p: Progress, left: usize) {
     let mut out = [0u8; report::LONGEST_REPORT];
     let n = put(&mut out, p, left);
-    if !io::write_all(STDOUT_FILENO, &out[..n]) {
-        os::fail(b"moqreport: standard output");
+    if let Err(e) = rt.write_all(&out[..n]) {
+        fail(rt, "moqreport: standard output", e);
     }
 }

@@ -3,7 +3,7 @@
 ghost use Rattle.std.specs.Prelude.{◌≡◌, ◌<◌, ◌≤◌, length};
 
 use crate::{ROOM, say, say_number};
-use libc::STDOUT_FILENO;
+use std::io;
 
 // ---- read
 
@@ -142,8 +142,8 @@ pub fn decode(text: &[u8], bytes: &mut [u8]) -> usize
 
 // ---- printed
 
-fn say_byte(byte: u8) {
-    io::print_hex(STDOUT_FILENO, byte as u64, 2);
+fn say_byte(rt: &impl Print, byte: u8) -> io::Result<()> {
+    print!(rt; "{byte:02x}")
 }
 
 // Where a run of equal bytes ends that starts at an offset.
@@ -162,23 +162,24 @@ fn run_end(out: &[u8], at: usize) -> usize
     i
 }
 
-fn say_digits(bytes: &[u8]) {
+fn say_digits(rt: &impl Print, bytes: &[u8]) -> io::Result<()> {
     let mut i: usize = 0;
     while i < bytes.len() {
-        say_byte(bytes[i]);
+        say_byte(rt, bytes[i])?;
         i += 1;
     }
+    Ok(())
 }
 
-fn say_run(byte: u8, count: usize) {
-    say_byte(byte);
-    say(b"*");
-    say_number(count as u64);
+fn say_run(rt: &impl Print, byte: u8, count: usize) -> io::Result<()> {
+    say_byte(rt, byte)?;
+    say(rt, b"*")?;
+    say_number(rt, count as u64)
 }
 
 // Bytes in hexadecimal; a run of 16 or more equal ones as the byte, `*` and how many they are, with a space before and
 // after it.
-pub fn say_bytes(out: &[u8]) {
+pub fn say_bytes(rt: &impl Print, out: &[u8]) -> io::Result<()> {
     let mut behind_run = false;
     let mut at: usize = 0;
     while at < out.len() {
@@ -186,15 +187,16 @@ pub fn say_bytes(out: &[u8]) {
         let is_run = 16 <= end - at;
         if 0 < at {
             if is_run || behind_run {
-                say(b" ");
+                say(rt, b" ")?;
             }
         }
         if is_run {
-            say_run(out[at], end - at);
+            say_run(rt, out[at], end - at)?;
         } else {
-            say_digits(&out[at..end]);
+            say_digits(rt, &out[at..end])?;
         }
         behind_run = is_run;
         at = end;
     }
+    Ok(())
 }
