@@ -13,7 +13,7 @@ use Rattle.outline.proofs.laid.message.Goals as goal
 pub returns-in_default : goal.returns-in_default
 unfolding messages
 returns-in_default c =
-    rw (layoutless-missed (map (λ (r : TypeRow). r.number) messages) refl _ (search rules depth 60))
+    rw (layoutless-missed (map (λ (r : TypeRow). r.number) messages) refl c.args.number (search rules depth 60))
     (forbidden-ahead c.args.v.now)
 
 pub returns-in-64 : goal.returns-in-64
