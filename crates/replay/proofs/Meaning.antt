@@ -1,7 +1,5 @@
 -- What a field is, by what was read of its value. Assumes nothing.
-use Rattle.std.proofs.Common.{◌≡◌, ℕ, ◌<◌, List, [], ◌∷◌, length, get_or, sym, refl, ap, ◌∙◌, arith, eq-eqb, ne_eqb}
-use denote.Enum.Declared.{tag_of}
-use types.Run.{OneOf}
+use Rattle.std.proofs.Common.{◌≡◌, ℕ, ◌<◌, List, length, get_or, sym, refl, ap, ◌∙◌, arith, eq-eqb, ne_eqb}
 use Rattle.common.specs.Answer.{number}
 use Rattle.field.specs.Fields.{field_at, integer, place_at}
 use Rattle.field.specs.Told.{told_number, told_place}
@@ -17,7 +15,6 @@ use Rattle.message.specs.Reading.{read_of, told}
 use Rattle.message.specs.declared.Message.{Message}
 use Rattle.message.specs.declared.Reading.{Reading}
 use Rattle.message.specs.declared.Reading.TheVariants.{Whole}
-use Rattle.message.specs.contracts.Reading.{the_type}
 use Rattle.message.proofs.NotWhole.{not-whole}
 use Rattle.message.proofs.OneReading.{reading-only}
 use Rattle.replay.specs.Events.{filling, part_by, started_by, malformed_by, reading_by, control_by, arrived_by}
@@ -53,7 +50,7 @@ pub control-by : (value : List ℕ) {r v : Reading} {e : Event} → told r ≡ r
 unfolding control_by
 control-by value {r} said h is = is ∙ ap (reading_by value) (sym h ∙ reading-only longest_body value r said)
 
-pub control-else : (value : List ℕ) (r : Reading) {e : Event} → told r ≡ read_of value → OneOf (1 ∷ 2 ∷ 3 ∷ 4 ∷ 5 ∷ 6 ∷ []) (tag_of the_type r) → e ≡ malformed_by (number (told r)) → e ≡ control_by value
+pub control-else : (value : List ℕ) (r : Reading) {e : Event} → told r ≡ read_of value → ((m : Message) (used : ℕ) → r ≡ Whole m used → ⊥) → e ≡ malformed_by (number (told r)) → e ≡ control_by value
 control-else value r said h is = control-by value {r = r} said refl (is ∙ not-whole r (λ m used. filling value used (Control m)) (malformed_by (number (told r))) h)
 
 module _ (value : List ℕ) {r : Reading} {m : Message} {used : ℕ} (said : told r ≡ read_of value) (h : r ≡ Whole m used) where

@@ -14,15 +14,15 @@ which c =
 
 pub returns-then-said-ne8 : goal.returns-then-said-ne8
 returns-then-said-ne8 c =
-    started-else _ _ _ _ c.start-started.result (omega (arith, c.if-part-gt1.false)) (which (AT.Joined-part-eq0)) c.start-started.ensures c.number-said.ensures c.if-said-ne8.true
+    started-else _ _ _ _ c.start-started.result (omega (arith, c.if-part-gt1.false)) (which (goal.at.returns-then-said-ne8 c).Joined-part-eq0) c.start-started.ensures c.number-said.ensures c.if-said-ne8.true
 
 pub returns-then-numbers-lt-LEDGER_NUMBERS : goal.returns-then-numbers-lt-LEDGER_NUMBERS
 returns-then-numbers-lt-LEDGER_NUMBERS c =
-    started-short _ _ _ _ c.start-started.result (omega (arith, c.if-part-gt1.false)) (which (AT.Joined-part-eq0)) c.start-started.ensures c.number-said.ensures c.if-said-ne8.false c.if-numbers-lt-LEDGER_NUMBERS.true
+    started-short _ _ _ _ c.start-started.result (omega (arith, c.if-part-gt1.false)) (which (goal.at.returns-then-numbers-lt-LEDGER_NUMBERS c).Joined-part-eq0) c.start-started.ensures c.number-said.ensures c.if-said-ne8.false c.if-numbers-lt-LEDGER_NUMBERS.true
 
 pub returns : goal.returns
 returns c =
-    started-whole _ _ _ _ c.start-started.result (omega (arith, c.if-part-gt1.false)) (which (AT.After-start-started)) c.start-started.ensures c.number-said.ensures c.if-said-ne8.false c.if-numbers-lt-LEDGER_NUMBERS.false c.keep.ensures
+    started-whole _ _ _ _ c.start-started.result (omega (arith, c.if-part-gt1.false)) (which (goal.at.returns c).After-start-started) c.start-started.ensures c.number-said.ensures c.if-said-ne8.false c.if-numbers-lt-LEDGER_NUMBERS.false c.keep.ensures
 
 pub returns-then-part-gt1 : goal.returns-then-part-gt1
 returns-then-part-gt1 c = started-other _ _ _ _ c.if-part-gt1.true

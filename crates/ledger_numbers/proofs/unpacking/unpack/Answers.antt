@@ -1,7 +1,6 @@
 -- `unpack` meets its contract. Assumes nothing.
 use mathlib.Core.Path.{sym, ◌∙◌}
 use borrow.Author.Rules.{rules}
-use borrow.Author.Tests.{not-true, not-false}
 use Rattle.ledger_numbers.proofs.Comparing.{unpack-few, unpack-same, unpack-other}
 use Rattle.ledger_numbers.proofs.unpacking.unpack.Goals as goal
 
@@ -10,7 +9,7 @@ returns-then-numbers-lt-LEDGER_NUMBERS c = c.none.ensures ∙ sym (unpack-few _ 
 
 pub returns-then-not-has_numbers : goal.returns-then-not-has_numbers
 returns-then-not-has_numbers c =
-    c.none-then-not-has_numbers.ensures ∙ sym (unpack-other _ c.ledger_in-l.ensures c.has_numbers.ensures (not-true _ c.if-not-has_numbers.true))
+    c.none-then-not-has_numbers.ensures ∙ sym (unpack-other _ c.ledger_in-l.ensures c.has_numbers.ensures c.if-not-has_numbers.true)
 
 pub returns : goal.returns
-returns c = unpack-same _ c.ledger_in-l.ensures c.has_numbers.ensures (not-false _ c.if-not-has_numbers.false)
+returns c = unpack-same _ c.ledger_in-l.ensures c.has_numbers.ensures c.if-not-has_numbers.false

@@ -12,7 +12,7 @@ pub slice_bounds-feed-end : goal.slice_bounds-feed-end
 slice_bounds-feed-end c = bounded c
 
 pub slice_bounds-feed-end-2 : goal.slice_bounds-feed-end-2
-slice_bounds-feed-end-2 c = sym (length-take-le _ _ (bounded (AT.After-slice_known-1)))
+slice_bounds-feed-end-2 c = sym (length-take-le _ _ (bounded c))
 
 pub overflow_sub-left : goal.overflow_sub-left
 overflow_sub-left c = used-fits _ _ _ c.at_most-end.ensures c.feed-fed.ensures

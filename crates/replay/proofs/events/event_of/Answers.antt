@@ -1,5 +1,5 @@
 -- `event_of` meets its contract. Assumes nothing.
-use Rattle.std.proofs.Common.{sym, ap, ◌∙◌, rules, ne_eqb}
+use Rattle.std.proofs.Common.{sym, ap, ◌∙◌, arith, rules, ne_eqb}
 use Rattle.replay.specs.Events.{as_event, event_of}
 use Rattle.replay.proofs.events.event_of.Goals as goal
 
@@ -22,4 +22,4 @@ returns-in-3 c = sym (ap as_event c.in-One.is) ∙ c.arrived.ensures ∙ rw c.in
 pub returns-in_default : goal.returns-in_default
 unfolding event_of
 returns-in_default c =
-    rw (ne_eqb _ _ c.in_default.rest.0.0.1, ne_eqb _ _ c.in_default.rest.0.1, ne_eqb _ _ c.in_default.rest.1)
+    rw (ne_eqb c.args.tag 1 (λ e. omega arith), ne_eqb c.args.tag 2 (λ e. omega arith), ne_eqb c.args.tag 3 (λ e. omega arith))

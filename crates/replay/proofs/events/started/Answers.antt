@@ -1,5 +1,5 @@
 -- `started` meets its contract. Assumes nothing.
-use Rattle.std.proofs.Common.{rules, ne_eqb}
+use Rattle.std.proofs.Common.{arith, get_or, rules, ne_eqb}
 use Rattle.replay.proofs.Meaning.{start-cut, start-over, start-part, start-filled}
 use Rattle.replay.proofs.events.started.Goals as goal
 
@@ -20,4 +20,5 @@ returns-in-1 c = start-filled _ c.read_number.ensures c.in-Whole.is (search rule
 
 pub returns-in_default-part : goal.returns-in_default-part
 returns-in_default-part c =
-    start-filled _ c.read_number.ensures c.in-Whole.is (search rules) (rw (ne_eqb _ _ c.in_default-part.rest.0.1, ne_eqb _ _ c.in_default-part.rest.1))
+    start-filled _ c.read_number.ensures c.in-Whole.is (search rules)
+    (rw (ne_eqb (get_or c.args.value.now 0 0) 0 (λ e. omega arith), ne_eqb (get_or c.args.value.now 0 0) 1 (λ e. omega arith)))

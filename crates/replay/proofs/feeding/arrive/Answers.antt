@@ -4,4 +4,4 @@ use Rattle.replay.proofs.FieldSteps.{taken-all}
 use Rattle.replay.proofs.feeding.arrive.Goals as goal
 
 pub returns : goal.returns
-returns c = taken-all _ _ _ _ (search rules) c.arrivals-ran.ensures.next c.wrapping_add_u64.ensures
+returns c = taken-all _ _ _ _ (search rules) c.arrivals-ran.ensures.next c.wrapping_add_u64.ensures.value

@@ -1,6 +1,5 @@
 -- `turn` meets its contract. Assumes nothing.
 use Rattle.std.proofs.Common.{sym, ◌∙◌, arith, length-take-le, rules}
-use borrow.Author.Tests.{not-false}
 use Rattle.replay.proofs.FieldSteps.{gathered-fit, run-turn}
 use Rattle.replay.proofs.feeding.turn.Goals as goal
 
@@ -12,4 +11,4 @@ arrive-progress-requires c = gathered-fit c.args.answers.now c.gather-g.ensures 
 
 pub returns : goal.returns
 returns c =
-    run-turn _ _ _ c.gather-g.ensures (sym c.is_running.ensures ∙ not-false _ c.if-not-is_running.false) c.well-formed.0.1.1.1.1.0.1 (omega (arith, c.if-count-eq0.false)) c.arrive-progress.ensures
+    run-turn _ _ _ c.gather-g.ensures (sym c.is_running.ensures ∙ c.if-not-is_running.false) c.well_formed.0.1.1.1.1.0.1 (omega (arith, c.if-count-eq0.false)) c.arrive-progress.ensures
