@@ -14,7 +14,7 @@ use Rattle.ledger_numbers.proofs.packing.keep.Goals.{Start}
 
 -- there are places for all rows
 places : (c : Start) → length c.args.next.rows ≡ most_rows
-places c = sym (length-map c.args.next.rows _) ∙ c.well_formed.1.0.1.1.0.1.0.1
+places c = c.well_formed.1.0.1.1.0.1.0.1
 
 pub returns-then-next-eq0 : goal.returns-then-next-eq0
 unfolding kept_in

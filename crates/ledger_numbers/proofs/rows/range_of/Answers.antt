@@ -1,4 +1,5 @@
 -- `range_of` meets its contract. Assumes nothing.
+use native.Mathlib.Omega.{arith}
 use borrow.Author.Tests.{ne_eqb}
 use Rattle.ledger_numbers.specs.Naming.{range_named}
 use Rattle.ledger_numbers.proofs.rows.range_of.Goals as goal
@@ -13,4 +14,4 @@ returns-in-1 c = rw c.in-1.is
 
 pub returns-in_default : goal.returns-in_default
 unfolding range_named
-returns-in_default c = rw (ne_eqb _ _ c.in_default.rest.0.1, ne_eqb _ _ c.in_default.rest.1)
+returns-in_default c = rw (ne_eqb c.args.n 0 (λ e. omega arith), ne_eqb c.args.n 1 (λ e. omega arith))

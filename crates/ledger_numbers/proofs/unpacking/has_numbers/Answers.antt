@@ -24,17 +24,17 @@ put_ledger-requires c =
 pub returns-then-own-i : goal.returns-then-own-i
 returns-then-own-i c =
     let p = c.put_ledger.ensures in
-    sym (same_not c.put_ledger.new.0 c.args.numbers.now c.loop-i.i (own-long c.args.l (places (goal.at.returns-then-own-i c).Start) p) c.requires (omega arith) c.if-own-i.true) ∙ c.loop-i.invariant.1 ∙ ap (λ (ns : List _). are_same ns (take ledger_numbers c.args.numbers.now)) (own_is c.args.l (places (goal.at.returns-then-own-i c).Start) p)
+    sym (same_not c.put_ledger.new.out c.args.numbers.now c.loop-i.i (own-long c.args.l (places (goal.at.returns-then-own-i c).Start) p) c.requires (omega arith) c.if-own-i.true) ∙ c.loop-i.invariant.1 ∙ ap (λ (ns : List _). are_same ns (take ledger_numbers c.args.numbers.now)) (own_is c.args.l (places (goal.at.returns-then-own-i c).Start) p)
 
 pub loop-i-preserved : goal.loop-i-preserved
 loop-i-preserved c =
     let p = c.put_ledger.ensures in
-    (omega arith, same_next c.put_ledger.new.0 c.args.numbers.now c.loop-i.i (own-long c.args.l (places (goal.at.loop-i-preserved c).Start) p) c.requires (omega arith) c.if-own-i.false ∙ c.loop-i.invariant.1)
+    (omega arith, same_next c.put_ledger.new.out c.args.numbers.now c.loop-i.i (own-long c.args.l (places (goal.at.loop-i-preserved c).Start) p) c.requires (omega arith) c.if-own-i.false ∙ c.loop-i.invariant.1)
 
 pub returns : goal.returns
 returns c =
     let p = c.put_ledger.ensures in
-    sym (same_end c.put_ledger.new.0 c.args.numbers.now c.loop-i.i (own-long c.args.l (places (goal.at.returns c).Start) p) c.requires (omega arith)) ∙ c.loop-i.invariant.1 ∙ ap (λ (ns : List _). are_same ns (take ledger_numbers c.args.numbers.now)) (own_is c.args.l (places (goal.at.returns c).Start) p)
+    sym (same_end c.put_ledger.new.out c.args.numbers.now c.loop-i.i (own-long c.args.l (places (goal.at.returns c).Start) p) c.requires (omega arith)) ∙ c.loop-i.invariant.1 ∙ ap (λ (ns : List _). are_same ns (take ledger_numbers c.args.numbers.now)) (own_is c.args.l (places (goal.at.returns c).Start) p)
 
 pub slice_bounds-put_ledger-end : goal.slice_bounds-put_ledger-end
 slice_bounds-put_ledger-end c = refl

@@ -1,4 +1,5 @@
 -- `part_of` meets its contract. Assumes nothing.
+use native.Mathlib.Omega.{arith}
 use borrow.Author.Tests.{ne_eqb}
 use Rattle.ledger_numbers.specs.Naming.{part_named}
 use Rattle.ledger_numbers.proofs.unpacking.part_of.Goals as goal
@@ -9,4 +10,4 @@ returns-in-0 c = rw c.in-0.is
 
 pub returns-in_default : goal.returns-in_default
 unfolding part_named
-returns-in_default c = rw (ne_eqb _ _ c.in_default.rest.1)
+returns-in_default c = rw (ne_eqb c.args.n 0 (λ e. omega arith))
