@@ -1,5 +1,5 @@
-/* The collector's core, called from C and C++. `tools/archive` makes the archive for the machine that it runs on,
-   target/native/libexports.a; examples/ shows it used from C, Rust and Python.
+/* The collector's core, called from C and C++. `tools/archive` makes the archive, target/native/libexports.a; examples/ shows it
+   used from C, Rust and Python.
 
    Each call answers a number, and its comment lists those that can come. The calls on a ledger have further ones, which stand there:
 
