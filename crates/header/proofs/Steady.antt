@@ -2,7 +2,7 @@
 use Prim.Native.Nat.{ℕ}
 use mathlib.Core.Path.{◌≡◌, sym, ap, ◌∙◌}
 use mathlib.Core.List.{List, ◌++◌}
-use Rattle.common.specs.Answer.{Answer, whole as answered, refused}
+use Rattle.common.specs.Answer.{Answer, refused}
 use Rattle.common.proofs.Cases.{apart}
 use Rattle.field.specs.Outcome.{answer}
 use Rattle.layout.specs.Layout.{Layout, scan}

@@ -1,12 +1,12 @@
 -- The four headers keep what reader and writer owe each other, and are written as their only shortest form. Assumes nothing.
 use Prim.Native.Nat.{ℕ, ◌≤◌}
-use mathlib.Core.Path.{◌≡◌, refl, sym, ap, ◌∙◌}
+use mathlib.Core.Path.{◌≡◌, refl, ap}
 use mathlib.Core.Bool.{Bool, true, false}
 use mathlib.Core.List.{List, [], ◌++◌}
 use native.Mathlib.Omega.{arith}
 use lib.ListN.{length, take}
 use lib.Dec.{lit≤}
-use Rattle.common.specs.Answer.{Answer, whole as answered, refused}
+use Rattle.common.specs.Answer.{Answer, whole as answered}
 use Rattle.integer.specs.Integer.{enc_of}
 use Rattle.field.specs.Outcome.{answer}
 use Rattle.field.specs.declared.Piece.{Piece}

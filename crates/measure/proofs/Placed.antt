@@ -1,8 +1,8 @@
 -- The fields of a message in their places, of which the last are not used. Assumes nothing.
 use Prim.Native.Nat.{ℕ, ◌-◌, ◌≤◌}
 use mathlib.Core.Path.{◌≡◌, refl, sym}
-use mathlib.Core.List.{List, [], ◌∷◌, ◌++◌, map}
-use lib.ListN.{length, take, drop, replicate, take-append-drop}
+use mathlib.Core.List.{List, map}
+use lib.ListN.{length, take, drop, replicate}
 use lib.Seq.{length-take-le}
 use Rattle.common.proofs.Places.{filled, taken_out}
 use Rattle.field.specs.declared.Piece.{Piece}

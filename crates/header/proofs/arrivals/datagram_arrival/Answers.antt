@@ -1,5 +1,4 @@
 -- `datagram_arrival` meets its contract. Assumes nothing.
-use borrow.Author.Rules.{rules}
 use Rattle.common.proofs.Telling.{told_of}
 use Rattle.header.specs.Arrivals.{datagram_arrival}
 use Rattle.header.proofs.arrivals.datagram_arrival.Goals as goal

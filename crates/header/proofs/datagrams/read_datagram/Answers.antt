@@ -1,6 +1,5 @@
 -- `read_datagram` meets its contract: the type, and the header that it names. Assumes nothing.
 use mathlib.Core.Path.{refl}
-use borrow.Author.Rules.{rules}
 use Rattle.header.specs.Layouts.{datagrams}
 use Rattle.header.specs.Told.{told_object}
 use Rattle.header.proofs.Headed.{headed-cut, headed-unknown, headed-by, no-datagram}

@@ -1,5 +1,4 @@
 -- `read_object` meets its contract. Assumes nothing.
-use borrow.Author.Rules.{rules}
 use Rattle.layout.proofs.Steps.{is-no, is_whole, stopping, going}
 use Rattle.header.specs.Layouts.{object_datagram}
 use Rattle.header.proofs.datagrams.read_object.Goals as goal

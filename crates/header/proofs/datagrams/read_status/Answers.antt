@@ -1,5 +1,4 @@
 -- `read_status` meets its contract: what stands before the status, the status, and nothing after it. Assumes nothing.
-use borrow.Author.Rules.{rules}
 use Rattle.layout.proofs.Steps.{stopping}
 use Rattle.header.specs.Layouts.{status}
 use Rattle.header.proofs.StatusDatagrams.{object-cut, status-cut, status-forbidden, status-over, status-last}

@@ -1,5 +1,4 @@
 -- `read_lead` meets its contract. Assumes nothing.
-use borrow.Author.Rules.{rules}
 use Rattle.layout.proofs.Steps.{is-no, is_whole, stopping, going}
 use Rattle.header.specs.Layouts.{subgroup_header}
 use Rattle.header.proofs.leading.read_lead.Goals as goal

@@ -1,5 +1,4 @@
 -- `read_fetch_object` meets its contract. Assumes nothing.
-use borrow.Author.Rules.{rules}
 use Rattle.header.proofs.ObjectHeaders.{fetch-none, fetch-cut, fetch-ends}
 use Rattle.header.proofs.objects.read_fetch_object.Goals as goal
 

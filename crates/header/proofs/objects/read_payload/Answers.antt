@@ -1,5 +1,4 @@
 -- `read_payload` meets its contract. Assumes nothing.
-use borrow.Author.Rules.{rules}
 use Rattle.layout.proofs.Steps.{is-no, is_whole, number-as, stopping, going}
 use Rattle.header.specs.Layouts.{status, payload}
 use Rattle.header.proofs.objects.read_payload.Goals as goal

@@ -1,5 +1,4 @@
 -- `read_subgroup_object` meets its contract. Assumes nothing.
-use borrow.Author.Rules.{rules}
 use Rattle.layout.proofs.Steps.{stopping}
 use Rattle.header.specs.Layouts.{subgroup_object}
 use Rattle.header.specs.Reading.{subgroup_object_of}

@@ -1,6 +1,5 @@
 -- `read_stream` meets its contract: the type, and the header that it names. Assumes nothing.
 use mathlib.Core.Path.{refl}
-use borrow.Author.Rules.{rules}
 use Rattle.layout.proofs.Steps.{stopping, going}
 use Rattle.header.specs.Layouts.{fetch_header, streams}
 use Rattle.header.specs.Told.{told_lead}

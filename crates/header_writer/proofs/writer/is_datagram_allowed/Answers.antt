@@ -1,5 +1,4 @@
 -- `is_datagram_allowed` meets its contract. Assumes nothing.
-use borrow.Author.Rules.{rules}
 use Rattle.header_writer.proofs.Allows.{object-any, by-status}
 use Rattle.header_writer.proofs.writer.is_datagram_allowed.Goals as goal
 

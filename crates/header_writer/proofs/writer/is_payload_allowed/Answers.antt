@@ -1,5 +1,4 @@
 -- `is_payload_allowed` meets its contract. Assumes nothing.
-use borrow.Author.Rules.{rules}
 use Rattle.header_writer.proofs.Allows.{length-is, status-is}
 use Rattle.header_writer.proofs.writer.is_payload_allowed.Goals as goal
 

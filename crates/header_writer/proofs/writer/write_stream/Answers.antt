@@ -1,5 +1,4 @@
 -- `write_stream` meets its contract: the numbers and what stands between them are its fields. Assumes nothing.
-use borrow.Author.Rules.{rules}
 use Rattle.measure.specs.Fields.{headed}
 use Rattle.header_writer.proofs.Writes.{stream-written}
 use Rattle.header_writer.proofs.writer.write_stream.Goals as goal

@@ -1,5 +1,4 @@
 -- `write_subgroup_object` meets its contract: the numbers and what stands between them are its fields. Assumes nothing.
-use borrow.Author.Rules.{rules}
 use Rattle.layout.specs.Allowed.{allowed}
 use Rattle.measure.specs.Fields.{headed}
 use Rattle.header.specs.Layouts.{subgroup_object}

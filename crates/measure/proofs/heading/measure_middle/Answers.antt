@@ -1,6 +1,5 @@
 -- `measure_middle` meets its contract: each arm judges one of the four. Assumes nothing.
 use mathlib.Core.Path.{◌∙◌}
-use borrow.Author.Rules.{rules}
 use Rattle.measure.proofs.Middles.{nothing-fits, one-byte-fits, some-bytes-judged, both-judged}
 use Rattle.measure.proofs.Numbers.{measured-all, judgement-joined}
 use Rattle.measure.proofs.heading.measure_middle.Goals as goal

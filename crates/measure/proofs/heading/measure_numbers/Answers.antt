@@ -1,13 +1,8 @@
 -- `measure_numbers` meets its contract. What was found judges the numbers before the i-th, which with those from it on are all.
 -- Assumes nothing.
-use Prim.Native.Nat.{◌-◌}
-use mathlib.Core.List.{[], map}
-use borrow.Author.Rules.{rules}
-use lib.ListN.{length}
-use Rattle.field.specs.declared.Piece.TheVariants.{Number}
-use Rattle.measure.proofs.FieldsFrom.{numbers_from, numbers-first, numbers-row}
+use Rattle.measure.proofs.FieldsFrom.{numbers-first, numbers-row}
 use Rattle.measure.proofs.Numbers.{measured-all, judgement-joined}
-use Rattle.measure.proofs.JudgedSoFar.{SoFar, none-judged, judged-next, judged-all}
+use Rattle.measure.proofs.JudgedSoFar.{none-judged, judged-next, judged-all}
 use Rattle.measure.proofs.heading.measure_numbers.Goals as goal
 
 pub loop-i-init : goal.loop-i-init

@@ -1,11 +1,9 @@
 use Prim.Native.Nat.{◌-◌}
 use mathlib.Core.List.{[], map}
-use borrow.Author.Rules.{rules}
 use lib.ListN.{length}
 use Rattle.field.specs.declared.Piece.TheVariants.{Number}
-use Rattle.measure.proofs.FieldsFrom.{numbers_from, numbers-first, numbers-row}
-use Rattle.measure.proofs.Numbers.{measured-all, judgement-joined}
-use Rattle.measure.proofs.JudgedSoFar.{SoFar, none-judged, judged-next, judged-all}
+use Rattle.measure.proofs.FieldsFrom.{numbers_from}
+use Rattle.measure.proofs.JudgedSoFar.{SoFar}
 use Rattle.measure.proofs.heading.measure_numbers.Given as goal
 
 abbrev pub invariant-loop-i : goal.invariant-loop-i

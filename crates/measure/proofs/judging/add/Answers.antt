@@ -1,6 +1,5 @@
 -- `add` meets its contract: neither test adds, so nothing wraps. Assumes nothing.
 use native.Mathlib.Omega.{arith}
-use borrow.Author.Rules.{rules}
 use Rattle.measure.proofs.Judges.{fit-within, fit-over}
 use Rattle.measure.proofs.judging.add.Goals as goal
 

@@ -1,5 +1,4 @@
 -- `is_within` meets its contract: what is left of 4,096 is tested, so nothing wraps. Assumes nothing.
-use borrow.Author.Rules.{rules}
 use Rattle.layout.specs.Permitted.{within}
 use Rattle.measure.proofs.Sizes.{namespace-over, namespace-left}
 use Rattle.measure.proofs.judging.is_within.Goals as goal

@@ -1,5 +1,4 @@
 -- `join` meets its contract: each pair of arms is a clause of `joined_of`. Assumes nothing.
-use borrow.Author.Rules.{rules}
 use Rattle.measure.specs.Measuring.{joined_of}
 use Rattle.measure.proofs.Numbers.{forbidden-first, taken-both}
 use Rattle.measure.proofs.judging.join.Goals as goal

@@ -1,6 +1,5 @@
 -- `measure` meets its contract: each arm judges one kind of field. Assumes nothing.
 use mathlib.Core.Path.{◌∙◌}
-use borrow.Author.Rules.{rules}
 use Rattle.measure.proofs.Numbers.{measured, judgement-joined}
 use Rattle.measure.proofs.Pieces.{number-judged, byte_fits, bytes-judged, list-judged, track-backward, track-judged}
 use Rattle.measure.proofs.judging.measure.Goals as goal

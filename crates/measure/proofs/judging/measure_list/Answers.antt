@@ -1,6 +1,5 @@
 -- `measure_list` meets its contract: the entries are walked once, then what they came to is judged. Assumes nothing.
 use mathlib.Core.Path.{sym, ◌∙◌}
-use borrow.Author.Rules.{rules}
 use Rattle.measure.proofs.Lists.{list-great, list-outside, list-missing, list-other, list-many, list_over, list-fits}
 use Rattle.measure.proofs.judging.measure_list.Goals as goal
 

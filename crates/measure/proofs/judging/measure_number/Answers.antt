@@ -1,6 +1,5 @@
 -- `measure_number` meets its contract. Assumes nothing.
 use mathlib.Core.Path.{refl, ◌∙◌}
-use borrow.Author.Rules.{rules}
 use Rattle.measure.proofs.Pieces.{number-great, number_fits}
 use Rattle.measure.proofs.judging.measure_number.Goals as goal
 

@@ -1,6 +1,5 @@
 -- `measure_span` meets its contract: it tests the parts of a right part, one after the other. Assumes nothing.
 use mathlib.Core.Path.{◌∙◌}
-use borrow.Author.Rules.{rules}
 use Rattle.measure.proofs.Spans.{span-backward, span-outside, span-great, span_fits}
 use Rattle.measure.proofs.judging.measure_span.Goals as goal
 

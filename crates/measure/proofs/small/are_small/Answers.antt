@@ -1,12 +1,7 @@
 -- `are_small` meets its contract: the fields that are left tell what all of them tell. Assumes nothing.
-use Prim.Native.Nat.{◌-◌}
-use mathlib.Core.Path.{◌≡◌, sym, ◌∙◌}
 use native.Mathlib.Omega.{arith}
-use borrow.Author.Rules.{rules}
-use lib.ListN.{length, length-map}
-use Rattle.measure.specs.Fields.{most_pieces}
 use Rattle.measure.proofs.FieldsFrom.{count_most}
-use Rattle.measure.proofs.AllSmall.{Left, all_left, one-great, one-small, none-great}
+use Rattle.measure.proofs.AllSmall.{all_left, one-great, one-small, none-great}
 use Rattle.measure.proofs.small.are_small.Goals as goal
 
 pub offset_bounds-f-i : goal.offset_bounds-f-i

@@ -1,5 +1,4 @@
 -- `is_short` meets its contract. Assumes nothing.
-use borrow.Author.Rules.{rules}
 use Rattle.measure.proofs.AllSmall.{short-backward}
 use Rattle.measure.proofs.small.is_short.Goals as goal
 

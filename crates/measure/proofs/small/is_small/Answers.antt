@@ -1,5 +1,4 @@
 -- `is_small` meets its contract. Assumes nothing.
-use borrow.Author.Rules.{rules}
 use Rattle.common.proofs.Telling.{told_of}
 use Rattle.measure.specs.Small.{small_piece}
 use Rattle.measure.proofs.AllSmall.{track-great, track-small}

@@ -14,7 +14,7 @@ use Rattle.types.specs.SessionKinds.{type_row as session_row}
 use Rattle.types.proofs.Gaps.{below-the-first, the-long-gap, beyond-the-last}
 use Rattle.types.specs.Kinds.{number_of}
 use Rattle.types.specs.declared.kinds.Kind.TheVariants.{Subscription, Fetch, Announce, Session}
-use Rattle.types.proofs.KnownNumbers.{type-known, type-none, type-gap, type-missed}
+use Rattle.types.proofs.KnownNumbers.{type-known, type-none, type-gap}
 use Rattle.types.proofs.numbers.type_of.Goals as goal
 
 pub returns-in-2 : goal.returns-in-2
