@@ -5,8 +5,6 @@ use mathlib.Core.Bool.{Bool, true, false}
 use mathlib.Core.List.{List, [], ◌∷◌}
 use native.Mathlib.Omega.{arith}
 use borrow.Author.Tests.{leb-true, le-leb, lt-leb, eq-eqb, ne_eqb}
-use denote.Enum.Declared.{tag_of}
-use types.Run.{OneOf}
 use lib.ListN.{length, set}
 use lib.Dec.{leb}
 use Rattle.common.specs.Choice.{pick, both}
@@ -17,7 +15,7 @@ use Rattle.types.specs.Limits.{longest_body}
 use Rattle.message.specs.Reading.{read_of, told as told_reading}
 use Rattle.message.specs.declared.Message.{Message}
 use Rattle.message.specs.declared.Reading.{Reading}
-use Rattle.message.specs.contracts.Reading.{the_type}
+use Rattle.message.specs.declared.Reading.TheVariants.{Whole}
 use Rattle.message.proofs.NotWhole.{not-whole}
 use Rattle.message.proofs.OneReading.{reading_of, reading-only}
 use Rattle.ledger.specs.Ledgers.{most_rows, empty_ledger}
@@ -140,7 +138,7 @@ read_as s before info {r} {v} f h d =
     rw e d
 
 -- "every other reading ends there"
-pub read-else : (s before info : List ℕ) (r : Reading) {n : ℕ} → told_reading r ≡ read_of s → OneOf (1 ∷ 2 ∷ 3 ∷ 4 ∷ 5 ∷ 6 ∷ []) (tag_of the_type r) → n ≡ number (told_reading r) → Does (message_call s before info) n before info
+pub read-else : (s before info : List ℕ) (r : Reading) {n : ℕ} → told_reading r ≡ read_of s → ((m : Message) (used : ℕ) → r ≡ Whole m used → ⊥) → n ≡ number (told_reading r) → Does (message_call s before info) n before info
 read-else s before info r f h says =
     let m = number (told_reading r) in
     let ends = not-whole r (λ m used. taken_call (take_of (unpack_of before) m) used before info) (refusing m before info) h in

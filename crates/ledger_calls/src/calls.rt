@@ -62,6 +62,7 @@ pub fn take(s: &[u8], numbers: &mut [u64], info: &mut [u64]) -> u64
 }
 
 // Document 01's number of a reading.
+#[tactic(auto, unfolding(common::specs::Answer::number))]
 fn refusal(reading: Reading) -> u64
     ensures { result ≡ number (told reading) }
 {

@@ -20,4 +20,4 @@ returns c =
     (taken _ c.args.info.now _ _ c.unpack-l.ensures c.take-taken.result c.take-taken.ensures c.number-said.ensures c.if-said-eq14.false c.keep.ensures c.broken.ensures (omega (arith, c.if-info-lt2.false)))
 
 pub returns-in_default : goal.returns-in_default
-returns-in_default c = read-else _ _ _ c.read-reading.result c.read-reading.ensures c.in_default.keys2 c.refusal.ensures
+returns-in_default c = read-else _ _ _ c.read-reading.result c.read-reading.ensures c.in_default.not-Whole c.refusal.ensures
