@@ -1,5 +1,4 @@
 -- `gap` meets its contract. Assumes nothing.
-use borrow.Author.Rules.{rules}
 use borrow.Author.Tests.{lt-ltb, le-ltb}
 use Rattle.columns.proofs.bytes.gap.Goals as goal
 

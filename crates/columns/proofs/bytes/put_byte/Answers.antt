@@ -1,5 +1,4 @@
 -- `put_byte` meets its contract. Assumes nothing.
-use borrow.Author.Rules.{rules}
 use Rattle.columns.proofs.Poured.{byte-poured, byte-lost}
 use Rattle.columns.proofs.bytes.put_byte.Goals as goal
 

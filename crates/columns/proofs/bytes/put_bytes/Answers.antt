@@ -1,9 +1,5 @@
 -- `put_bytes` meets its contract: the bytes from the i-th on are left. Assumes nothing.
-use Prim.Native.Nat.{◌-◌}
-use mathlib.Core.Path.{◌≡◌, refl}
-use borrow.Author.Rules.{rules}
-use lib.ListN.{drop}
-use Rattle.columns.specs.Pouring.{filling, pour}
+use mathlib.Core.Path.{refl}
 use Rattle.columns.proofs.Poured.{poured-next, poured-end, poured-length}
 use Rattle.columns.proofs.Turns.{byte_next, byte_last}
 use Rattle.columns.proofs.bytes.put_bytes.Goals as goal

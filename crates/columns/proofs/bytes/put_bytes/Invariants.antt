@@ -1,10 +1,7 @@
 use Prim.Native.Nat.{◌-◌}
-use mathlib.Core.Path.{◌≡◌, refl}
-use borrow.Author.Rules.{rules}
+use mathlib.Core.Path.{◌≡◌}
 use lib.ListN.{drop}
 use Rattle.columns.specs.Pouring.{filling, pour}
-use Rattle.columns.proofs.Poured.{poured-next, poured-end, poured-length}
-use Rattle.columns.proofs.Turns.{byte_next, byte_last}
 use Rattle.columns.proofs.bytes.put_bytes.Given as goal
 
 abbrev pub invariant-loop-i : goal.invariant-loop-i

@@ -1,6 +1,5 @@
 -- `put_item` meets its contract: there is room for the line, and all but its last byte is the item. Assumes nothing.
 use mathlib.Core.Path.{ap}
-use borrow.Author.Rules.{rules}
 use native.Mathlib.Omega.{arith}
 use lib.ListN.{length}
 use Rattle.columns.proofs.ItemAlone.{never-short, Alone, item-alone}

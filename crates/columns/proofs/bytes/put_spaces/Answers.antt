@@ -1,9 +1,7 @@
 -- `put_spaces` meets its contract. Assumes nothing.
 use mathlib.Core.Path.{◌≡◌, refl, ap}
-use borrow.Author.Rules.{rules}
 use native.Mathlib.Omega.{arith}
 use Rattle.columns.specs.Columns.{spaces}
-use Rattle.columns.specs.Pouring.{filling, pour}
 use Rattle.columns.proofs.Poured.{poured-next, poured-end, poured-length}
 use Rattle.columns.proofs.Turns.{space-next}
 use Rattle.columns.proofs.bytes.put_spaces.Goals as goal

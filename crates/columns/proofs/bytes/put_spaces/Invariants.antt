@@ -1,10 +1,6 @@
-use mathlib.Core.Path.{◌≡◌, refl, ap}
-use borrow.Author.Rules.{rules}
-use native.Mathlib.Omega.{arith}
+use mathlib.Core.Path.{◌≡◌}
 use Rattle.columns.specs.Columns.{spaces}
 use Rattle.columns.specs.Pouring.{filling, pour}
-use Rattle.columns.proofs.Poured.{poured-next, poured-end, poured-length}
-use Rattle.columns.proofs.Turns.{space-next}
 use Rattle.columns.proofs.bytes.put_spaces.Given as goal
 
 abbrev pub invariant-loop-left : goal.invariant-loop-left

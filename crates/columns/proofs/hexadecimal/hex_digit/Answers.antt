@@ -1,5 +1,4 @@
 -- `hex_digit` meets its contract. Assumes nothing.
-use borrow.Author.Rules.{rules}
 use borrow.Author.Tests.{lt-ltb, le-ltb}
 use Rattle.columns.proofs.hexadecimal.hex_digit.Goals as goal
 

@@ -1,5 +1,4 @@
 -- `put_bytes_column` meets its contract. Assumes nothing.
-use borrow.Author.Rules.{rules}
 use Rattle.columns.specs.Columns.{bytes_column}
 use Rattle.columns.proofs.ColumnPoured.{column-poured}
 use Rattle.columns.proofs.hexadecimal.put_bytes_column.Goals as goal

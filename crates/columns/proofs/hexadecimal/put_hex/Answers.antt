@@ -1,11 +1,6 @@
 -- `put_hex` meets its contract: after the first byte, those from the i-th on are left. Assumes nothing.
-use Prim.Native.Nat.{◌-◌}
-use mathlib.Core.Path.{◌≡◌, refl}
+use mathlib.Core.Path.{refl}
 use native.Mathlib.Omega.{arith}
-use borrow.Author.Rules.{rules}
-use lib.ListN.{drop}
-use Rattle.columns.specs.Columns.{hex_after}
-use Rattle.columns.specs.Pouring.{filling, pour}
 use Rattle.columns.proofs.Poured.{poured-both, poured-next, poured-end, poured-length}
 use Rattle.columns.proofs.Turns.{hex-next, hex-last}
 use Rattle.columns.proofs.HexDigits.{hex-none, hex-some}

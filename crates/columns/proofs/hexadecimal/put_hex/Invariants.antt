@@ -1,13 +1,8 @@
 use Prim.Native.Nat.{◌-◌}
-use mathlib.Core.Path.{◌≡◌, refl}
-use native.Mathlib.Omega.{arith}
-use borrow.Author.Rules.{rules}
+use mathlib.Core.Path.{◌≡◌}
 use lib.ListN.{drop}
 use Rattle.columns.specs.Columns.{hex_after}
 use Rattle.columns.specs.Pouring.{filling, pour}
-use Rattle.columns.proofs.Poured.{poured-both, poured-next, poured-end, poured-length}
-use Rattle.columns.proofs.Turns.{hex-next, hex-last}
-use Rattle.columns.proofs.HexDigits.{hex-none, hex-some}
 use Rattle.columns.proofs.hexadecimal.put_hex.Given as goal
 
 abbrev pub invariant-loop-i : goal.invariant-loop-i

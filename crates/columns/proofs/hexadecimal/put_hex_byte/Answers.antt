@@ -1,5 +1,4 @@
 -- `put_hex_byte` meets its contract. Assumes nothing.
-use borrow.Author.Rules.{rules}
 use Rattle.columns.specs.Columns.{hex_byte}
 use Rattle.columns.proofs.Poured.{poured-both}
 use Rattle.columns.proofs.hexadecimal.put_hex_byte.Goals as goal

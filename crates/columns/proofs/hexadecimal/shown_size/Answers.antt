@@ -1,5 +1,4 @@
 -- `shown_size` meets its contract. Assumes nothing.
-use borrow.Author.Rules.{rules}
 use native.Mathlib.Omega.{arith}
 use Rattle.columns.proofs.HexDigits.{all-length, some-length}
 use Rattle.columns.proofs.hexadecimal.shown_size.Goals as goal

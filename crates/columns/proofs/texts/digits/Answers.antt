@@ -1,5 +1,4 @@
 -- `digits` meets its contract. Assumes nothing.
-use borrow.Author.Rules.{rules}
 use native.Mathlib.Omega.{arith}
 use Rattle.text.specs.Lines.{item_of}
 use Rattle.columns.proofs.ItemAlone.{alone-length}

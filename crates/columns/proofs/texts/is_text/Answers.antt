@@ -1,9 +1,5 @@
 -- `is_text` meets its contract: the bytes from the i-th on say it. Assumes nothing.
-use Prim.Native.Nat.{◌-◌}
-use mathlib.Core.Path.{◌≡◌, refl}
-use borrow.Author.Rules.{rules}
-use lib.ListN.{drop}
-use Rattle.columns.specs.Columns.{is_text}
+use mathlib.Core.Path.{refl}
 use Rattle.columns.proofs.Turns.{text-next, below-text, above-text, text-last}
 use Rattle.columns.proofs.texts.is_text.Goals as goal
 

@@ -1,9 +1,7 @@
 use Prim.Native.Nat.{◌-◌}
-use mathlib.Core.Path.{◌≡◌, refl}
-use borrow.Author.Rules.{rules}
+use mathlib.Core.Path.{◌≡◌}
 use lib.ListN.{drop}
 use Rattle.columns.specs.Columns.{is_text}
-use Rattle.columns.proofs.Turns.{text-next, below-text, above-text, text-last}
 use Rattle.columns.proofs.texts.is_text.Given as goal
 
 abbrev pub invariant-loop-i : goal.invariant-loop-i

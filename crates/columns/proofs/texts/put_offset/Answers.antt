@@ -1,5 +1,4 @@
 -- `put_offset` meets its contract. Assumes nothing.
-use borrow.Author.Rules.{rules}
 use Rattle.text.specs.Lines.{item_of}
 use Rattle.columns.specs.Columns.{offset_column}
 use Rattle.columns.proofs.ColumnPoured.{column-poured}

@@ -1,5 +1,4 @@
 -- `put_size` meets its contract. Assumes nothing.
-use borrow.Author.Rules.{rules}
 use borrow.Author.Tests.{eq-eqb, ne_eqb}
 use Rattle.types.specs.Letters.{letters}
 use Rattle.text.specs.Lines.{item_of}

@@ -1,5 +1,4 @@
 -- `put_text_or` meets its contract. Assumes nothing.
-use borrow.Author.Rules.{rules}
 use Rattle.columns.proofs.Poured.{poured-three}
 use Rattle.columns.proofs.texts.put_text_or.Goals as goal
 

@@ -1,8 +1,6 @@
 -- `places` meets its contract. Assumes nothing.
-use mathlib.Core.Path.{◌≡◌}
 use native.Mathlib.Omega.{arith}
-use borrow.Author.Rules.{rules}
-use Rattle.text.proofs.Decimals.{Counting, counting-start, counting-next, counting-end}
+use Rattle.text.proofs.Decimals.{counting-start, counting-next, counting-end}
 use Rattle.text.proofs.digits.places.Goals as goal
 
 pub loop-left-init : goal.loop-left-init

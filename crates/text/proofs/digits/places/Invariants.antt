@@ -1,7 +1,4 @@
-use mathlib.Core.Path.{◌≡◌}
-use native.Mathlib.Omega.{arith}
-use borrow.Author.Rules.{rules}
-use Rattle.text.proofs.Decimals.{Counting, counting-start, counting-next, counting-end}
+use Rattle.text.proofs.Decimals.{Counting}
 use Rattle.text.proofs.digits.places.Given as goal
 
 abbrev pub invariant-loop-left : goal.invariant-loop-left

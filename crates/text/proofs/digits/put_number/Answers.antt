@@ -1,12 +1,10 @@
 -- `put_number` meets its contract. The loop runs backward: the digits still to be put, and what stands after them, are what the
 -- whole number leaves. Assumes nothing.
 use Prim.Native.Nat.{◌≤◌}
-use mathlib.Core.Path.{◌≡◌, refl, sym, ◌∙◌}
-use mathlib.Core.List.{◌++◌}
+use mathlib.Core.Path.{◌≡◌, refl, ◌∙◌}
 use native.Mathlib.Omega.{arith}
-use borrow.Author.Rules.{rules}
-use lib.ListN.{length, drop, length-set}
-use Rattle.text.proofs.Decimals.{last_of, digit-next, digits-put}
+use lib.ListN.{length, length-set}
+use Rattle.text.proofs.Decimals.{digit-next, digits-put}
 use Rattle.text.proofs.digits.put_number.Goals as goal
 
 pub loop-i-init : goal.loop-i-init

@@ -1,10 +1,8 @@
 use Prim.Native.Nat.{◌≤◌}
-use mathlib.Core.Path.{◌≡◌, refl, sym, ◌∙◌}
+use mathlib.Core.Path.{◌≡◌}
 use mathlib.Core.List.{◌++◌}
-use native.Mathlib.Omega.{arith}
-use borrow.Author.Rules.{rules}
-use lib.ListN.{length, drop, length-set}
-use Rattle.text.proofs.Decimals.{last_of, digit-next, digits-put}
+use lib.ListN.{length, drop}
+use Rattle.text.proofs.Decimals.{last_of}
 use Rattle.text.proofs.digits.put_number.Given as goal
 
 abbrev pub invariant-loop-i : goal.invariant-loop-i

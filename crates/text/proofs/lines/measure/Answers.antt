@@ -1,12 +1,10 @@
 -- `measure` meets its contract. What was counted, and the items from the i-th on, are the line. Assumes nothing.
-use Prim.Native.Nat.{◌-◌}
-use mathlib.Core.Path.{◌≡◌, sym, ◌∙◌}
+use mathlib.Core.Path.{◌≡◌}
 use native.Mathlib.Omega.{arith}
-use borrow.Author.Rules.{rules}
-use lib.ListN.{length, drop, length-map}
-use Rattle.text.specs.Lines.{most_items, line_of, items_of}
+use lib.ListN.{length}
+use Rattle.text.specs.Lines.{most_items}
 use Rattle.text.proofs.Bounds.{item-few, longest-bound}
-use Rattle.text.proofs.Counted.{Counted, counted_start, counted-sum, counted_next, counted-end}
+use Rattle.text.proofs.Counted.{counted_start, counted-sum, counted_next, counted-end}
 use Rattle.text.proofs.ItemsInLine.{line-next, line-end, ended-size}
 use Rattle.text.proofs.lines.measure.Goals as goal
 use Rattle.text.proofs.lines.measure.Goals.{Start}

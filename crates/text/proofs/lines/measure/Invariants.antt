@@ -1,12 +1,7 @@
 use Prim.Native.Nat.{◌-◌}
-use mathlib.Core.Path.{◌≡◌, sym, ◌∙◌}
-use native.Mathlib.Omega.{arith}
-use borrow.Author.Rules.{rules}
-use lib.ListN.{length, drop, length-map}
-use Rattle.text.specs.Lines.{most_items, line_of, items_of}
-use Rattle.text.proofs.Bounds.{item-few, longest-bound}
-use Rattle.text.proofs.Counted.{Counted, counted_start, counted-sum, counted_next, counted-end}
-use Rattle.text.proofs.ItemsInLine.{line-next, line-end, ended-size}
+use lib.ListN.{drop}
+use Rattle.text.specs.Lines.{line_of, items_of}
+use Rattle.text.proofs.Counted.{Counted}
 use Rattle.text.proofs.lines.measure.Given as goal
 
 abbrev pub invariant-loop-i : goal.invariant-loop-i

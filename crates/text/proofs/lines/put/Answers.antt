@@ -1,7 +1,5 @@
 -- `put` meets its contract: the line is measured first, and only then put. Assumes nothing.
 use native.Mathlib.Omega.{arith}
-use borrow.Author.Rules.{rules}
-use lib.ListN.{length}
 use Rattle.text.specs.Lines.{line_of, items_of}
 use Rattle.text.proofs.Outcomes.{line-short, line-done}
 use Rattle.text.proofs.lines.put.Goals as goal

@@ -1,7 +1,6 @@
 -- `put_ended` meets its contract: one more byte after the item. Assumes nothing.
 use mathlib.Core.Path.{◌≡◌}
 use native.Mathlib.Omega.{arith}
-use borrow.Author.Rules.{rules}
 use Rattle.common.specs.Choice.{pick}
 use Rattle.text.proofs.Ended.{item-fits, end_fits, ended, ended-length}
 use Rattle.text.proofs.lines.put_ended.Goals as goal

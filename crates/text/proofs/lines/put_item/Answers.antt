@@ -1,6 +1,5 @@
 -- `put_item` meets its contract: in each arm, the item is what was put. Assumes nothing.
 use native.Mathlib.Omega.{arith}
-use borrow.Author.Rules.{rules}
 use Rattle.text.proofs.Ended.{number_is, word-is, name-is, letter-fits, letter-within, rule_fits, rule-sum, rule-put, rule-length}
 use Rattle.text.proofs.lines.put_item.Goals as goal
 

@@ -1,11 +1,9 @@
 -- `put_items` meets its contract. What was put, and the items from the i-th on, are the line. Assumes nothing.
-use Prim.Native.Nat.{◌-◌}
-use mathlib.Core.Path.{◌≡◌, sym, ◌∙◌}
+use mathlib.Core.Path.{◌≡◌}
 use native.Mathlib.Omega.{arith}
-use borrow.Author.Rules.{rules}
-use lib.ListN.{length, drop, length-map}
-use Rattle.common.proofs.PutLoop.{Going, going_start, going-length, going-within, going_end, next_fits, going-sum, going_next}
-use Rattle.text.specs.Lines.{most_items, line_of, items_of}
+use lib.ListN.{length}
+use Rattle.common.proofs.PutLoop.{going_start, going-length, going-within, going_end, next_fits, going-sum, going_next}
+use Rattle.text.specs.Lines.{most_items}
 use Rattle.text.proofs.ItemsInLine.{line-next, line-end}
 use Rattle.text.proofs.lines.put_items.Goals as goal
 use Rattle.text.proofs.lines.put_items.Goals.{Start}

@@ -1,7 +1,6 @@
 -- `size` meets its contract: in each arm, the item has as many bytes. Assumes nothing.
 use mathlib.Core.Path.{◌∙◌}
 use native.Mathlib.Omega.{arith}
-use borrow.Author.Rules.{rules}
 use Rattle.text.proofs.Bounds.{number-few}
 use Rattle.text.proofs.Ended.{number_is, word-is, name-is, rule-size}
 use Rattle.text.proofs.TextParts.{stands-length}

@@ -1,10 +1,7 @@
 -- `copy` meets its contract. The first i bytes of the word stand at the front, and after them what was there. Assumes nothing.
-use Prim.Native.Nat.{◌-◌, ◌≤◌}
-use mathlib.Core.Path.{◌≡◌, refl}
-use mathlib.Core.List.{◌++◌}
+use mathlib.Core.Path.{refl}
 use native.Mathlib.Omega.{arith}
-use borrow.Author.Rules.{rules}
-use lib.ListN.{length, take, drop, length-set}
+use lib.ListN.{length-set}
 use Rattle.text.proofs.Copied.{copied_next, copied}
 use Rattle.text.proofs.words.copy.Goals as goal
 

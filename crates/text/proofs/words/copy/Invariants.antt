@@ -1,10 +1,7 @@
 use Prim.Native.Nat.{◌-◌, ◌≤◌}
-use mathlib.Core.Path.{◌≡◌, refl}
+use mathlib.Core.Path.{◌≡◌}
 use mathlib.Core.List.{◌++◌}
-use native.Mathlib.Omega.{arith}
-use borrow.Author.Rules.{rules}
-use lib.ListN.{length, take, drop, length-set}
-use Rattle.text.proofs.Copied.{copied_next, copied}
+use lib.ListN.{length, take, drop}
 use Rattle.text.proofs.words.copy.Given as goal
 
 abbrev pub invariant-loop-i : goal.invariant-loop-i

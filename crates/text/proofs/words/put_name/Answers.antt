@@ -1,5 +1,4 @@
 -- `put_name` meets its contract: the name is the part of the text that was put. Assumes nothing.
-use borrow.Author.Rules.{rules}
 use Rattle.types.specs.Letters.{letters}
 use Rattle.types.specs.Table.{messages}
 use Rattle.text.specs.Parts.{in_one_text, names_text}

@@ -1,5 +1,4 @@
 -- `put_word` meets its contract: the word is the part of the text that was put. Assumes nothing.
-use borrow.Author.Rules.{rules}
 use Rattle.types.specs.Letters.{letters}
 use Rattle.text.specs.Words.{word_of}
 use Rattle.text.specs.Parts.{words, in_one_text, words_text}

@@ -1,6 +1,5 @@
 -- `word_part` meets its contract: in each arm, the part is the word. Assumes nothing.
 use mathlib.Core.Path.{refl}
-use borrow.Author.Rules.{rules}
 use Rattle.types.specs.Letters.{letters}
 use Rattle.text.specs.Words.{word_of}
 use Rattle.text.specs.Parts.{words, in_one_text, words_text}
