@@ -26,4 +26,4 @@ pub returns : goal.returns
 unfolding largest
 returns c =
     behind-whole _ (Tracked c.args.track ∷ Number c.args.status ∷ [])
-        (Number c.in-Whole.group ∷ Number c.in-Whole-read_number.object ∷ []) (search going depth 20)
+    (Number c.in-Whole.group ∷ Number c.in-Whole-read_number.object ∷ []) (search going depth 20)

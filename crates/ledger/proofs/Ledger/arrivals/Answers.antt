@@ -30,7 +30,7 @@ loop-k-preserved c =
       c.loop-k.invariant.1,
       omega arith,
       elim c.if-n-eq0.branch [
-        then-n-eq0+in-At w ↦ rw (w.l-is, w.n-is) (counted-turn g h (omega arith) first w.if-n-eq0.true w.find_name.ensures w.in-At.is w.arrive-came.result w.arrive-came.ensures w.left.ensures w.arrived_number-n.ensures)
+        | then-n-eq0+in-At w ↦ rw (w.l-is, w.n-is) (counted-turn g h (omega arith) first w.if-n-eq0.true w.find_name.ensures w.in-At.is w.arrive-came.result w.arrive-came.ensures w.left.ensures w.arrived_number-n.ensures)
         | then-n-eq0+in_default w ↦ rw (w.l-is, w.n-is) (missed-turn g h (omega arith) first w.if-n-eq0.true w.find_name.ensures w.in_default.is)
         | else-n-eq0 w ↦ rw (w.l-is, w.n-is) (stopped-turn g h (omega arith) first w.if-n-eq0.false)
       ],

@@ -10,7 +10,7 @@ use Rattle.ledger_calls.proofs.calls.start.Goals.{Joined-part-eq0, then-part-eq0
 -- the part that its number names
 which : (c : Joined-part-eq0) → c.if-part-eq0.own ≡ part_named c.args.part
 which c = elim c.if-part-eq0.branch [
-  then-part-eq0 w ↦ part-first w.if-part-eq0.true w.own-is
+  | then-part-eq0 w ↦ part-first w.if-part-eq0.true w.own-is
   | else-part-eq0 w ↦ part-second _ w.if-part-eq0.false w.own-is
 ]
 

@@ -31,5 +31,11 @@ returns-in-6 c = rw c.in-6.is
 pub returns-in_default : goal.returns-in_default
 unfolding rule_named
 returns-in_default c =
-    rw (ne_eqb c.args.n 1 (λ e. omega arith), ne_eqb c.args.n 2 (λ e. omega arith), ne_eqb c.args.n 3 (λ e. omega arith),
-    ne_eqb c.args.n 4 (λ e. omega arith), ne_eqb c.args.n 5 (λ e. omega arith), ne_eqb c.args.n 6 (λ e. omega arith))
+    rw (
+      ne_eqb c.args.n 1 (λ e. omega arith),
+      ne_eqb c.args.n 2 (λ e. omega arith),
+      ne_eqb c.args.n 3 (λ e. omega arith),
+      ne_eqb c.args.n 4 (λ e. omega arith),
+      ne_eqb c.args.n 5 (λ e. omega arith),
+      ne_eqb c.args.n 6 (λ e. omega arith),
+    )
