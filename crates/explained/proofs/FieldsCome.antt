@@ -34,7 +34,7 @@ use Rattle.parts.specs.declared.Place.{Place}
 use Rattle.parts.specs.declared.Stage.{Stage}
 use Rattle.parts.specs.declared.Stage.TheVariants.{TypeNumber as AtType, Length as AtLength, Refused as Stopped, Field as AtField, Content as AtContent, Entry as AtEntry, EntryLength as AtEntryLength, EntryContent as AtEntryContent, NameLength as AtName}
 use Rattle.parts.specs.declared.Cursor.{Cursor}
-use Rattle.explained.specs.Grammar.{Parts, end, a_number, some_bytes, within, entry_parts, list_parts, field_parts, parts_of}
+use Rattle.explained.specs.Grammar.{Parts, a_number, some_bytes, within, entry_parts, list_parts, field_parts, parts_of}
 use Rattle.explained.proofs.ComingParts.{cut_of, Stands, Comes, ends, stops, reads, looks, takes}
 use Rattle.explained.proofs.PlacesReached.{Reached, reached-true, reached-false, reached-next, Shallow}
 

@@ -12,7 +12,7 @@ use Rattle.common.specs.Choice.{guard}
 use Rattle.integer.specs.Integer.{greatest}
 use Rattle.field.specs.Outcome.{Outcome, whole, on_found}
 use Rattle.field.specs.Entries.{size, longest_track, number_at, text_at, numbered_at, entry_at, most_of, entries_at, Listed, list_at}
-use Rattle.field.specs.Fields.{FieldForm, bytes}
+use Rattle.field.specs.Fields.{FieldForm}
 use Rattle.field.specs.declared.Span.{Span}
 use Rattle.field.specs.declared.Entry.{Entry}
 use Rattle.field.specs.declared.Kind.{Kind}

@@ -8,7 +8,6 @@ use Rattle.outline.specs.declared.Form.TheVariants.{Integer, Byte as AByte, Byte
 use Rattle.outline.specs.declared.Ahead.{Ahead}
 use Rattle.outline.specs.declared.Ahead.TheVariants.{Field, Done, Forbidden}
 use Rattle.parts.specs.Cursors.{ahead_by}
-use Rattle.parts.specs.declared.What.{What}
 use Rattle.parts.specs.declared.What.TheVariants.{Number as ANumber, Length as ALength, Content as TheContent, Count as ACount, EntryNumber as TheEntryNumber, EntryLength as TheEntryLength, EntryContent as TheEntryContent}
 use Rattle.parts.specs.declared.Stage.{Stage}
 use Rattle.parts.specs.declared.Stage.TheVariants.{TypeNumber as AtType, Length as AtLength, Refused as Stopped, Field as AtField, Content, Entry, EntryLength, EntryContent, NameLength}

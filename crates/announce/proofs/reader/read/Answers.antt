@@ -1,5 +1,4 @@
 -- `read` meets its contract: a namespace, and what its kind asks for after it. Assumes nothing.
-use borrow.Author.Rules.{rules}
 use Rattle.layout.proofs.Family.{typed_no, typed-on}
 use Rattle.layout.proofs.Steps.{stopping, going}
 use Rattle.types.specs.Announces.{named}

@@ -1,5 +1,4 @@
 -- `read_rest` meets its contract, by the kind. Assumes nothing.
-use borrow.Author.Rules.{rules}
 use Rattle.layout.specs.Layout.{parameters}
 use Rattle.layout.proofs.Steps.{stopping, going}
 use Rattle.announce.specs.AfterNamespace.{rest}

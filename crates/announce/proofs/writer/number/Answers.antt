@@ -1,5 +1,4 @@
 -- `number` meets its contract. Assumes nothing.
-use borrow.Author.Rules.{rules}
 use Rattle.common.proofs.Telling.{told_of}
 use Rattle.announce.specs.Told.{typed_of}
 use Rattle.announce.proofs.writer.number.Goals as goal

@@ -1,5 +1,4 @@
 -- `complete` meets its contract. Assumes nothing.
-use borrow.Author.Rules.{rules}
 use Rattle.fetch.proofs.parameters.complete.Goals as goal
 
 pub returns-in-Fetch : goal.returns-in-Fetch

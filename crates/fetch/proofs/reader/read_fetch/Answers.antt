@@ -1,5 +1,4 @@
 -- `read_fetch` meets its contract. Assumes nothing.
-use borrow.Author.Rules.{rules}
 use Rattle.layout.proofs.Family.{typed_no, typed-on}
 use Rattle.layout.proofs.Steps.{stopping, going}
 use Rattle.types.specs.Fetches.{fetch}

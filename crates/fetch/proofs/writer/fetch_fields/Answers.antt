@@ -1,5 +1,4 @@
 -- `fetch_fields` meets its contract. Assumes nothing.
-use borrow.Author.Rules.{rules}
 use mathlib.Core.Path.{◌∙◌}
 use Rattle.fetch.proofs.writer.fetch_fields.Goals as goal
 

@@ -1,5 +1,4 @@
 -- `is_allowed` meets its contract. Assumes nothing.
-use borrow.Author.Rules.{rules}
 use Rattle.common.proofs.Telling.{told_of}
 use Rattle.layout.specs.Layout.{failure}
 use Rattle.layout.specs.Allowed.{allowed}

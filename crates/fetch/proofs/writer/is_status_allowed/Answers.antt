@@ -1,5 +1,4 @@
 -- `is_status_allowed` meets its contract. Assumes nothing.
-use borrow.Author.Rules.{rules}
 use Rattle.fetch.proofs.Allows.{status-no, group-no, object-is}
 use Rattle.fetch.proofs.writer.is_status_allowed.Goals as goal
 

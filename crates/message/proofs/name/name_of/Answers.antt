@@ -1,5 +1,4 @@
 -- `name_of` meets its contract, by the family that the message is of. Assumes nothing.
-use borrow.Author.Rules.{rules}
 use Rattle.message.proofs.name.name_of.Goals as goal
 
 pub returns-in-Announce : goal.returns-in-Announce

@@ -1,5 +1,4 @@
 -- `filled` meets its contract. Assumes nothing.
-use borrow.Author.Rules.{rules}
 use Rattle.message.proofs.BodyEnd.{filling-whole, filling-over, filling-cut, filling-forbidden, filling-oversize}
 use Rattle.message.proofs.reader.filled.Goals as goal
 

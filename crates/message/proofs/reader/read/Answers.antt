@@ -1,5 +1,4 @@
 -- `read` meets its contract: each answer in its turn. Assumes nothing.
-use borrow.Author.Rules.{rules}
 use Rattle.message.proofs.Answers.{number-ends, body-there, reads_nothing, reads-unknown, reads-no-length, reads-too-long, reads_short, reads-body}
 use Rattle.message.proofs.reader.read.Goals as goal
 

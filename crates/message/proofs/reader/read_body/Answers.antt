@@ -1,5 +1,4 @@
 -- `read_body` meets its contract: each kind by its family's reader. Assumes nothing.
-use borrow.Author.Rules.{rules}
 use Rattle.message.proofs.Bodies.{as-subscription, as-fetch, as-announce, as-session}
 use Rattle.message.proofs.reader.read_body.Goals as goal
 

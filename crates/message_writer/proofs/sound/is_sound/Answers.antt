@@ -1,5 +1,4 @@
 -- `is_sound` meets its contract. Assumes nothing.
-use borrow.Author.Rules.{rules}
 use Rattle.message_writer.proofs.Sounding.{unsound, by-numbers}
 use Rattle.message_writer.proofs.sound.is_sound.Goals as goal
 

@@ -1,5 +1,4 @@
 -- `fields` meets its contract: each family gives its own. Assumes nothing.
-use borrow.Author.Rules.{rules}
 use Rattle.common.proofs.Telling.{told_of}
 use Rattle.measure.specs.Fields.{placed}
 use Rattle.message.specs.Types.{typed_of}

@@ -1,5 +1,4 @@
 -- `is_allowed` meets its contract. Assumes nothing.
-use borrow.Author.Rules.{rules}
 use Rattle.message_writer.proofs.Allows.{by-subscription, by-fetch, is-announce, is-session}
 use Rattle.message_writer.proofs.writer.is_allowed.Goals as goal
 

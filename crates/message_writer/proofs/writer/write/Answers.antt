@@ -1,5 +1,4 @@
 -- `write` meets its contract: the fields of each family are framed. Assumes nothing.
-use borrow.Author.Rules.{rules}
 use Rattle.common.proofs.Telling.{told_of}
 use Rattle.measure.specs.Fields.{placed}
 use Rattle.message.specs.Types.{typed_of}

@@ -1,5 +1,4 @@
 -- `with_parameters` meets its contract. Assumes nothing.
-use borrow.Author.Rules.{rules}
 use native.Mathlib.Omega.{arith}
 use Rattle.common.proofs.Parts.{to_end}
 use Rattle.layout.specs.Layout.{parameters}

@@ -1,5 +1,4 @@
 -- `fetch_cancel` meets its contract. Assumes nothing.
-use borrow.Author.Rules.{rules}
 use native.Mathlib.Omega.{arith}
 use lib.ListN.{drop}
 use Rattle.types.specs.Fetches.{fetch_cancel}

@@ -1,5 +1,4 @@
 -- `fetch_ok` meets its contract. Assumes nothing.
-use borrow.Author.Rules.{rules}
 use native.Mathlib.Omega.{arith}
 use lib.ListN.{drop, get_or}
 use Rattle.common.proofs.Parts.{to_end}

@@ -1,9 +1,7 @@
 -- `largest` meets its contract. Assumes nothing.
-use borrow.Author.Rules.{rules}
 use native.Mathlib.Omega.{arith}
 use lib.ListN.{drop, get_or}
 use mathlib.Core.Path.{sym, ◌∙◌}
-use Prim.Native.Nat.{ℕ}
 use mathlib.Core.List.{[], ◌∷◌}
 use Rattle.field.specs.Fields.{integer}
 use Rattle.layout.specs.Layout.{field, when, done, forbidden}

@@ -1,6 +1,5 @@
 -- `datagram_status` meets its contract. Assumes nothing.
 use mathlib.Core.Path.{◌∙◌}
-use borrow.Author.Rules.{rules}
 use native.Mathlib.Omega.{arith}
 use Rattle.common.proofs.Parts.{to_end}
 use Rattle.layout.specs.Layout.{place}

@@ -1,5 +1,4 @@
 -- `subgroup_header` meets its contract. Assumes nothing.
-use borrow.Author.Rules.{rules}
 use native.Mathlib.Omega.{arith}
 use lib.ListN.{drop}
 use Rattle.header.specs.Layouts.{subgroup_header}

@@ -1,5 +1,4 @@
 -- `look_ahead` meets its contract, by what is laid out. Assumes nothing.
-use borrow.Author.Rules.{rules}
 use Rattle.outline.specs.Places.{laid_out, ahead_at}
 use Rattle.outline.proofs.laid.look_ahead.Goals as goal
 

@@ -1,11 +1,9 @@
 -- `message` meets its contract: in each arm, the layout is that of the type's row. Assumes nothing.
-use mathlib.Core.Path.{refl, sym, ap, ◌∙◌}
+use mathlib.Core.Path.{refl}
 use mathlib.Core.List.{map}
 use borrow.Author.Rules.{rules}
-use Rattle.layout.specs.Layout.{Layout}
 use Rattle.types.specs.Table.{TypeRow, messages, type_row_in, type_row_of, layout_of}
 use Rattle.types.proofs.Gaps.{layoutless-missed}
-use Rattle.outline.specs.Places.{rest_of, ahead_of}
 use Rattle.outline.proofs.OneByOne.{forbidden-ahead}
 use Rattle.outline.proofs.laid.message.Goals as goal
 

@@ -1,5 +1,4 @@
 -- `largest_place` meets its contract. Assumes nothing.
-use borrow.Author.Rules.{rules}
 use native.Mathlib.Omega.{arith}
 use Rattle.layout.specs.Layout.{place, parameters, largest_place}
 use Rattle.outline.specs.Places.{rest_of, ahead_of}

@@ -1,5 +1,4 @@
 -- `id_only` meets its contract. Assumes nothing.
-use borrow.Author.Rules.{rules}
 use native.Mathlib.Omega.{arith}
 use lib.ListN.{drop}
 use Rattle.types.specs.Subscriptions.{id_only}

@@ -1,6 +1,5 @@
 -- `subscribe` meets its contract. Assumes nothing.
 use mathlib.Core.Path.{refl}
-use borrow.Author.Rules.{rules}
 use native.Mathlib.Omega.{arith}
 use Rattle.common.proofs.Parts.{to_end}
 use Rattle.types.specs.Subscriptions.{subscribe}

@@ -1,5 +1,4 @@
 -- `subscribe_done` meets its contract. Assumes nothing.
-use borrow.Author.Rules.{rules}
 use native.Mathlib.Omega.{arith}
 use lib.ListN.{drop}
 use Rattle.types.specs.Subscriptions.{subscribe_done}

@@ -1,5 +1,4 @@
 -- `advance` meets its contract. Assumes nothing.
-use borrow.Author.Rules.{rules}
 use mathlib.Core.Path.{refl}
 use Rattle.parts.specs.Advancing.{advanced}
 use Rattle.parts.proofs.LastArms.{goes_on}

@@ -1,5 +1,4 @@
 -- `advance_in` meets its contract. Assumes nothing.
-use borrow.Author.Rules.{rules}
 use Rattle.parts.proofs.advancing.advance_in.Goals as goal
 
 pub returns-in-TypeNumber : goal.returns-in-TypeNumber

@@ -1,5 +1,4 @@
 -- `after_entry` meets its contract. Assumes nothing.
-use borrow.Author.Rules.{rules}
 use Rattle.parts.proofs.advancing.after_entry.Goals as goal
 
 pub returns-in-Namespace : goal.returns-in-Namespace

@@ -1,5 +1,4 @@
 -- `after_first` meets its contract. Assumes nothing.
-use borrow.Author.Rules.{rules}
 use Rattle.parts.proofs.advancing.after_first.Goals as goal
 
 pub returns-in-Integer : goal.returns-in-Integer

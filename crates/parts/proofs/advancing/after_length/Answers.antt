@@ -1,5 +1,4 @@
 -- `after_length` meets its contract. Assumes nothing.
-use borrow.Author.Rules.{rules}
 use borrow.Author.Tests.{le-leb, lt-leb}
 use Rattle.parts.specs.Advancing.{after_length}
 use Rattle.parts.proofs.advancing.after_length.Goals as goal

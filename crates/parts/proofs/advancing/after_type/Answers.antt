@@ -1,5 +1,4 @@
 -- `after_type` meets its contract. Assumes nothing.
-use borrow.Author.Rules.{rules}
 use mathlib.Core.Path.{refl, ◌∙◌}
 use Rattle.parts.proofs.LastArms.{no_length}
 use Rattle.parts.proofs.AfterTypes.{typed}

@@ -1,5 +1,4 @@
 -- `bounded` meets its contract. Assumes nothing.
-use borrow.Author.Rules.{rules}
 use borrow.Author.Tests.{le-leb, lt-leb}
 use Rattle.parts.specs.Advancing.{bounded_by}
 use Rattle.parts.proofs.advancing.bounded.Goals as goal

@@ -1,5 +1,4 @@
 -- `counted` meets its contract. Assumes nothing.
-use borrow.Author.Rules.{rules}
 use mathlib.Core.Path.{sym, ◌∙◌}
 use Rattle.parts.specs.Advancing.{counted_by}
 use Rattle.parts.proofs.advancing.counted.Goals as goal

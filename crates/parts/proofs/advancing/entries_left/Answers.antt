@@ -1,5 +1,4 @@
 -- `entries_left` meets its contract. Assumes nothing.
-use borrow.Author.Rules.{rules}
 use mathlib.Core.Path.{◌∙◌}
 use borrow.Author.Tests.{lt-ltb, le-ltb}
 use Rattle.parts.specs.Advancing.{entries_left}

@@ -1,5 +1,4 @@
 -- `typed_as` meets its contract. Assumes nothing.
-use borrow.Author.Rules.{rules}
 use Rattle.parts.proofs.advancing.typed_as.Goals as goal
 
 pub returns-in-Message : goal.returns-in-Message

@@ -1,5 +1,4 @@
 -- `begin` meets its contract. Assumes nothing.
-use borrow.Author.Rules.{rules}
 use Rattle.parts.specs.Cursors.{begin_of}
 use Rattle.parts.proofs.cursors.begin.Goals as goal
 

@@ -1,5 +1,4 @@
 -- `hand_on` meets its contract. Assumes nothing.
-use borrow.Author.Rules.{rules}
 use borrow.Author.Tests.{lt-ltb, le-ltb}
 use Rattle.parts.specs.Cursors.{behind, hand_on}
 use Rattle.parts.proofs.cursors.hand_on.Goals as goal

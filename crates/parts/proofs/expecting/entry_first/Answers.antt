@@ -1,5 +1,4 @@
 -- `entry_first` meets its contract. Assumes nothing.
-use borrow.Author.Rules.{rules}
 use Rattle.parts.proofs.expecting.entry_first.Goals as goal
 
 pub returns-in-Namespace : goal.returns-in-Namespace

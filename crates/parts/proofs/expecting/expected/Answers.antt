@@ -1,5 +1,4 @@
 -- `expected` meets its contract. Assumes nothing.
-use borrow.Author.Rules.{rules}
 use Rattle.parts.specs.Expecting.{expected_of}
 use Rattle.parts.proofs.LastArms.{asked-for}
 use Rattle.parts.proofs.expecting.expected.Goals as goal

@@ -1,5 +1,4 @@
 -- `expected_ahead` meets its contract. Assumes nothing.
-use borrow.Author.Rules.{rules}
 use Rattle.parts.proofs.expecting.expected_ahead.Goals as goal
 
 pub returns-in-Field : goal.returns-in-Field

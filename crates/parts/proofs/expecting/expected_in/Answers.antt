@@ -1,5 +1,4 @@
 -- `expected_in` meets its contract. Assumes nothing.
-use borrow.Author.Rules.{rules}
 use mathlib.Core.Path.{◌∙◌}
 use Rattle.parts.proofs.LastArms.{begins}
 use Rattle.parts.proofs.expecting.expected_in.Goals as goal

@@ -1,5 +1,4 @@
 -- `first` meets its contract. Assumes nothing.
-use borrow.Author.Rules.{rules}
 use Rattle.parts.proofs.expecting.first.Goals as goal
 
 pub returns-in-Integer : goal.returns-in-Integer

@@ -1,5 +1,4 @@
 -- `cut` meets its contract. Assumes nothing.
-use borrow.Author.Rules.{rules}
 use Rattle.parts.specs.Telling.{cut_in}
 use Rattle.parts.proofs.telling.cut.Goals as goal
 

@@ -1,5 +1,4 @@
 -- `cut_number` meets its contract. Assumes nothing.
-use borrow.Author.Rules.{rules}
 use Rattle.parts.proofs.LastArms.{no_more}
 use Rattle.parts.proofs.telling.cut_number.Goals as goal
 

@@ -1,5 +1,4 @@
 -- `must_fill` meets its contract. Assumes nothing.
-use borrow.Author.Rules.{rules}
 use Rattle.parts.proofs.telling.must_fill.Goals as goal
 
 pub returns-in-Datagram : goal.returns-in-Datagram

@@ -1,5 +1,4 @@
 -- `tell` meets its contract. Assumes nothing.
-use borrow.Author.Rules.{rules}
 use Rattle.parts.specs.Telling.{tell_in}
 use Rattle.parts.proofs.telling.tell.Goals as goal
 

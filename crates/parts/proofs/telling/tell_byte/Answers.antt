@@ -1,5 +1,4 @@
 -- `tell_byte` meets its contract. Assumes nothing.
-use borrow.Author.Rules.{rules}
 use native.Mathlib.Omega.{arith}
 use borrow.Author.Tests.{lt-ltb, le-ltb}
 use Rattle.parts.specs.Telling.{tell_byte}

@@ -1,5 +1,4 @@
 -- `tell_bytes` meets its contract. Assumes nothing.
-use borrow.Author.Rules.{rules}
 use borrow.Author.Tests.{le-leb, lt-leb}
 use Rattle.parts.specs.Telling.{tell_bytes}
 use Rattle.parts.proofs.telling.tell_bytes.Goals as goal

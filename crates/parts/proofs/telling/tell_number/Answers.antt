@@ -1,5 +1,4 @@
 -- `tell_number` meets its contract. Assumes nothing.
-use borrow.Author.Rules.{rules}
 use Rattle.field.proofs.TwoReads.{number-there, number-missing}
 use Rattle.parts.specs.Telling.{tell_number}
 use Rattle.parts.proofs.telling.tell_number.Goals as goal

@@ -1,7 +1,6 @@
 -- `fetch_object` meets its contract. Assumes nothing.
 use mathlib.Core.Path.{sym, ap, ◌∙◌}
 use native.Mathlib.Omega.{arith}
-use borrow.Author.Rules.{rules}
 use Rattle.header.specs.Told.{told_fetch_object}
 use Rattle.rewrite.proofs.Again as again
 use Rattle.rewrite.proofs.headers.fetch_object.Goals as goal

@@ -1,7 +1,6 @@
 -- `control` meets its contract. Assumes nothing.
 use mathlib.Core.Path.{sym, ap, ◌∙◌}
 use native.Mathlib.Omega.{arith}
-use borrow.Author.Rules.{rules}
 use Rattle.message.specs.Reading.{told}
 use Rattle.rewrite.proofs.Again as again
 use Rattle.rewrite.proofs.messages.control.Goals as goal

@@ -1,7 +1,6 @@
 -- `tell` meets its contract. Assumes nothing.
 use mathlib.Core.Path.{refl}
 use native.Mathlib.Omega.{arith}
-use borrow.Author.Rules.{rules}
 use lib.ListN.{length-set}
 use Rattle.rewrite.specs.Ends.{end_number, end_info}
 use Rattle.rewrite.proofs.InfoTold.{three, not_done}

@@ -1,5 +1,4 @@
 -- `name_of` meets its contract, by the case that the message is. Assumes nothing.
-use borrow.Author.Rules.{rules}
 use Rattle.subscription.proofs.name.name_of.Goals as goal
 
 pub returns-in-Subscribe : goal.returns-in-Subscribe

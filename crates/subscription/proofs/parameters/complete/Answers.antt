@@ -1,5 +1,4 @@
 -- `complete` meets its contract. Assumes nothing.
-use borrow.Author.Rules.{rules}
 use Rattle.subscription.proofs.parameters.complete.Goals as goal
 
 pub returns-in-SubscribeUpdate : goal.returns-in-SubscribeUpdate

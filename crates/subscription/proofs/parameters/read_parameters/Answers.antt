@@ -1,5 +1,4 @@
 -- `read_parameters` meets its contract. Assumes nothing.
-use borrow.Author.Rules.{rules}
 use Rattle.layout.specs.Layout.{parameters}
 use Rattle.layout.proofs.Family.{behind-no, behind-whole}
 use Rattle.layout.proofs.Steps.{stopping, going}

@@ -1,5 +1,4 @@
 -- `read` meets its contract: each kind by its own reader. Assumes nothing.
-use borrow.Author.Rules.{rules}
 use Rattle.layout.proofs.Family.{by-reader, by-fields, by-fault}
 use Rattle.layout.proofs.Steps.{stopping, going}
 use Rattle.types.specs.Subscriptions.{id_only}

@@ -1,5 +1,4 @@
 -- `read_delivery` meets its contract. Assumes nothing.
-use borrow.Author.Rules.{rules}
 use Rattle.layout.proofs.Family.{behind-no, behind-on}
 use Rattle.layout.proofs.Steps.{stopping, going}
 use Rattle.types.specs.Subscriptions.{delivery}

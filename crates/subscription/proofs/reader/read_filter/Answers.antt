@@ -1,5 +1,4 @@
 -- `read_filter` meets its contract. Assumes nothing.
-use borrow.Author.Rules.{rules}
 use Rattle.layout.proofs.Family.{behind-no, behind-on}
 use Rattle.layout.proofs.Steps.{number-as, number-past-as, stopping, going}
 use Rattle.types.specs.Subscriptions.{filter}

@@ -1,5 +1,4 @@
 -- `fields` meets its contract. Assumes nothing.
-use borrow.Author.Rules.{rules}
 use Rattle.types.proofs.TypedAs.{typed-of}
 use Rattle.measure.specs.Fields.{placed}
 use Rattle.subscription.specs.Told.{typed_of}

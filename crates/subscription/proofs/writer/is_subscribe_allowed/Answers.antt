@@ -1,5 +1,4 @@
 -- `is_subscribe_allowed` meets its contract. Assumes nothing.
-use borrow.Author.Rules.{rules}
 use Rattle.layout.specs.Layout.{place, parameters}
 use Rattle.layout.specs.Allowed.{allowed}
 use Rattle.types.specs.Subscriptions.{filter}

@@ -1,5 +1,4 @@
 -- `ok_fields` meets its contract. Assumes nothing.
-use borrow.Author.Rules.{rules}
 use mathlib.Core.Path.{◌∙◌}
 use Rattle.subscription.proofs.writer.ok_fields.Goals as goal
 

@@ -1,5 +1,4 @@
 -- `subscribe_fields` meets its contract. Assumes nothing.
-use borrow.Author.Rules.{rules}
 use mathlib.Core.Path.{◌∙◌}
 use Rattle.subscription.proofs.writer.subscribe_fields.Goals as goal
 
