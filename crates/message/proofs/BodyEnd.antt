@@ -30,3 +30,6 @@ module _ (end : ℕ) {body : BodyRead} where
 
     pub filling-oversize : f ≡ Oversize → refused 6 ≡ filled_by end (told_body body)
     filling-oversize h = rw (e, h)
+
+-- and these are all
+pub ruleset fillings = (filling-whole, filling-over, filling-cut, filling-forbidden, filling-oversize)

@@ -40,6 +40,7 @@ pub fn read(s: &[u8]) -> Reading
 }
 
 // The body, which must end where the fields do.
+#[tactic(auto, using(crate::proofs::BodyEnd::fillings))]
 fn filled(body: BodyRead, end: usize) -> Reading
     ensures { told result ≡ filled_by end (told_body body) }
 {
