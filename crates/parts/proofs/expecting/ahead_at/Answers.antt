@@ -8,7 +8,7 @@ use Rattle.parts.proofs.expecting.ahead_at.Goals as goal
 pub returns-then-passed-ge-MOST_FIELDS : goal.returns-then-passed-ge-MOST_FIELDS
 unfolding ahead_by
 returns-then-passed-ge-MOST_FIELDS c =
-    rw (take_all c.args.place.passed c.args.place.numbers (omega (arith, c.well_formed.0.1.1.1.0.1.0.1))) c.look_ahead.ensures
+    rw (take_all c.args.place.passed c.args.place.numbers (omega arith)) c.look_ahead.ensures
 
 -- or the first
 pub returns : goal.returns
