@@ -7,6 +7,7 @@ use crate::Writing;
 
 // How many bytes n takes: RFC 9000's table, row by row. The first row whose range has n is that of its shortest form;
 // where none has, n is too great to be written.
+#[tactic(auto, using(crate::proofs::Widths::sizes))]
 pub fn size(n: u64) -> usize
     ensures { result ≡ size_of n }
 {
