@@ -1,5 +1,5 @@
 -- `spelled` meets its contract. The loop has the number that the first i bytes spell. Assumes nothing.
-use Prim.Native.Nat.{◌+◌, ◌*◌, ◌^◌, ◌≤◌, ◌<◌}
+use Prim.Native.Nat.{ℕ, ◌+◌, ◌*◌, ◌^◌, ◌≤◌, ◌<◌}
 use mathlib.Core.Path.{◌≡◌, refl, sym}
 use native.Mathlib.Omega.{arith}
 use lib.Dec.{lit<}
@@ -8,7 +8,6 @@ use lib.Seq.{take_all}
 use Rattle.integer.specs.Integer.{spell}
 use Rattle.integer.proofs.Digits.{spell_next, spell-fits, eight-fit}
 use Rattle.integer.proofs.reader.spelled.Goals as goal
-use Rattle.integer.proofs.reader.spelled.Goals.{After-shared_slice_known-1}
 
 pub loop-i-init : goal.loop-i-init
 unfolding spell
@@ -21,20 +20,18 @@ pub overflow_cast-x : goal.overflow_cast-x
 overflow_cast-x c = omega (arith, c.type_inv.s c.loop-i.i)
 
 -- what the turn makes of the number
-turn : (c : After-shared_slice_known-1) → c.loop-i.number * 256 + get_or c.args.s.now c.loop-i.i 0 < 256 ^ (c.loop-i.i + 1)
-turn c =
-    let l = c.loop-i in
-    spell-fits l.number l.i l.invariant.2 (omega (arith, c.type_inv.s l.i))
-
--- which fits
-fits : (c : After-shared_slice_known-1) → 256 ^ (c.loop-i.i + 1) ≤ 2 ^ 64
-fits c = eight-fit (c.loop-i.i + 1) (omega (arith, c.requires))
+turn : (n i x : ℕ) → n < 256 ^ i → x < 256 → n * 256 + x < 256 ^ (i + 1)
+turn n i x h k = spell-fits n i h k
 
 pub overflow_mul-number : goal.overflow_mul-number
-overflow_mul-number c = omega (arith, turn c, fits c)
+overflow_mul-number c =
+    let l = c.loop-i in
+    omega (arith, turn _ _ (get_or c.args.s.now l.i 0) l.invariant.2 (omega (arith, c.type_inv.s l.i)), eight-fit (l.i + 1) (omega (arith, c.requires)))
 
 pub overflow_add-number : goal.overflow_add-number
-overflow_add-number c = omega (arith, turn c, fits c)
+overflow_add-number c =
+    let l = c.loop-i in
+    omega (arith, turn _ _ (get_or c.args.s.now l.i 0) l.invariant.2 (omega (arith, c.type_inv.s l.i)), eight-fit (l.i + 1) (omega (arith, c.requires)))
 
 pub overflow_add-i : goal.overflow_add-i
 overflow_add-i c = omega arith
@@ -45,7 +42,7 @@ loop-i-smaller c = omega arith
 pub loop-i-preserved : goal.loop-i-preserved
 loop-i-preserved c =
     let l = c.loop-i in
-    (omega arith, rw l.invariant.1 (sym (spell_next _ l.i (omega arith))), turn c)
+    (omega arith, rw l.invariant.1 (sym (spell_next _ l.i (omega arith))), turn _ _ _ l.invariant.2 (omega (arith, c.type_inv.s l.i)))
 
 pub returns : goal.returns
 returns c =

@@ -2,17 +2,8 @@
 use Prim.Native.Nat.{◌+◌, ◌<◌}
 use mathlib.Core.Path.{sym}
 use native.Mathlib.Omega.{arith}
-use lib.ListN.{get_or}
 use Rattle.trace.proofs.Found.{no-head, no_value, there}
 use Rattle.trace.proofs.fields.field_at.Goals as goal
-use Rattle.trace.proofs.fields.field_at.Goals.{After-shared_slice_known-3-1}
-
--- the second byte and the third
-high : (c : After-shared_slice_known-3-1) → get_or c.args.s.now (c.args.at + 1) 0 < 256
-high c = omega (arith, c.shared_slice_known-2-1.given (c.args.at + 1))
-
-low : (c : After-shared_slice_known-3-1) → get_or c.args.s.now (c.args.at + 2) 0 < 256
-low c = omega (arith, c.type_inv.s (c.args.at + 2))
 
 pub returns-then-s-at : goal.returns-then-s-at
 returns-then-s-at c = sym (no-head _ _ (omega arith))
@@ -24,16 +15,16 @@ pub overflow_cast-high : goal.overflow_cast-high
 overflow_cast-high c = omega (arith, c.type_inv.s (c.args.at + 1))
 
 pub overflow_cast-low : goal.overflow_cast-low
-overflow_cast-low c = omega (arith, low c)
+overflow_cast-low c = omega (arith, c.type_inv.s (c.args.at + 2))
 
 pub overflow_mul-size : goal.overflow_mul-size
-overflow_mul-size c = omega (arith, high c)
+overflow_mul-size c = omega (arith, c.type_inv.s (c.args.at + 1))
 
 pub overflow_add-size : goal.overflow_add-size
-overflow_add-size c = omega (arith, high c, low c)
+overflow_add-size c = omega (arith, c.type_inv.s (c.args.at + 1), c.type_inv.s (c.args.at + 2))
 
 pub overflow_add-size-2 : goal.overflow_add-size-2
-overflow_add-size-2 c = omega (arith, high c, low c)
+overflow_add-size-2 c = omega (arith, c.type_inv.s (c.args.at + 1), c.type_inv.s (c.args.at + 2))
 
 pub returns-then-left-size : goal.returns-then-left-size
 returns-then-left-size c = sym (no_value _ _ (omega arith) (omega arith))
