@@ -1,5 +1,4 @@
 -- `put_meaning` meets its contract: what the number means is the part that was put. Assumes nothing.
-use borrow.Author.Rules.{rules}
 use Rattle.types.specs.Letters.{letters}
 use Rattle.text.specs.Parts.{in_one_text}
 use Rattle.labels.specs.Meanings.{meanings, meanings_text}

@@ -1,5 +1,4 @@
 -- `arranged` meets its contract. Assumes nothing.
-use borrow.Author.Rules.{rules}
 use Rattle.labels.proofs.WordsFound.{nothing, number_of, plural, of_length, left_over}
 use Rattle.labels.proofs.naming.arranged.Goals as goal
 

@@ -1,5 +1,4 @@
 -- `label` meets its contract. Assumes nothing.
-use borrow.Author.Rules.{rules}
 use Rattle.labels.proofs.naming.label.Goals as goal
 
 pub returns : goal.returns

@@ -1,6 +1,5 @@
 -- `named` meets its contract: in each arm, the part is the name. Assumes nothing.
 use mathlib.Core.Path.{refl}
-use borrow.Author.Rules.{rules}
 use Rattle.types.specs.Letters.{letters}
 use Rattle.text.specs.Parts.{in_one_text}
 use Rattle.text.proofs.TextParts.{standing}

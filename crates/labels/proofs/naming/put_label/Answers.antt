@@ -1,5 +1,4 @@
 -- `put_label` meets its contract: the label is the three parts that were put. Assumes nothing.
-use borrow.Author.Rules.{rules}
 use Rattle.columns.proofs.Poured.{poured-three}
 use Rattle.labels.specs.Labels.{label_of}
 use Rattle.labels.proofs.PouredParts.{stands-poured}

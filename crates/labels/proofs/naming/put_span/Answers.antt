@@ -1,5 +1,4 @@
 -- `put_span` meets its contract: the code's text is the text of all labels. Assumes nothing.
-use borrow.Author.Rules.{rules}
 use Rattle.types.specs.Letters.{letters}
 use Rattle.text.specs.Parts.{in_one_text}
 use Rattle.labels.specs.Labels.{field_names}

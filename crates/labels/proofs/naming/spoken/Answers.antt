@@ -1,5 +1,4 @@
 -- `spoken` meets its contract. Assumes nothing.
-use borrow.Author.Rules.{rules}
 use Rattle.labels.proofs.WordsFound.{nothing, namespace-field, of_length, of-type, of-value}
 use Rattle.labels.proofs.naming.spoken.Goals as goal
 
