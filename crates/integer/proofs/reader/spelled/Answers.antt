@@ -1,5 +1,5 @@
 -- `spelled` meets its contract. The loop has the number that the first i bytes spell. Assumes nothing.
-use Prim.Native.Nat.{ℕ, ◌+◌, ◌*◌, ◌^◌, ◌≤◌, ◌<◌}
+use Prim.Native.Nat.{ℕ, ◌+◌, ◌*◌, ◌^◌, ◌<◌}
 use mathlib.Core.Path.{◌≡◌, refl, sym}
 use native.Mathlib.Omega.{arith}
 use lib.Dec.{lit<}
@@ -12,9 +12,6 @@ use Rattle.integer.proofs.reader.spelled.Goals as goal
 pub loop-i-init : goal.loop-i-init
 unfolding spell
 loop-i-init c = (omega arith, refl, lit< tt)
-
-pub bounds-s-i : goal.bounds-s-i
-bounds-s-i c = omega arith
 
 pub overflow_cast-x : goal.overflow_cast-x
 overflow_cast-x c = omega (arith, c.type_inv.s c.loop-i.i)
@@ -32,12 +29,6 @@ pub overflow_add-number : goal.overflow_add-number
 overflow_add-number c =
     let l = c.loop-i in
     omega (arith, turn _ _ (get_or c.args.s.now l.i 0) l.invariant.2 (omega (arith, c.type_inv.s l.i)), eight-fit (l.i + 1) (omega (arith, c.requires)))
-
-pub overflow_add-i : goal.overflow_add-i
-overflow_add-i c = omega arith
-
-pub loop-i-smaller : goal.loop-i-smaller
-loop-i-smaller c = omega arith
 
 pub loop-i-preserved : goal.loop-i-preserved
 loop-i-preserved c =

@@ -1,5 +1,5 @@
 -- `field_at` meets its contract: two bytes spell a size that fits. Assumes nothing.
-use Prim.Native.Nat.{◌+◌, ◌<◌}
+use Prim.Native.Nat.{◌+◌}
 use mathlib.Core.Path.{sym}
 use native.Mathlib.Omega.{arith}
 use Rattle.trace.proofs.Found.{no-head, no_value, there}
