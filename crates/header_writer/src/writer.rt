@@ -5,7 +5,8 @@ ghost use Rattle.layout.specs.Allowed.{allowed};
 ghost use Rattle.encode.specs.Writing.{told_writing};
 ghost use Rattle.header.specs.Layouts.{layout_of, datagrams, payload};
 ghost use Rattle.header.specs.Told.{datagram_typed, payload_pieces};
-ghost use Rattle.header_writer.specs.Writing.{datagram_written, stream_written, subgroup_object_written, fetch_object_written};
+ghost use Rattle.header_writer.specs.Writing.{datagram_written, stream_written};
+ghost use Rattle.header_writer.specs.Writing.{subgroup_object_written, fetch_object_written};
 
 use encode::Writing;
 use header::{
