@@ -1,5 +1,5 @@
 -- The bytes from an offset up to another, where both are kept within the bytes. Assumes nothing.
-use Rattle.std.proofs.Common.{◌≡◌, ℕ, zero, suc, ◌-◌, min, List, [], ◌∷◌, length, take, drop, sym, ap, ◌∙◌, arith, drop_of_length-le, take_all}
+use Rattle.std.proofs.Common.{◌≡◌, ℕ, zero, suc, ◌-◌, min, List, [], ◌∷◌, length, take, sym, ap, ◌∙◌, arith, drop_of_length-le, take_all}
 use native.Mathlib.Nat.{zero-min, min-zero, suc-min-suc, suc-sub-suc, sub-zero, zero-sub}
 use Rattle.explanation_lines.specs.Lines.{between}
 

@@ -1,5 +1,5 @@
 -- THE LINES of an explanation: an offset, bytes, and what they are.
-use Rattle.std.specs.Prelude.{ℕ, ◌+◌, ◌-◌, Bool, true, false, List, [], ◌∷◌, ◌++◌, length, ◌==◌, nat_lt, slice_index, slice_range}
+use Rattle.std.specs.Prelude.{ℕ, ◌-◌, Bool, false, List, [], ◌∷◌, ◌++◌, length, ◌==◌, nat_lt, slice_index, slice_range}
 use Rattle.common.specs.Choice.{pick, guard}
 use Rattle.integer.specs.Integer.{size_of, enc_of}
 use Rattle.field.specs.Outcome.{on_found}

@@ -1,5 +1,4 @@
 -- `put_bytes_between` meets its contract. Assumes nothing.
-use Rattle.std.proofs.Common.{rules}
 use Rattle.explanation_lines.proofs.ClampedEnds.{clamped}
 use Rattle.explanation_lines.proofs.clamping.put_bytes_between.Goals as goal
 

@@ -1,5 +1,4 @@
 -- `put_margin` meets its contract. Assumes nothing.
-use Rattle.std.proofs.Common.{rules}
 use Rattle.trace.specs.Fields.{offset_of}
 use Rattle.columns.proofs.Poured.{poured-both}
 use Rattle.explanation_lines.specs.Lines.{margin}

@@ -1,5 +1,4 @@
 -- `put_called` meets its contract. Assumes nothing.
-use Rattle.std.proofs.Common.{rules}
 use Rattle.types.specs.Letters.{letters}
 use Rattle.columns.proofs.Poured.{poured-four}
 use Rattle.explanation_lines.specs.Lines.{called}

@@ -1,5 +1,4 @@
 -- `put_cut_field` meets its contract. Assumes nothing.
-use Rattle.std.proofs.Common.{rules}
 use Rattle.types.specs.Letters.{letters}
 use Rattle.columns.proofs.Poured.{poured-both}
 use Rattle.explanation_lines.specs.Lines.{cut_field_line}

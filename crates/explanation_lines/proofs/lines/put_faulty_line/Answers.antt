@@ -1,5 +1,4 @@
 -- `put_faulty_line` meets its contract. Assumes nothing.
-use Rattle.std.proofs.Common.{rules}
 use Rattle.columns.proofs.Poured.{poured-three}
 use Rattle.explanation_lines.specs.Lines.{faulty_line}
 use Rattle.explanation_lines.proofs.lines.put_faulty_line.Goals as goal

@@ -1,5 +1,4 @@
 -- `put_field_line` meets its contract. Assumes nothing.
-use Rattle.std.proofs.Common.{rules}
 use Rattle.types.specs.Letters.{letters}
 use Rattle.columns.proofs.Poured.{poured-three}
 use Rattle.explanation_lines.specs.Lines.{field_line}

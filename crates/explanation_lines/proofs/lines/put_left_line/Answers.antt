@@ -1,5 +1,5 @@
 -- `put_left_line` meets its contract. Assumes nothing.
-use Rattle.std.proofs.Common.{refl, rules, le-ltb, lt-ltb}
+use Rattle.std.proofs.Common.{refl, le-ltb, lt-ltb}
 use Rattle.columns.proofs.Poured.{poured-end}
 use Rattle.explanation_lines.specs.Lines.{left_line}
 use Rattle.explanation_lines.proofs.lines.put_left_line.Goals as goal

@@ -1,5 +1,4 @@
 -- `put_numbered` meets its contract. Assumes nothing.
-use Rattle.std.proofs.Common.{rules}
 use Rattle.types.specs.Letters.{letters}
 use Rattle.text.specs.Lines.{item_of}
 use Rattle.columns.proofs.Poured.{poured-three}

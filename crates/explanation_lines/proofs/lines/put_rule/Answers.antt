@@ -1,5 +1,5 @@
 -- `put_rule` meets its contract. Assumes nothing.
-use Rattle.std.proofs.Common.{refl, rules, eq-eqb, ne_eqb}
+use Rattle.std.proofs.Common.{refl, eq-eqb, ne_eqb}
 use Rattle.columns.proofs.Poured.{poured-both, poured-end}
 use Rattle.explanation_lines.specs.Lines.{rule_text}
 use Rattle.explanation_lines.proofs.lines.put_rule.Goals as goal

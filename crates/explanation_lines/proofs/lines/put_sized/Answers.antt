@@ -1,5 +1,4 @@
 -- `put_sized` meets its contract. Assumes nothing.
-use Rattle.std.proofs.Common.{rules}
 use Rattle.columns.proofs.Poured.{poured-both}
 use Rattle.explanation_lines.proofs.lines.put_sized.Goals as goal
 

@@ -1,5 +1,5 @@
 -- `put_tag` meets its contract. Assumes nothing.
-use Rattle.std.proofs.Common.{rules, ne_eqb}
+use Rattle.std.proofs.Common.{ne_eqb}
 use Rattle.types.specs.Letters.{letters}
 use Rattle.text.specs.Lines.{item_of}
 use Rattle.columns.proofs.Poured.{poured-both}

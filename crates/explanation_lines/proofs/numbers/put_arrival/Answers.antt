@@ -1,5 +1,4 @@
 -- `put_arrival` meets its contract. Assumes nothing.
-use Rattle.std.proofs.Common.{rules}
 use Rattle.explanation_lines.specs.Lines.{arrival_lines}
 use Rattle.explanation_lines.proofs.NumbersPoured.{number_cut, number-poured}
 use Rattle.explanation_lines.proofs.numbers.put_arrival.Goals as goal

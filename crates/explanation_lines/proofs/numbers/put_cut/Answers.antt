@@ -1,5 +1,4 @@
 -- `put_cut` meets its contract. Assumes nothing.
-use Rattle.std.proofs.Common.{rules}
 use Rattle.columns.proofs.Poured.{poured-both}
 use Rattle.explanation_lines.specs.Lines.{cut_lines}
 use Rattle.explanation_lines.proofs.numbers.put_cut.Goals as goal

@@ -1,5 +1,5 @@
 -- `put_field_value` meets its contract. Assumes nothing.
-use Rattle.std.proofs.Common.{rules, ne_eqb}
+use Rattle.std.proofs.Common.{ne_eqb}
 use Rattle.columns.specs.Pouring.{pour}
 use Rattle.explanation_lines.specs.Lines.{value_lines}
 use Rattle.explanation_lines.proofs.numbers.put_field_value.Goals as goal

@@ -1,5 +1,5 @@
 -- `put_last` meets its contract. Assumes nothing.
-use Rattle.std.proofs.Common.{[], rules}
+use Rattle.std.proofs.Common.{[]}
 use Rattle.explanation_lines.specs.Lines.{number_lines}
 use Rattle.explanation_lines.proofs.NumbersPoured.{number_cut, number-poured}
 use Rattle.explanation_lines.proofs.numbers.put_last.Goals as goal

@@ -1,5 +1,5 @@
 -- `put_start` meets its contract. Assumes nothing.
-use Rattle.std.proofs.Common.{◌<◌, length, arith, rules, lt-ltb}
+use Rattle.std.proofs.Common.{◌<◌, length, arith, lt-ltb}
 use Rattle.types.specs.Letters.{letters}
 use Rattle.text.specs.Lines.{item_of}
 use Rattle.columns.proofs.Poured.{poured-both, poured-three}

@@ -1,5 +1,4 @@
 -- `put_step` meets its contract. Assumes nothing.
-use Rattle.std.proofs.Common.{rules}
 use Rattle.columns.proofs.Poured.{poured-both}
 use Rattle.explanation_lines.proofs.steps.put_step.Goals as goal
 

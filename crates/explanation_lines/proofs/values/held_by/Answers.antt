@@ -1,5 +1,4 @@
 -- `held_by` meets its contract. Assumes nothing.
-use Rattle.std.proofs.Common.{rules}
 use Rattle.explanation_lines.proofs.values.held_by.Goals as goal
 
 pub returns-in-Number : goal.returns-in-Number

@@ -1,5 +1,5 @@
 -- `name_size` meets its contract. Assumes nothing.
-use Rattle.std.proofs.Common.{arith, rules}
+use Rattle.std.proofs.Common.{arith}
 use Rattle.text.specs.Lines.{item_of}
 use Rattle.columns.proofs.ItemAlone.{alone-length}
 use Rattle.explanation_lines.proofs.values.name_size.Goals as goal

@@ -1,5 +1,5 @@
 -- `put_fault` meets its contract. Assumes nothing.
-use Rattle.std.proofs.Common.{sym, ◌∙◌, rules}
+use Rattle.std.proofs.Common.{sym, ◌∙◌}
 use Rattle.types.specs.Letters.{letters}
 use Rattle.explanation_lines.proofs.LeftOrCut.{cut-poured}
 use Rattle.explanation_lines.proofs.values.put_fault.Goals as goal

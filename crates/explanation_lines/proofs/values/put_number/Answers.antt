@@ -1,5 +1,4 @@
 -- `put_number` meets its contract. Assumes nothing.
-use Rattle.std.proofs.Common.{rules}
 use Rattle.text.specs.Lines.{item_of}
 use Rattle.columns.proofs.Poured.{poured-both}
 use Rattle.explanation_lines.specs.Lines.{number_text}

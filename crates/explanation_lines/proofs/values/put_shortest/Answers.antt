@@ -1,5 +1,5 @@
 -- `put_shortest` meets its contract. Assumes nothing.
-use Rattle.std.proofs.Common.{sym, refl, ◌∙◌, arith, length-take-le, rules, eq-eqb, ne_eqb}
+use Rattle.std.proofs.Common.{sym, refl, ◌∙◌, arith, length-take-le, eq-eqb, ne_eqb}
 use Rattle.types.specs.Letters.{letters}
 use Rattle.integer.proofs.Widths.{size_few}
 use Rattle.columns.proofs.Poured.{poured-both, poured-end}

@@ -1,5 +1,5 @@
 -- `put_type` meets its contract. Assumes nothing.
-use Rattle.std.proofs.Common.{◌<◌, length, sym, ◌∙◌, arith, rules, lt-ltb}
+use Rattle.std.proofs.Common.{◌<◌, length, sym, ◌∙◌, arith, lt-ltb}
 use Rattle.types.specs.Letters.{letters}
 use Rattle.types.specs.Table.{name_of}
 use Rattle.text.specs.Lines.{item_of}

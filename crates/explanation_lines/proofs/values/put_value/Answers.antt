@@ -1,5 +1,5 @@
 -- `put_value` meets its contract. Assumes nothing.
-use Rattle.std.proofs.Common.{sym, ◌∙◌, rules}
+use Rattle.std.proofs.Common.{sym, ◌∙◌}
 use Rattle.text.specs.Lines.{item_of}
 use Rattle.explanation_lines.proofs.values.put_value.Goals as goal
 

@@ -1,5 +1,4 @@
 -- `put_word` meets its contract: the word is the part that was put. Assumes nothing.
-use Rattle.std.proofs.Common.{rules}
 use Rattle.types.specs.Letters.{letters}
 use Rattle.text.specs.Parts.{in_one_text}
 use Rattle.explanation_lines.specs.Words.{word_of, words, words_text}

@@ -1,5 +1,5 @@
 -- `word_span` meets its contract: in each arm, the part is the word. Assumes nothing.
-use Rattle.std.proofs.Common.{refl, rules}
+use Rattle.std.proofs.Common.{refl}
 use Rattle.types.specs.Letters.{letters}
 use Rattle.text.proofs.TextParts.{standing}
 use Rattle.text.specs.Parts.{in_one_text}
