@@ -1,5 +1,5 @@
 -- What an arrival at a row comes to. Assumes nothing.
-use mathlib.Core.Path.{◌≡◌, refl, ap, ◌∙◌}
+use mathlib.Core.Path.{◌≡◌, ap, ◌∙◌}
 use mathlib.Core.Bool.{Bool, true, false, not}
 use Rattle.field.specs.declared.Place.{Place}
 use Rattle.common.proofs.Tests.{kept, broken}

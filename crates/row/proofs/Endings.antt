@@ -4,7 +4,6 @@ use mathlib.Core.Bool.{Bool, not}
 use Rattle.row.specs.Rows.{is_pending, may_end}
 use Rattle.row.specs.declared.State.{State}
 use Rattle.row.specs.declared.State.TheVariants.{Pending, Active}
-use Rattle.row.specs.declared.Ending.{Ending}
 use Rattle.row.specs.declared.Ending.TheVariants.{SubscribeError, SubscribeDone}
 
 by-error : (state : State) → is_pending state ≡ may_end SubscribeError state

@@ -1,5 +1,5 @@
 -- "A range is not known yet, open from a place, or closed at a last group."
-use Rattle.std.specs.Prelude.{ℕ, Bool, true, false, not, leb, ltb}
+use Rattle.std.specs.Prelude.{Bool, true, false, not, leb, ltb}
 use Rattle.common.specs.Choice.{pick, both}
 use Rattle.field.specs.declared.Place.{Place}
 use Rattle.subscription.specs.declared.Filter.{Filter}

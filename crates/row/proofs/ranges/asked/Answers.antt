@@ -1,5 +1,4 @@
 -- `asked` meets its contract. Assumes nothing.
-use borrow.Author.Rules.{rules}
 use Rattle.common.proofs.Telling.{told_of}
 use Rattle.row.specs.Ranges.{asked_of}
 use Rattle.row.proofs.ranges.asked.Goals as goal

@@ -1,5 +1,4 @@
 -- `contains` meets its contract. Assumes nothing.
-use borrow.Author.Rules.{rules}
 use mathlib.Core.Path.{ap}
 use mathlib.Core.Bool.{not}
 use Rattle.row.specs.Ranges.{in_range}

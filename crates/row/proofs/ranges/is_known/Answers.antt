@@ -1,5 +1,4 @@
 -- `is_known` meets its contract. Assumes nothing.
-use borrow.Author.Rules.{rules}
 use Rattle.common.proofs.Telling.{told_of}
 use Rattle.row.specs.Ranges.{is_known}
 use Rattle.row.proofs.ranges.is_known.Goals as goal

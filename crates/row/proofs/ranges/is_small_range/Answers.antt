@@ -1,5 +1,4 @@
 -- `is_small_range` meets its contract. Assumes nothing.
-use borrow.Author.Rules.{rules}
 use Rattle.row.specs.Places.{small}
 use Rattle.row.specs.Ranges.{small_range}
 use Rattle.row.proofs.ranges.is_small_range.Goals as goal

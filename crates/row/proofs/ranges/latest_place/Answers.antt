@@ -1,5 +1,4 @@
 -- `latest_place` meets its contract. Assumes nothing.
-use borrow.Author.Rules.{rules}
 use Rattle.common.proofs.Telling.{told_of}
 use Rattle.row.specs.Ranges.{latest}
 use Rattle.row.proofs.ranges.latest_place.Goals as goal

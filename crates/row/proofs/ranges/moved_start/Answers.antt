@@ -1,5 +1,4 @@
 -- `moved_start` meets its contract. Assumes nothing.
-use borrow.Author.Rules.{rules}
 use Rattle.row.proofs.Checks.{checks}
 use Rattle.row.proofs.ranges.moved_start.Goals as goal
 

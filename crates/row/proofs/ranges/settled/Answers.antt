@@ -1,5 +1,4 @@
 -- `settled` meets its contract. Assumes nothing.
-use borrow.Author.Rules.{rules}
 use Rattle.row.specs.Ranges.{settled_of}
 use Rattle.row.proofs.ranges.settled.Goals as goal
 

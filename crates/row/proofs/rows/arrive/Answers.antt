@@ -1,5 +1,4 @@
 -- `arrive` meets its contract. Assumes nothing.
-use borrow.Author.Rules.{rules}
 use Rattle.row.proofs.Counts.{waits, misses, counts}
 use Rattle.row.proofs.rows.arrive.Goals as goal
 

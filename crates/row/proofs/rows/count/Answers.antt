@@ -1,5 +1,4 @@
 -- `count` meets its contract. Assumes nothing.
-use borrow.Author.Rules.{rules}
 use Rattle.row.specs.Rows.{counted_row}
 use Rattle.row.proofs.rows.count.Goals as goal
 

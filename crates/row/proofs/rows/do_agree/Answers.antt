@@ -1,5 +1,4 @@
 -- `do_agree` meets its contract. Assumes nothing.
-use borrow.Author.Rules.{rules}
 use Rattle.row.specs.Rows.{count_agrees}
 use Rattle.row.proofs.rows.do_agree.Goals as goal
 

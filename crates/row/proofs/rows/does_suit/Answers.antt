@@ -1,5 +1,4 @@
 -- `does_suit` meets its contract. Assumes nothing.
-use borrow.Author.Rules.{rules}
 use Rattle.row.specs.Rows.{suits}
 use Rattle.row.proofs.rows.does_suit.Goals as goal
 

@@ -1,5 +1,4 @@
 -- `greater_of` meets its contract. Assumes nothing.
-use borrow.Author.Rules.{rules}
 use Rattle.row.proofs.Checks.{checks}
 use Rattle.row.specs.Rows.{greater}
 use Rattle.row.proofs.rows.greater_of.Goals as goal

@@ -1,5 +1,4 @@
 -- `is_nowhere` meets its contract. Assumes nothing.
-use borrow.Author.Rules.{rules}
 use Rattle.common.proofs.Telling.{told_of}
 use Rattle.row.specs.Rows.{is_nowhere}
 use Rattle.row.proofs.rows.is_nowhere.Goals as goal

@@ -1,5 +1,4 @@
 -- `is_pending` meets its contract. Assumes nothing.
-use borrow.Author.Rules.{rules}
 use Rattle.common.proofs.Telling.{told_of}
 use Rattle.row.specs.Rows.{is_pending}
 use Rattle.row.proofs.rows.is_pending.Goals as goal

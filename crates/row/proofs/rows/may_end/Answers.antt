@@ -1,5 +1,4 @@
 -- `may_end` meets its contract. Assumes nothing.
-use borrow.Author.Rules.{rules}
 use Rattle.row.proofs.Endings.{error-may, done-may}
 use Rattle.row.proofs.rows.may_end.Goals as goal
 

@@ -1,5 +1,4 @@
 -- `open` meets its contract. Assumes nothing.
-use borrow.Author.Rules.{rules}
 use Rattle.row.specs.Rows.{is_pending, open_of}
 use Rattle.row.proofs.rows.open.Goals as goal
 

@@ -1,5 +1,4 @@
 -- `rise` meets its contract. Assumes nothing.
-use borrow.Author.Rules.{rules}
 use Rattle.row.proofs.Checks.{checks}
 use Rattle.row.specs.Rows.{risen}
 use Rattle.row.proofs.rows.rise.Goals as goal
