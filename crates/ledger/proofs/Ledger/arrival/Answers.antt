@@ -1,5 +1,4 @@
 -- `arrival` meets its contract. Assumes nothing.
-use borrow.Author.Rules.{rules}
 use Rattle.ledger.specs.Steps.{arrival_of}
 use Rattle.ledger.proofs.Gates.{stopped, went, went-ledger}
 use Rattle.ledger.proofs.Ledger.arrival.Goals as goal

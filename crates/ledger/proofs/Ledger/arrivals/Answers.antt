@@ -1,14 +1,12 @@
 -- `arrivals` meets its contract: along the run the ledger is what taking the arrivals so far one by one leaves, and the buffer
 -- begins with their numbers. Assumes nothing.
-use Prim.Native.Nat.{◌+◌, ◌-◌, ◌*◌, ◌/◌, ◌≤◌, ◌<◌}
-use mathlib.Core.Path.{◌≡◌, refl, sym, ◌∙◌}
-use mathlib.Core.Logic.{⊎_elim}
+use Prim.Native.Nat.{◌+◌, ◌*◌, ◌<◌}
+use mathlib.Core.Path.{refl, sym, ◌∙◌}
 use native.Mathlib.Omega.{arith}
-use borrow.Author.Rules.{rules}
 use lib.ListN.{length}
 use Rattle.ledger.specs.Ledgers.{most_rows}
 use Rattle.ledger.specs.Arrays.{changed}
-use Rattle.ledger.proofs.RunTurns.{Along, begins, within, stopped-turn, missed-turn, counted-turn, fits, inside, ends, same-long, not-one, no_room}
+use Rattle.ledger.proofs.RunTurns.{begins, within, stopped-turn, missed-turn, counted-turn, fits, inside, ends, same-long, not-one, no_room}
 use Rattle.ledger.proofs.Ledger.arrivals.Goals as goal
 use Rattle.ledger.proofs.Ledger.arrivals.Goals.{In-At, In-loop-k, then-n-eq0+in-At, then-n-eq0+in_default, else-n-eq0}
 

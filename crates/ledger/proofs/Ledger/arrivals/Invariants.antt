@@ -1,13 +1,7 @@
-use Prim.Native.Nat.{◌+◌, ◌-◌, ◌*◌, ◌/◌, ◌≤◌, ◌<◌}
-use mathlib.Core.Path.{◌≡◌, refl}
-use mathlib.Core.Logic.{⊎_elim}
-use native.Mathlib.Omega.{arith}
-use borrow.Author.Rules.{rules}
+use Prim.Native.Nat.{◌-◌, ◌/◌, ◌≤◌}
+use mathlib.Core.Path.{◌≡◌}
 use lib.ListN.{length}
-use Rattle.common.proofs.Tests.{kept, broken}
-use Rattle.ledger.specs.Ledgers.{most_rows}
-use Rattle.ledger.specs.Arrays.{changed}
-use Rattle.ledger.proofs.RunTurns.{Along, begins, within, stopped-turn, missed-turn, counted-turn, fits, inside, ends, same-long, not-one, no_room}
+use Rattle.ledger.proofs.RunTurns.{Along}
 use Rattle.ledger.proofs.Ledger.arrivals.Given as goal
 
 abbrev pub invariant-loop-k : goal.invariant-loop-k

@@ -1,5 +1,4 @@
 -- `malformed` meets its contract. Assumes nothing.
-use borrow.Author.Rules.{rules}
 use mathlib.Core.Path.{refl}
 use Rattle.ledger.specs.Steps.{malformed_of}
 use Rattle.ledger.proofs.Gates.{stopped, went, went-ledger}

@@ -1,5 +1,4 @@
 -- `take` meets its contract. Assumes nothing.
-use borrow.Author.Rules.{rules}
 use mathlib.Core.Path.{ap, ◌∙◌}
 use Rattle.ledger.specs.Views.{view_of, came_of}
 use Rattle.ledger.specs.Steps.{take_of}

@@ -1,11 +1,9 @@
 -- `are_distinct` meets its contract: the rows that are left give what all of them give. Assumes nothing.
-use Prim.Native.Nat.{◌-◌}
-use mathlib.Core.Path.{◌≡◌, sym, ◌∙◌}
+use mathlib.Core.Path.{◌≡◌}
 use native.Mathlib.Omega.{arith}
-use borrow.Author.Rules.{rules}
-use lib.ListN.{length, length-map}
+use lib.ListN.{length}
 use Rattle.ledger.specs.Ledgers.{most_rows}
-use Rattle.ledger.proofs.Checking.{Apart, Lone, are-apart, begins, all_apart, held-twice, held-once, is-apart}
+use Rattle.ledger.proofs.Checking.{are-apart, begins, all_apart, held-twice, held-once, is-apart}
 use Rattle.ledger.proofs.checks.are_distinct.Goals as goal
 use Rattle.ledger.proofs.checks.are_distinct.Goals.{Start}
 

@@ -1,10 +1,5 @@
 use Prim.Native.Nat.{◌-◌}
-use mathlib.Core.Path.{◌≡◌, sym, ◌∙◌}
-use native.Mathlib.Omega.{arith}
-use borrow.Author.Rules.{rules}
-use lib.ListN.{length, length-map}
-use Rattle.ledger.specs.Ledgers.{most_rows}
-use Rattle.ledger.proofs.Checking.{Apart, Lone, are-apart, begins, all_apart, held-twice, held-once, is-apart}
+use Rattle.ledger.proofs.Checking.{Apart, Lone}
 use Rattle.ledger.proofs.checks.are_distinct.Given as goal
 
 abbrev pub invariant-later : goal.invariant-later

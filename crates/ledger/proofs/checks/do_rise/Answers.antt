@@ -1,11 +1,9 @@
 -- `do_rise` meets its contract: the rows that are left give what all of them give. Assumes nothing.
-use Prim.Native.Nat.{◌-◌}
-use mathlib.Core.Path.{◌≡◌, sym, ◌∙◌}
+use mathlib.Core.Path.{◌≡◌}
 use native.Mathlib.Omega.{arith}
-use borrow.Author.Rules.{rules}
-use lib.ListN.{length, length-map}
+use lib.ListN.{length}
 use Rattle.ledger.specs.Ledgers.{most_rows}
-use Rattle.ledger.proofs.Checking.{Rising, rises, not-above, not-below, no-such-row, rises-on, all-rise}
+use Rattle.ledger.proofs.Checking.{rises, not-above, not-below, no-such-row, rises-on, all-rise}
 use Rattle.ledger.proofs.checks.do_rise.Goals as goal
 use Rattle.ledger.proofs.checks.do_rise.Goals.{Start}
 

@@ -1,5 +1,4 @@
 -- `is_bounded` meets its contract. Assumes nothing.
-use borrow.Author.Rules.{rules}
 use Rattle.row.proofs.Checks.{checks}
 use Rattle.row.specs.Places.{small}
 use Rattle.ledger.specs.Ledgers.{bounded}

@@ -1,8 +1,7 @@
 -- `is_ledger` meets its contract. Assumes nothing.
 use mathlib.Core.Path.{◌≡◌, sym, ◌∙◌}
-use borrow.Author.Rules.{rules}
 use borrow.Author.Tests.{eq-eqb}
-use lib.ListN.{length, length-map}
+use lib.ListN.{length}
 use Rattle.row.proofs.Checks.{fails, holds}
 use Rattle.ledger.specs.Ledgers.{most_rows, is_ledger}
 use Rattle.ledger.proofs.Facts.{few-used}

@@ -1,11 +1,9 @@
 -- `is_rest_unused` meets its contract: the rows that are left give what all of them give. Assumes nothing.
-use Prim.Native.Nat.{◌-◌}
-use mathlib.Core.Path.{◌≡◌, sym, ◌∙◌}
+use mathlib.Core.Path.{◌≡◌}
 use native.Mathlib.Omega.{arith}
-use borrow.Author.Rules.{rules}
-use lib.ListN.{length, length-map}
+use lib.ListN.{length}
 use Rattle.ledger.specs.Ledgers.{most_rows}
-use Rattle.ledger.proofs.Checking.{Unused, are-unused, is-used, unused-on, all-unused}
+use Rattle.ledger.proofs.Checking.{are-unused, is-used, unused-on, all-unused}
 use Rattle.ledger.proofs.checks.is_rest_unused.Goals as goal
 use Rattle.ledger.proofs.checks.is_rest_unused.Goals.{Start}
 

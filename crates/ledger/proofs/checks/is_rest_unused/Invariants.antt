@@ -1,10 +1,6 @@
 use Prim.Native.Nat.{◌-◌}
-use mathlib.Core.Path.{◌≡◌, sym, ◌∙◌}
-use native.Mathlib.Omega.{arith}
-use borrow.Author.Rules.{rules}
-use lib.ListN.{length, length-map}
 use Rattle.ledger.specs.Ledgers.{most_rows}
-use Rattle.ledger.proofs.Checking.{Unused, are-unused, is-used, unused-on, all-unused}
+use Rattle.ledger.proofs.Checking.{Unused}
 use Rattle.ledger.proofs.checks.is_rest_unused.Given as goal
 
 abbrev pub invariant-loop-i : goal.invariant-loop-i

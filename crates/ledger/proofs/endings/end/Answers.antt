@@ -1,5 +1,4 @@
 -- `end` meets its contract. Assumes nothing.
-use borrow.Author.Rules.{rules}
 use native.Mathlib.Omega.{arith}
 use Rattle.ledger.specs.Steps.{id_of}
 use Rattle.ledger.proofs.Facts.{ledger-used}

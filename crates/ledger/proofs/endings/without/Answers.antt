@@ -1,11 +1,9 @@
 -- `without` meets its contract: before each turn, the rows so far are those without the freed one. Assumes nothing.
-use Prim.Native.Nat.{◌-◌}
-use mathlib.Core.Path.{◌≡◌, sym, refl, ◌∙◌}
+use mathlib.Core.Path.{◌≡◌, refl}
 use native.Mathlib.Omega.{arith}
-use borrow.Author.Rules.{rules}
-use lib.ListN.{length, length-map}
+use lib.ListN.{length}
 use Rattle.ledger.specs.Ledgers.{most_rows}
-use Rattle.ledger.proofs.RowsMovedUp.{last_row, Moving, moves, moves-on, moved}
+use Rattle.ledger.proofs.RowsMovedUp.{moves, moves-on, moved}
 use Rattle.ledger.proofs.endings.without.Goals as goal
 use Rattle.ledger.proofs.endings.without.Goals.{Start}
 

@@ -1,10 +1,5 @@
 use Prim.Native.Nat.{◌-◌}
-use mathlib.Core.Path.{◌≡◌, sym, refl, ◌∙◌}
-use native.Mathlib.Omega.{arith}
-use borrow.Author.Rules.{rules}
-use lib.ListN.{length, length-map}
-use Rattle.ledger.specs.Ledgers.{most_rows}
-use Rattle.ledger.proofs.RowsMovedUp.{last_row, Moving, moves, moves-on, moved}
+use Rattle.ledger.proofs.RowsMovedUp.{last_row, Moving}
 use Rattle.ledger.proofs.endings.without.Given as goal
 
 abbrev pub invariant-loop-i : goal.invariant-loop-i

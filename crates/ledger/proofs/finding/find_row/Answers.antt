@@ -1,12 +1,9 @@
 -- `find_row` meets its contract: the rows that are left give what all of them give. Assumes nothing.
-use Prim.Native.Nat.{◌-◌}
-use mathlib.Core.Path.{◌≡◌, sym, ◌∙◌}
+use mathlib.Core.Path.{◌≡◌}
 use native.Mathlib.Omega.{arith}
-use borrow.Author.Rules.{rules}
-use lib.ListN.{length, length-map}
+use lib.ListN.{length}
 use Rattle.ledger.specs.Ledgers.{most_rows, held}
-use Rattle.ledger.specs.Arrays.{key_of}
-use Rattle.ledger.proofs.Looking.{Looking, looks, is-here, not-here, nowhere}
+use Rattle.ledger.proofs.Looking.{looks, is-here, not-here, nowhere}
 use Rattle.ledger.proofs.finding.find_row.Goals as goal
 use Rattle.ledger.proofs.finding.find_row.Goals.{Start}
 

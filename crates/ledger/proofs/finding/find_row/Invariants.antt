@@ -1,11 +1,6 @@
 use Prim.Native.Nat.{◌-◌}
-use mathlib.Core.Path.{◌≡◌, sym, ◌∙◌}
-use native.Mathlib.Omega.{arith}
-use borrow.Author.Rules.{rules}
-use lib.ListN.{length, length-map}
-use Rattle.ledger.specs.Ledgers.{most_rows, held}
 use Rattle.ledger.specs.Arrays.{key_of}
-use Rattle.ledger.proofs.Looking.{Looking, looks, is-here, not-here, nowhere}
+use Rattle.ledger.proofs.Looking.{Looking}
 use Rattle.ledger.proofs.finding.find_row.Given as goal
 
 abbrev pub invariant-loop-i : goal.invariant-loop-i

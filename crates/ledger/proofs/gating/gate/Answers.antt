@@ -1,6 +1,5 @@
 -- `gate` meets its contract. Assumes nothing.
 use mathlib.Core.Path.{sym, ◌∙◌}
-use borrow.Author.Rules.{rules}
 use Rattle.ledger.specs.Answers.{stops, gate_of}
 use Rattle.ledger.proofs.gating.gate.Goals as goal
 

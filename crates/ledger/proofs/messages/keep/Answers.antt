@@ -1,5 +1,4 @@
 -- `keep` meets its contract. Assumes nothing.
-use borrow.Author.Rules.{rules}
 use mathlib.Core.Path.{ap, ◌∙◌}
 use Rattle.ledger.specs.Views.{view_of, came_of}
 use Rattle.ledger.proofs.CodePaths.{of-kind, Unkept, other-kind}

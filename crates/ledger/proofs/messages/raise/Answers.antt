@@ -1,5 +1,4 @@
 -- `raise` meets its contract. Assumes nothing.
-use borrow.Author.Rules.{rules}
 use Rattle.ledger.proofs.CodePaths.{not-larger, raised}
 use Rattle.ledger.proofs.messages.raise.Goals as goal
 

@@ -1,5 +1,4 @@
 -- `breaks` meets its contract. Assumes nothing.
-use borrow.Author.Rules.{rules}
 use mathlib.Core.Path.{◌∙◌}
 use Rattle.ledger.proofs.rules.breaks.Goals as goal
 

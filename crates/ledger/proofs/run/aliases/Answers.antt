@@ -1,11 +1,9 @@
 -- `aliases` meets its contract: the names so far are those of the rows. Assumes nothing.
-use Prim.Native.Nat.{◌-◌}
-use mathlib.Core.Path.{◌≡◌, refl, sym, ◌∙◌}
+use mathlib.Core.Path.{◌≡◌, refl}
 use native.Mathlib.Omega.{arith}
-use borrow.Author.Rules.{rules}
-use lib.ListN.{length, length-map}
+use lib.ListN.{length}
 use Rattle.ledger.specs.Ledgers.{most_rows}
-use Rattle.ledger.proofs.AliasesFound.{Named, named-next, all_named}
+use Rattle.ledger.proofs.AliasesFound.{named-next, all_named}
 use Rattle.ledger.proofs.run.aliases.Goals as goal
 use Rattle.ledger.proofs.run.aliases.Goals.{Start}
 

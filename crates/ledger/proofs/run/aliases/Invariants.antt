@@ -1,10 +1,6 @@
 use Prim.Native.Nat.{◌-◌}
-use mathlib.Core.Path.{◌≡◌, refl, sym, ◌∙◌}
-use native.Mathlib.Omega.{arith}
-use borrow.Author.Rules.{rules}
-use lib.ListN.{length, length-map}
 use Rattle.ledger.specs.Ledgers.{most_rows}
-use Rattle.ledger.proofs.AliasesFound.{Named, named-next, all_named}
+use Rattle.ledger.proofs.AliasesFound.{Named}
 use Rattle.ledger.proofs.run.aliases.Given as goal
 
 abbrev pub invariant-loop-i : goal.invariant-loop-i

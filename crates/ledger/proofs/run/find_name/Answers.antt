@@ -1,10 +1,8 @@
 -- `find_name` meets its contract: the names that are left give what all of them give. Assumes nothing.
-use Prim.Native.Nat.{◌-◌}
 use mathlib.Core.Path.{refl}
 use native.Mathlib.Omega.{arith}
-use borrow.Author.Rules.{rules}
 use Rattle.ledger.specs.Runs.{itself}
-use Rattle.ledger.proofs.Looking.{Looking, looks, is-here, not-here, nowhere}
+use Rattle.ledger.proofs.Looking.{looks, is-here, not-here, nowhere}
 use Rattle.ledger.proofs.run.find_name.Goals as goal
 
 pub loop-i-init : goal.loop-i-init

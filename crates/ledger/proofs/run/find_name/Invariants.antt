@@ -1,9 +1,6 @@
 use Prim.Native.Nat.{◌-◌}
-use mathlib.Core.Path.{refl}
-use native.Mathlib.Omega.{arith}
-use borrow.Author.Rules.{rules}
 use Rattle.ledger.specs.Runs.{itself}
-use Rattle.ledger.proofs.Looking.{Looking, looks, is-here, not-here, nowhere}
+use Rattle.ledger.proofs.Looking.{Looking}
 use Rattle.ledger.proofs.run.find_name.Given as goal
 
 abbrev pub invariant-loop-i : goal.invariant-loop-i

@@ -1,6 +1,5 @@
 -- `first` meets its contract. Assumes nothing.
 use mathlib.Core.Path.{sym, ◌∙◌}
-use borrow.Author.Rules.{rules}
 use Rattle.ledger.specs.Answers.{stops}
 use Rattle.ledger.proofs.run.first.Goals as goal
 

@@ -1,5 +1,4 @@
 -- `empty` meets its contract. Assumes nothing.
-use borrow.Author.Rules.{rules}
 use Rattle.ledger.proofs.starting.empty.Goals as goal
 
 pub returns : goal.returns

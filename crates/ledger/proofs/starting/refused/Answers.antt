@@ -1,5 +1,4 @@
 -- `refused` meets its contract. Assumes nothing.
-use borrow.Author.Rules.{rules}
 use Rattle.ledger.proofs.starting.refused.Goals as goal
 
 pub returns : goal.returns

@@ -1,5 +1,4 @@
 -- `add` meets its contract. Assumes nothing.
-use borrow.Author.Rules.{rules}
 use native.Mathlib.Omega.{arith}
 use Rattle.ledger.proofs.Facts.{parts, ledger-used}
 use Rattle.ledger.proofs.CodePaths.{not-higher, not_lower, alias-held, is-full, is-added}

@@ -1,5 +1,4 @@
 -- `no_row` meets its contract. Assumes nothing.
-use borrow.Author.Rules.{rules}
 use mathlib.Core.Path.{◌∙◌}
 use borrow.Author.Tests.{le-leb, lt-leb}
 use Rattle.ledger.specs.Steps.{no_row}

@@ -1,5 +1,4 @@
 -- `with_last` meets its contract. Assumes nothing.
-use borrow.Author.Rules.{rules}
 use mathlib.Core.Path.{refl}
 use Rattle.ledger.specs.Arrays.{added}
 use Rattle.ledger.proofs.subscribing.with_last.Goals as goal

@@ -1,5 +1,4 @@
 -- `with_row` meets its contract. Assumes nothing.
-use borrow.Author.Rules.{rules}
 use mathlib.Core.Path.{refl}
 use Rattle.ledger.specs.Arrays.{changed}
 use Rattle.ledger.proofs.subscribing.with_row.Goals as goal
