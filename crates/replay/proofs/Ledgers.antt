@@ -16,7 +16,6 @@ use Rattle.message.specs.declared.Reading.TheVariants.{Whole, More, Unknown, Too
 use Rattle.row.specs.Places.{small}
 use Rattle.ledger.specs.Ledgers.{most_rows, is_ledger}
 use Rattle.ledger.specs.Steps.{start_of}
-use Rattle.ledger.specs.declared.Ledger.{Ledger}
 use Rattle.ledger.specs.declared.Part.{Part}
 use Rattle.ledger.specs.declared.Part.TheVariants.{Subscriber}
 use Rattle.ledger.proofs.Keeps.{keeps-take, keeps-malformed, keeps-arrival, starts}

@@ -1,5 +1,5 @@
 -- `Progress::advance` meets its contract. Assumes nothing.
-use Rattle.std.proofs.Common.{◌≤◌, length, sym, arith, length-take-le, rules}
+use Rattle.std.proofs.Common.{◌≤◌, length, sym, arith, length-take-le}
 use Rattle.replay.proofs.WhatIsLeft.{at-most-fits, used-fits, moves-fit, advanced}
 use Rattle.replay.proofs.Progress.advance.Goals as goal
 use Rattle.replay.proofs.Progress.advance.Goals.{After-at_most-end}

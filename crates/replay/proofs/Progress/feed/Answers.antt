@@ -1,6 +1,6 @@
 -- `Progress::feed` meets its contract. Assumes nothing.
-use Rattle.std.proofs.Common.{◌-◌, length, refl, ◌∙◌, arith, rules}
-use Rattle.replay.proofs.FieldSteps.{Ahead, last_turn}
+use Rattle.std.proofs.Common.{refl, ◌∙◌, arith, rules}
+use Rattle.replay.proofs.FieldSteps.{last_turn}
 use Rattle.replay.proofs.Progress.feed.Goals as goal
 
 pub loop-used-init : goal.loop-used-init

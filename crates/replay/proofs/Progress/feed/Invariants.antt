@@ -1,5 +1,5 @@
-use Rattle.std.proofs.Common.{◌-◌, length, refl, ◌∙◌, arith, rules}
-use Rattle.replay.proofs.FieldSteps.{Ahead, last_turn}
+use Rattle.std.proofs.Common.{◌-◌, length}
+use Rattle.replay.proofs.FieldSteps.{Ahead}
 use Rattle.replay.proofs.Progress.feed.Given as goal
 
 abbrev pub invariant-loop-used : goal.invariant-loop-used

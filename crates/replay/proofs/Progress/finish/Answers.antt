@@ -1,5 +1,4 @@
 -- `Progress::finish` meets its contract. Assumes nothing.
-use Rattle.std.proofs.Common.{rules}
 use Rattle.replay.specs.Progressing.{finish_of}
 use Rattle.replay.proofs.Progress.finish.Goals as goal
 

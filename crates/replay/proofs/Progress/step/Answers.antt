@@ -1,5 +1,4 @@
 -- `Progress::step` meets its contract. Assumes nothing.
-use Rattle.std.proofs.Common.{rules}
 use Rattle.replay.proofs.FieldSteps.{stepped}
 use Rattle.replay.proofs.Progress.step.Goals as goal
 

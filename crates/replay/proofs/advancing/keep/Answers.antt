@@ -1,5 +1,4 @@
 -- `keep` meets its contract. Assumes nothing.
-use Rattle.std.proofs.Common.{rules}
 use Rattle.replay.proofs.WhatIsLeft.{kept-none, keeps-fit, kept}
 use Rattle.replay.proofs.advancing.keep.Goals as goal
 

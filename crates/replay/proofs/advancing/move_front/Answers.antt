@@ -1,6 +1,6 @@
 -- `move_front` meets its contract: the bytes so far stand at the front, and every byte after them is as it was. Assumes nothing.
-use Rattle.std.proofs.Common.{◌≡◌, ℕ, ◌-◌, ◌≤◌, ◌++◌, take, drop, refl, ap, ◌∙◌, arith}
-use Rattle.replay.proofs.WhatIsLeft.{Moved, moved_more}
+use Rattle.std.proofs.Common.{◌≡◌, ℕ, ◌++◌, take, drop, refl, ap, ◌∙◌, arith}
+use Rattle.replay.proofs.WhatIsLeft.{moved_more}
 use Rattle.replay.proofs.advancing.move_front.Goals as goal
 
 pub loop-i-init : goal.loop-i-init

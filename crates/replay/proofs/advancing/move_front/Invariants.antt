@@ -1,5 +1,5 @@
-use Rattle.std.proofs.Common.{◌≡◌, ℕ, ◌-◌, ◌≤◌, ◌++◌, take, drop, refl, ap, ◌∙◌, arith}
-use Rattle.replay.proofs.WhatIsLeft.{Moved, moved_more}
+use Rattle.std.proofs.Common.{◌-◌, ◌≤◌}
+use Rattle.replay.proofs.WhatIsLeft.{Moved}
 use Rattle.replay.proofs.advancing.move_front.Given as goal
 
 abbrev pub invariant-loop-i : goal.invariant-loop-i

@@ -1,5 +1,4 @@
 -- `arrived` meets its contract. Assumes nothing.
-use Rattle.std.proofs.Common.{rules}
 use Rattle.replay.proofs.Meaning.{arrival-cut, arrival-half, arrival-over, arrival-filled}
 use Rattle.replay.proofs.events.arrived.Goals as goal
 

@@ -1,5 +1,5 @@
 -- `control` meets its contract. Assumes nothing.
-use Rattle.std.proofs.Common.{arith, rules}
+use Rattle.std.proofs.Common.{arith}
 use Rattle.replay.proofs.Meaning.{control-else, control-over, control-filled}
 use Rattle.replay.proofs.events.control.Goals as goal
 

@@ -1,5 +1,5 @@
 -- `event_of` meets its contract. Assumes nothing.
-use Rattle.std.proofs.Common.{sym, ap, ◌∙◌, arith, rules, ne_eqb}
+use Rattle.std.proofs.Common.{sym, ap, ◌∙◌, arith, ne_eqb}
 use Rattle.replay.specs.Events.{as_event, event_of}
 use Rattle.replay.proofs.events.event_of.Goals as goal
 

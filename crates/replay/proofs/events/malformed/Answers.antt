@@ -1,5 +1,4 @@
 -- `malformed` meets its contract. Assumes nothing.
-use Rattle.std.proofs.Common.{rules}
 use Rattle.common.specs.Answer.{number}
 use Rattle.replay.proofs.events.malformed.Goals as goal
 

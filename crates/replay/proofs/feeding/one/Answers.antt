@@ -1,5 +1,5 @@
 -- `one` meets its contract. Assumes nothing.
-use Rattle.std.proofs.Common.{arith, rules}
+use Rattle.std.proofs.Common.{arith}
 use Rattle.replay.proofs.FieldSteps.{stands, no-turn, one-turn}
 use Rattle.replay.proofs.feeding.one.Goals as goal
 

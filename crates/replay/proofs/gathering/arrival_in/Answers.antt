@@ -1,5 +1,5 @@
 -- `arrival_in` meets its contract. Assumes nothing.
-use Rattle.std.proofs.Common.{◌∙◌, rules, eq-eqb, ne_eqb}
+use Rattle.std.proofs.Common.{◌∙◌, eq-eqb, ne_eqb}
 use Rattle.replay.specs.Gathering.{arrival_in}
 use Rattle.replay.proofs.gathering.arrival_in.Goals as goal
 

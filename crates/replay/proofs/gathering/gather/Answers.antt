@@ -1,7 +1,6 @@
 -- `gather` meets its contract: it holds of the arrivals so far. Assumes nothing.
-use Rattle.std.proofs.Common.{◌-◌, ap, arith, length-set, rules}
+use Rattle.std.proofs.Common.{ap, arith, length-set, rules}
 use Rattle.replay.specs.Events.{as_event}
-use Rattle.replay.specs.Gathering.{Gathers}
 use Rattle.replay.proofs.FieldSteps.{stands, gathers-none, gathers-more}
 use Rattle.replay.proofs.gathering.gather.Goals as goal
 

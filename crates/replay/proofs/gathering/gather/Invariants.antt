@@ -1,7 +1,5 @@
-use Rattle.std.proofs.Common.{◌-◌, ap, arith, length-set, rules}
-use Rattle.replay.specs.Events.{as_event}
+use Rattle.std.proofs.Common.{◌-◌}
 use Rattle.replay.specs.Gathering.{Gathers}
-use Rattle.replay.proofs.FieldSteps.{stands, gathers-none, gathers-more}
 use Rattle.replay.proofs.gathering.gather.Given as goal
 
 abbrev pub invariant-loop-count : goal.invariant-loop-count

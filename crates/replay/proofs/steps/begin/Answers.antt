@@ -1,5 +1,5 @@
 -- `begin` meets its contract. Assumes nothing.
-use Rattle.std.proofs.Common.{ap, rules}
+use Rattle.std.proofs.Common.{ap}
 use Rattle.ledger.specs.Answers.{Came}
 use Rattle.row.specs.Places.{small}
 use Rattle.ledger.specs.Steps.{start_of}

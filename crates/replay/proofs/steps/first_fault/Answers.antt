@@ -1,5 +1,4 @@
 -- `first_fault` meets its contract. Assumes nothing.
-use Rattle.std.proofs.Common.{rules}
 use Rattle.replay.proofs.steps.first_fault.Goals as goal
 
 pub returns-in-Empty : goal.returns-in-Empty

@@ -1,5 +1,5 @@
 -- `hear` meets its contract. Assumes nothing.
-use Rattle.std.proofs.Common.{ap, ◌∙◌, rules}
+use Rattle.std.proofs.Common.{ap, ◌∙◌}
 use Rattle.common.proofs.Telling.{told_of}
 use Rattle.replay.specs.Progressing.{goes_on, heard_of}
 use Rattle.replay.proofs.steps.hear.Goals as goal

@@ -1,5 +1,4 @@
 -- `heard` meets its contract. Assumes nothing.
-use Rattle.std.proofs.Common.{rules}
 use Rattle.replay.specs.declared.Stage.TheVariants.{Running}
 use Rattle.replay.proofs.steps.heard.Goals as goal
 

@@ -1,5 +1,5 @@
 -- `is_start` meets its contract. Assumes nothing.
-use Rattle.std.proofs.Common.{◌≡◌, ℕ, false, refl, rules}
+use Rattle.std.proofs.Common.{◌≡◌, ℕ, false, refl}
 use Rattle.replay.specs.Progressing.{is_start}
 use Rattle.replay.specs.declared.Event.{Event}
 use Rattle.replay.specs.declared.Event.TheVariants.{Start, Control, Malformed, Arrived, Fault}

@@ -1,5 +1,5 @@
 -- `last_stage` meets its contract. Assumes nothing.
-use Rattle.std.proofs.Common.{rules, eq-eqb, ne_eqb}
+use Rattle.std.proofs.Common.{eq-eqb, ne_eqb}
 use Rattle.replay.proofs.steps.last_stage.Goals as goal
 
 pub returns-then-left-eq0 : goal.returns-then-left-eq0
