@@ -16,7 +16,6 @@ use Rattle.ledger.specs.declared.Part.{Part}
 use Rattle.ledger.specs.declared.Rule.TheVariants.{R1, R2, R3, R4, R5, R6, R7}
 use Rattle.ledger.specs.declared.Session.{Session}
 use Rattle.ledger.specs.declared.Session.TheVariants.{Open, Closed}
-use Rattle.ledger.proofs.Facts.{parts}
 use Rattle.orders.proofs.LedgersFollow.{view-once}
 use Rattle.ledger.specs.Views.{view_of}
 use Rattle.orders.specs.Events.{Event, comes}

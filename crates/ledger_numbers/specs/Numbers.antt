@@ -1,7 +1,6 @@
 -- A ledger as numbers: what it starts with, "its own end's part (subscriber or publisher), a row capacity and a maximum
 -- Subscribe ID", and its rows. "A row: ID, alias, pending or active, range, greatest place counted or none, count."
 use Rattle.std.specs.Prelude.{ℕ, ◌+◌, ◌*◌, List, [], ◌∷◌, ◌++◌}
-use Rattle.field.specs.declared.Place.{Place}
 use Rattle.row.specs.declared.State.{State}
 use Rattle.row.specs.declared.State.TheVariants.{Pending, Active}
 use Rattle.row.specs.declared.Range.{Range}

@@ -1,10 +1,9 @@
 -- `keep` meets its contract. Assumes nothing.
 use Prim.Native.Nat.{◌≤◌}
-use mathlib.Core.Path.{◌≡◌, sym, ◌∙◌}
+use mathlib.Core.Path.{◌≡◌}
 use native.Mathlib.Omega.{arith}
-use borrow.Author.Rules.{rules}
 use borrow.Author.Tests.{eq-eqb, ne_eqb, lt-leb, le-leb}
-use lib.ListN.{length, length-map}
+use lib.ListN.{length}
 use Rattle.ledger.specs.Ledgers.{most_rows}
 use Rattle.ledger_numbers.specs.Numbers.{numbers_of}
 use Rattle.ledger_numbers.specs.Naming.{kept_in}

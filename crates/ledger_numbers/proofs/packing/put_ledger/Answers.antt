@@ -1,6 +1,5 @@
 -- `put_ledger` meets its contract: its own numbers are stored, one by one, and the rows are put after them. Assumes nothing.
 use native.Mathlib.Omega.{arith}
-use borrow.Author.Rules.{rules}
 use lib.ListN.{length-set}
 use Rattle.ledger_numbers.specs.Numbers.{numbers_of}
 use Rattle.ledger_numbers.proofs.Storing.{rows_fit, ledger-sum, ledger-put, ledger-length}

@@ -1,13 +1,10 @@
 -- `put_rows` meets its contract. What was put, and the rows from the i-th on, are all of them. Assumes nothing.
-use Prim.Native.Nat.{◌-◌}
-use mathlib.Core.Path.{◌≡◌, sym, ◌∙◌}
+use mathlib.Core.Path.{◌≡◌}
 use native.Mathlib.Omega.{arith}
-use borrow.Author.Rules.{rules}
-use lib.ListN.{length, drop, length-map}
-use Rattle.common.proofs.PutLoop.{Going, going_start, going-length, going-within, going_end, next_fits, going-sum, going_next}
+use lib.ListN.{length}
+use Rattle.common.proofs.PutLoop.{going_start, going-length, going-within, going_end, next_fits, going-sum, going_next}
 use Rattle.row.specs.Rows.{unused_row}
 use Rattle.ledger.specs.Ledgers.{most_rows}
-use Rattle.ledger_numbers.specs.Numbers.{numbers_of_rows}
 use Rattle.ledger_numbers.proofs.Storing.{row_fits, at-within, rows-length, row_next, rows_end}
 use Rattle.ledger_numbers.proofs.packing.put_rows.Goals as goal
 use Rattle.ledger_numbers.proofs.packing.put_rows.Goals.{Start}

@@ -1,13 +1,8 @@
 use Prim.Native.Nat.{◌-◌}
-use mathlib.Core.Path.{◌≡◌, sym, ◌∙◌}
-use native.Mathlib.Omega.{arith}
-use borrow.Author.Rules.{rules}
-use lib.ListN.{length, drop, length-map}
-use Rattle.common.proofs.PutLoop.{Going, going_start, going-length, going-within, going_end, next_fits, going-sum, going_next}
-use Rattle.row.specs.Rows.{unused_row}
+use lib.ListN.{drop}
+use Rattle.common.proofs.PutLoop.{Going}
 use Rattle.ledger.specs.Ledgers.{most_rows}
 use Rattle.ledger_numbers.specs.Numbers.{numbers_of_rows}
-use Rattle.ledger_numbers.proofs.Storing.{row_fits, at-within, rows-length, row_next, rows_end}
 use Rattle.ledger_numbers.proofs.packing.put_rows.Given as goal
 
 abbrev pub invariant-loop-i : goal.invariant-loop-i

@@ -1,5 +1,4 @@
 -- `greatest_numbers` meets its contract. Assumes nothing.
-use borrow.Author.Rules.{rules}
 use Rattle.common.proofs.Telling.{told_of}
 use Rattle.ledger_numbers.specs.Numbers.{greatest_numbers}
 use Rattle.ledger_numbers.proofs.rows.greatest_numbers.Goals as goal

@@ -1,6 +1,5 @@
 -- `put_row` meets its contract: the numbers are stored, one by one. Assumes nothing.
 use native.Mathlib.Omega.{arith}
-use borrow.Author.Rules.{rules}
 use lib.ListN.{length-set}
 use Rattle.ledger_numbers.proofs.Storing.{row_put}
 use Rattle.ledger_numbers.proofs.rows.put_row.Goals as goal

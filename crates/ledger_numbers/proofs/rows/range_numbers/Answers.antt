@@ -1,5 +1,4 @@
 -- `range_numbers` meets its contract. Assumes nothing.
-use borrow.Author.Rules.{rules}
 use Rattle.common.proofs.Telling.{told_of}
 use Rattle.ledger_numbers.specs.Numbers.{range_numbers}
 use Rattle.ledger_numbers.proofs.rows.range_numbers.Goals as goal

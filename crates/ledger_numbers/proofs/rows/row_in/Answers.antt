@@ -1,5 +1,4 @@
 -- `row_in` meets its contract. Assumes nothing.
-use borrow.Author.Rules.{rules}
 use Rattle.ledger_numbers.specs.Naming.{row_named}
 use Rattle.ledger_numbers.proofs.rows.row_in.Goals as goal
 

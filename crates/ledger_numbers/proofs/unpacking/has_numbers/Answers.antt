@@ -1,10 +1,8 @@
 -- `has_numbers` meets its contract. What is left of both is the same where the whole is. Assumes nothing.
-use Prim.Native.Nat.{◌-◌, ◌≤◌}
 use mathlib.Core.Path.{◌≡◌, refl, sym, ap, ◌∙◌}
 use mathlib.Core.List.{List}
 use native.Mathlib.Omega.{arith}
-use borrow.Author.Rules.{rules}
-use lib.ListN.{length, take, drop, length-map}
+use lib.ListN.{length, take}
 use Rattle.ledger.specs.Ledgers.{most_rows}
 use Rattle.ledger_numbers.specs.Numbers.{ledger_numbers}
 use Rattle.ledger_numbers.specs.Naming.{are_same}

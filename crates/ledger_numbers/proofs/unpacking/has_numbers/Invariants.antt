@@ -1,14 +1,8 @@
 use Prim.Native.Nat.{◌-◌, ◌≤◌}
-use mathlib.Core.Path.{◌≡◌, refl, sym, ap, ◌∙◌}
-use mathlib.Core.List.{List}
-use native.Mathlib.Omega.{arith}
-use borrow.Author.Rules.{rules}
-use lib.ListN.{length, take, drop, length-map}
-use Rattle.ledger.specs.Ledgers.{most_rows}
+use mathlib.Core.Path.{◌≡◌}
+use lib.ListN.{take, drop}
 use Rattle.ledger_numbers.specs.Numbers.{ledger_numbers}
 use Rattle.ledger_numbers.specs.Naming.{are_same}
-use Rattle.ledger_numbers.proofs.Storing.{numbers-length}
-use Rattle.ledger_numbers.proofs.Comparing.{same_next, same_not, same_end, own_is, own-long}
 use Rattle.ledger_numbers.proofs.unpacking.has_numbers.Given as goal
 
 abbrev pub invariant-loop-i : goal.invariant-loop-i

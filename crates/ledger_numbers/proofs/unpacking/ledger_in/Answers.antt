@@ -1,5 +1,4 @@
 -- `ledger_in` meets its contract. Assumes nothing.
-use borrow.Author.Rules.{rules}
 use Rattle.ledger_numbers.specs.Naming.{ledger_named}
 use Rattle.ledger_numbers.proofs.unpacking.ledger_in.Goals as goal
 

@@ -1,6 +1,5 @@
 -- `none` meets its contract: a start that is refused hands it back. Assumes nothing.
 use mathlib.Core.Path.{ap}
-use borrow.Author.Rules.{rules}
 use Rattle.ledger.specs.Answers.{Came}
 use Rattle.ledger.specs.Steps.{start_of}
 use Rattle.ledger_numbers.proofs.unpacking.none.Goals as goal

@@ -1,14 +1,12 @@
 -- `rows_in` meets its contract: the rows so far are those that the numbers name. Assumes nothing.
-use Prim.Native.Nat.{ℕ, ◌+◌, ◌-◌, ◌*◌}
+use Prim.Native.Nat.{ℕ, ◌+◌, ◌*◌}
 use mathlib.Core.Path.{refl, ap, ◌∙◌}
 use mathlib.Core.List.{List}
 use native.Mathlib.Omega.{arith}
-use borrow.Author.Rules.{rules}
 use Rattle.common.proofs.Parts.{to_end}
-use Rattle.ledger.specs.Ledgers.{most_rows}
 use Rattle.ledger_numbers.specs.Numbers.{own_numbers, row_numbers}
 use Rattle.ledger_numbers.specs.Naming.{row_named, rows_named}
-use Rattle.ledger_numbers.proofs.RowsNamed.{row-behind, Filled, filled_next, all-filled}
+use Rattle.ledger_numbers.proofs.RowsNamed.{row-behind, filled_next, all-filled}
 use Rattle.ledger_numbers.proofs.unpacking.rows_in.Goals as goal
 
 pub loop-i-init : goal.loop-i-init

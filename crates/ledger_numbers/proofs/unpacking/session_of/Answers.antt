@@ -1,5 +1,4 @@
 -- `session_of` meets its contract. Assumes nothing.
-use borrow.Author.Rules.{rules}
 use borrow.Author.Tests.{eq-eqb, ne_eqb}
 use Rattle.ledger_numbers.specs.Naming.{session_named}
 use Rattle.ledger_numbers.proofs.unpacking.session_of.Goals as goal

@@ -1,6 +1,5 @@
 -- `unpack` meets its contract. Assumes nothing.
 use mathlib.Core.Path.{sym, ◌∙◌}
-use borrow.Author.Rules.{rules}
 use Rattle.ledger_numbers.proofs.Comparing.{unpack-few, unpack-same, unpack-other}
 use Rattle.ledger_numbers.proofs.unpacking.unpack.Goals as goal
 
