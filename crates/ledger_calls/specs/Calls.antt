@@ -51,7 +51,7 @@ taken_by r before info =
     on_whole r (refusing (number (told r)) before info)
     (λ m used. taken_call (take_of (unpack_of before) m) used before info)
 
--- the one reading that `told r ≡ read_of s` names: there is one, and no other (message/proofs/One_reading.antt:
+-- the one reading that `told r ≡ read_of s` names: there is one, and no other (message/proofs/OneReading.antt:
 -- `reading-is`, `reading-only`)
 unfoldable pub message_call : List ℕ → List ℕ → List ℕ → Doing
 message_call s before info = taken_by (reading_of s) before info

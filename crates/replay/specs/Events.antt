@@ -37,7 +37,7 @@ malformed_by answer = guard (nat_le 2 answer) Fault (Malformed answer)
 abbrev pub reading_by : List ℕ → Reading → Event
 reading_by value r = on_whole r (malformed_by (number (told r))) (λ m used. filling value used (Control m))
 
--- the one reading that `told r ≡ read_of value` names: there is one, and no other (message/proofs/One_reading.antt:
+-- the one reading that `told r ≡ read_of value` names: there is one, and no other (message/proofs/OneReading.antt:
 -- `reading-is`, `reading-only`)
 unfoldable pub control_by : List ℕ → Event
 control_by value = reading_by value (reading_of value)

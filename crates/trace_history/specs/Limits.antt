@@ -23,7 +23,7 @@ former_body = 16_383
 -- ---- a field
 
 -- with tag 2 it is a control message, by the one reading that tells what is read under the limit (`reading-is`,
--- message/proofs/One_reading.antt); any other field is what it is
+-- message/proofs/OneReading.antt); any other field is what it is
 unfoldable pub event_up_to : ℕ → List ℕ → FieldEvent
 event_up_to limit field =
     let value = value_of field in
