@@ -1,5 +1,4 @@
 -- `after_step` meets its contract. Assumes nothing.
-use Rattle.std.proofs.Common.{rules}
 use Rattle.explanation.proofs.telling.after_step.Goals as goal
 
 pub returns-in-Part : goal.returns-in-Part

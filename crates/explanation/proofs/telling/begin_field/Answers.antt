@@ -1,5 +1,4 @@
 -- `begin_field` meets its contract. Assumes nothing.
-use Rattle.std.proofs.Common.{rules}
 use Rattle.explanation.specs.Telling.{field_begun}
 use Rattle.explanation.proofs.FieldValues.{value_lent}
 use Rattle.explanation.proofs.telling.begin_field.Goals as goal

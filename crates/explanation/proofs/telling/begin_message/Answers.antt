@@ -1,5 +1,4 @@
 -- `begin_message` meets its contract. Assumes nothing.
-use Rattle.std.proofs.Common.{rules}
 use Rattle.explanation.specs.Telling.{message_begun}
 use Rattle.explanation.proofs.telling.begin_message.Goals as goal
 

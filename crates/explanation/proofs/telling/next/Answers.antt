@@ -1,5 +1,5 @@
 -- `next` meets its contract. Assumes nothing.
-use Rattle.std.proofs.Common.{refl, rules}
+use Rattle.std.proofs.Common.{refl}
 use Rattle.columns.specs.Pouring.{pour}
 use Rattle.explanation.proofs.DueLines.{as-due}
 use Rattle.explanation.proofs.telling.next.Goals as goal

@@ -1,5 +1,4 @@
 -- `put_ending` meets its contract. Assumes nothing.
-use Rattle.std.proofs.Common.{rules}
 use Rattle.explanation.proofs.telling.put_ending.Goals as goal
 
 pub returns-in-Answered : goal.returns-in-Answered

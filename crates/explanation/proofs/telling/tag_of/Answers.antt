@@ -1,5 +1,5 @@
 -- `tag_of` meets its contract. Assumes nothing.
-use Rattle.std.proofs.Common.{sym, le_of_eq, rules}
+use Rattle.std.proofs.Common.{sym, le_of_eq}
 use lib.ListN.{get_or-eq_default}
 use Rattle.explanation.proofs.telling.tag_of.Goals as goal
 

@@ -1,5 +1,4 @@
 -- `tell_field` meets its contract. Assumes nothing.
-use Rattle.std.proofs.Common.{rules}
 use Rattle.explanation.proofs.FieldValues.{told-field}
 use Rattle.explanation.proofs.telling.tell_field.Goals as goal
 

@@ -1,5 +1,4 @@
 -- `tell_part` meets its contract. Assumes nothing.
-use Rattle.std.proofs.Common.{rules}
 use Rattle.explanation.proofs.FieldValues.{told_part}
 use Rattle.explanation.proofs.telling.tell_part.Goals as goal
 
