@@ -10,8 +10,7 @@ use Rattle.message.proofs.OneReading.{reading_of}
 use Rattle.message.specs.declared.Reading.{Reading}
 use Rattle.ledger.specs.Answers.{Came}
 use Rattle.ledger.specs.Steps.{start_of, take_of, malformed_of, arrival_of}
-use Rattle.ledger.specs.Runs.{Run, run_of}
-use Rattle.ledger.specs.declared.Ledger.{Ledger}
+use Rattle.ledger.specs.Runs.{run_of}
 use Rattle.ledger_numbers.specs.Numbers.{numbers_of}
 use Rattle.ledger_numbers.specs.Naming.{part_named, unpack_of, kept_in}
 use Rattle.rewrite.specs.Rewriting.{Doing, refusing}

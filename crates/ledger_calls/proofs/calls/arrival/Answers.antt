@@ -1,5 +1,4 @@
 -- `arrival` meets its contract. Assumes nothing.
-use borrow.Author.Rules.{rules}
 use Rattle.ledger.specs.Steps.{arrival_of}
 use Rattle.ledger_calls.specs.Calls.{arrival_call}
 use Rattle.ledger_calls.proofs.CallsAnswered.{stepped}

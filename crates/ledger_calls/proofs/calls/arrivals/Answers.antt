@@ -1,6 +1,5 @@
 -- `arrivals` meets its contract. Assumes nothing.
 use mathlib.Core.Path.{refl}
-use borrow.Author.Rules.{rules}
 use Rattle.common.specs.Answer.{number}
 use Rattle.ledger_calls.proofs.CallsAnswered.{ran}
 use Rattle.ledger_calls.proofs.calls.arrivals.Goals as goal

@@ -1,5 +1,4 @@
 -- `malformed` meets its contract. Assumes nothing.
-use borrow.Author.Rules.{rules}
 use Rattle.ledger.specs.Steps.{malformed_of}
 use Rattle.ledger_calls.specs.Calls.{malformed_call}
 use Rattle.ledger_calls.proofs.CallsAnswered.{stepped}

@@ -1,7 +1,6 @@
 -- `start` meets its contract. Assumes nothing.
 use mathlib.Core.Path.{◌≡◌}
 use native.Mathlib.Omega.{arith}
-use borrow.Author.Rules.{rules}
 use Rattle.ledger_numbers.specs.Naming.{part_named}
 use Rattle.ledger_calls.proofs.CallsAnswered.{part-first, part-second, started-other, started-else, started-short, started-whole}
 use Rattle.ledger_calls.proofs.calls.start.Goals as goal

@@ -1,6 +1,5 @@
 -- `take` meets its contract. Assumes nothing.
 use native.Mathlib.Omega.{arith}
-use borrow.Author.Rules.{rules}
 use Rattle.ledger_calls.proofs.CallsAnswered.{no-ledger, not-told, taken, read_as, read-else}
 use Rattle.ledger_calls.proofs.calls.take.Goals as goal
 
