@@ -1,9 +1,8 @@
 -- The session's line, the columns and the rows, each into what is left after the one before. Assumes nothing.
 use Prim.Native.Nat.{ℕ, ◌+◌, ◌≤◌}
-use mathlib.Core.Path.{◌≡◌, refl, sym}
+use mathlib.Core.Path.{◌≡◌, refl}
 use mathlib.Core.List.{List, ◌++◌, append_assoc}
-use native.Mathlib.Omega.{arith}
-use lib.ListN.{length, length-append}
+use lib.ListN.{length}
 use Rattle.common.specs.Buffer.{Put}
 use Rattle.common.proofs.Puts.{lent, given, Room, first_fits, ends-within, second_fits, both-fit, put_both}
 use Rattle.ledger.specs.Ledgers.{held}

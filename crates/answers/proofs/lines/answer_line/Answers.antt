@@ -1,5 +1,4 @@
 -- `answer_line` meets its contract. Assumes nothing.
-use borrow.Author.Rules.{rules}
 use borrow.Author.Tests.{eq-eqb, ne_eqb}
 use Rattle.answers.proofs.lines.answer_line.Goals as goal
 

@@ -1,5 +1,4 @@
 -- `fault_line` meets its contract. Assumes nothing.
-use borrow.Author.Rules.{rules}
 use Rattle.answers.proofs.lines.fault_line.Goals as goal
 
 pub returns-in-Empty : goal.returns-in-Empty

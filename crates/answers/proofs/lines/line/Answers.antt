@@ -1,5 +1,4 @@
 -- `line` meets its contract. Assumes nothing.
-use borrow.Author.Rules.{rules}
 use Rattle.answers.proofs.lines.line.Goals as goal
 
 pub returns-in-Start : goal.returns-in-Start

@@ -1,5 +1,4 @@
 -- `malformed_line` meets its contract. Assumes nothing.
-use borrow.Author.Rules.{rules}
 use borrow.Author.Tests.{eq-eqb, ne_eqb}
 use Rattle.answers.proofs.lines.malformed_line.Goals as goal
 

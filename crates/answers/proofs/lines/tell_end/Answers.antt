@@ -1,5 +1,4 @@
 -- `tell_end` meets its contract. Assumes nothing.
-use borrow.Author.Rules.{rules}
 use Rattle.answers.specs.Answers.{end_items}
 use Rattle.answers.proofs.lines.tell_end.Goals as goal
 

@@ -1,5 +1,4 @@
 -- `add` meets its contract. Assumes nothing.
-use borrow.Author.Rules.{rules}
 use Rattle.answers.proofs.TextAdded.{not-added, added, counted}
 use Rattle.answers.proofs.writing.add.Goals as goal
 

@@ -1,5 +1,4 @@
 -- `of_trace` meets its contract: the text is counted first, and only then put. Assumes nothing.
-use borrow.Author.Rules.{rules}
 use Rattle.answers.proofs.TextAdded.{passes-short, passes-done}
 use Rattle.answers.proofs.writing.of_trace.Goals as goal
 

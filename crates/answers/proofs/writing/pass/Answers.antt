@@ -1,10 +1,7 @@
 -- `pass` meets its contract. What was put or counted, and the text that is left at the offset, are all of it. Assumes nothing.
-use borrow.Author.Rules.{rules}
-use Prim.Native.Nat.{◌-◌}
 use native.Mathlib.Omega.{arith}
-use lib.ListN.{length}
 use Rattle.answers.proofs.TextLeft.{told-goes}
-use Rattle.answers.proofs.WholeText.{Along, along-start, along-next, along-short, along-end}
+use Rattle.answers.proofs.WholeText.{along-start, along-next, along-short, along-end}
 use Rattle.answers.proofs.writing.pass.Goals as goal
 
 pub returns-then-next-used : goal.returns-then-next-used

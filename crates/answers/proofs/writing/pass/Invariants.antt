@@ -1,9 +1,6 @@
-use borrow.Author.Rules.{rules}
 use Prim.Native.Nat.{◌-◌}
-use native.Mathlib.Omega.{arith}
 use lib.ListN.{length}
-use Rattle.answers.proofs.TextLeft.{told-goes}
-use Rattle.answers.proofs.WholeText.{Along, along-start, along-next, along-short, along-end}
+use Rattle.answers.proofs.WholeText.{Along}
 use Rattle.answers.proofs.writing.pass.Given as goal
 
 abbrev pub invariant-loop-used : goal.invariant-loop-used

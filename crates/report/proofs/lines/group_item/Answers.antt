@@ -1,5 +1,4 @@
 -- `group_item` meets its contract. Assumes nothing.
-use borrow.Author.Rules.{rules}
 use Rattle.common.proofs.Telling.{told_of}
 use Rattle.report.specs.Rows.{group_item}
 use Rattle.report.proofs.lines.group_item.Goals as goal

@@ -1,5 +1,4 @@
 -- `object_item` meets its contract. Assumes nothing.
-use borrow.Author.Rules.{rules}
 use Rattle.common.proofs.Telling.{told_of}
 use Rattle.report.specs.Rows.{object_item}
 use Rattle.report.proofs.lines.object_item.Goals as goal

@@ -1,5 +1,4 @@
 -- `row_line` meets its contract. Assumes nothing.
-use borrow.Author.Rules.{rules}
 use Rattle.report.proofs.lines.row_line.Goals as goal
 
 pub returns : goal.returns

@@ -1,6 +1,4 @@
 -- `session_line` meets its contract. Assumes nothing.
-use mathlib.Core.Path.{◌∙◌}
-use borrow.Author.Rules.{rules}
 use Rattle.report.proofs.lines.session_line.Goals as goal
 
 pub returns-in-Open : goal.returns-in-Open

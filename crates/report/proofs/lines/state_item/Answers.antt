@@ -1,5 +1,4 @@
 -- `state_item` meets its contract. Assumes nothing.
-use borrow.Author.Rules.{rules}
 use Rattle.common.proofs.Telling.{told_of}
 use Rattle.report.specs.Rows.{state_item}
 use Rattle.report.proofs.lines.state_item.Goals as goal

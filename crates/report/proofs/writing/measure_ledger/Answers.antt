@@ -1,8 +1,7 @@
 -- `measure_ledger` meets its contract: the three sums are the report's length, which is small. Assumes nothing.
-use mathlib.Core.Path.{◌≡◌, sym, ◌∙◌}
+use mathlib.Core.Path.{◌≡◌}
 use native.Mathlib.Omega.{arith}
-use borrow.Author.Rules.{rules}
-use lib.ListN.{length, length-map}
+use lib.ListN.{length}
 use Rattle.ledger.specs.Ledgers.{most_rows}
 use Rattle.report.proofs.RowLines.{ledger-counted, ledger-bound}
 use Rattle.report.proofs.writing.measure_ledger.Goals as goal

@@ -1,12 +1,9 @@
 -- `measure_rows` meets its contract. What was counted, and the rows from the i-th on, are all of them. Assumes nothing.
-use Prim.Native.Nat.{◌-◌}
-use mathlib.Core.Path.{◌≡◌, sym, ◌∙◌}
+use mathlib.Core.Path.{◌≡◌}
 use native.Mathlib.Omega.{arith}
-use borrow.Author.Rules.{rules}
-use lib.ListN.{length, drop, length-map}
-use Rattle.ledger.specs.Ledgers.{most_rows, held}
-use Rattle.text.proofs.Counted.{Counted, counted_start, counted-sum, counted_next, counted-end}
-use Rattle.report.specs.Report.{rows_text}
+use lib.ListN.{length}
+use Rattle.ledger.specs.Ledgers.{most_rows}
+use Rattle.text.proofs.Counted.{counted_start, counted-sum, counted_next, counted-end}
 use Rattle.report.proofs.RowLines.{row_next, rows_end, held-bound}
 use Rattle.report.proofs.writing.measure_rows.Goals as goal
 use Rattle.report.proofs.writing.measure_rows.Goals.{Start}

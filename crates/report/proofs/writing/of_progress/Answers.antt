@@ -1,5 +1,4 @@
 -- `of_progress` meets its contract. Assumes nothing.
-use borrow.Author.Rules.{rules}
 use Rattle.report.proofs.ReplayShown.{shows_nothing, shows-ledger, shows-fault}
 use Rattle.report.proofs.writing.of_progress.Goals as goal
 

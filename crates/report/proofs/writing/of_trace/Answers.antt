@@ -1,5 +1,4 @@
 -- `of_trace` meets its contract. Assumes nothing.
-use borrow.Author.Rules.{rules}
 use Rattle.report.proofs.ReplayShown.{used-fits, shows-report}
 use Rattle.report.proofs.writing.of_trace.Goals as goal
 

@@ -1,6 +1,5 @@
 -- `put_ledger` meets its contract. Assumes nothing.
 use native.Mathlib.Omega.{arith}
-use borrow.Author.Rules.{rules}
 use Rattle.report.proofs.LinesJoined.{session-fits, session-ends, columns-fit, front-sum, front_ends, rows_fit, all-sum, all-put}
 use Rattle.report.proofs.writing.put_ledger.Goals as goal
 

@@ -1,5 +1,4 @@
 -- `put_line` meets its contract. Assumes nothing.
-use borrow.Author.Rules.{rules}
 use Rattle.report.proofs.LinePut.{was-put, no-refusal}
 use Rattle.report.proofs.writing.put_line.Goals as goal
 

@@ -1,12 +1,9 @@
 -- `put_rows` meets its contract. What was put, and the rows from the i-th on, are all of them. Assumes nothing.
-use Prim.Native.Nat.{◌-◌}
-use mathlib.Core.Path.{◌≡◌, sym, ◌∙◌}
+use mathlib.Core.Path.{◌≡◌}
 use native.Mathlib.Omega.{arith}
-use borrow.Author.Rules.{rules}
-use lib.ListN.{length, drop, length-map}
-use Rattle.common.proofs.PutLoop.{Going, going_start, going-length, going-within, going_end, next_fits, going-sum, going_next}
-use Rattle.ledger.specs.Ledgers.{most_rows, held}
-use Rattle.report.specs.Report.{rows_text}
+use lib.ListN.{length}
+use Rattle.common.proofs.PutLoop.{going_start, going-length, going-within, going_end, next_fits, going-sum, going_next}
+use Rattle.ledger.specs.Ledgers.{most_rows}
 use Rattle.report.proofs.RowLines.{row_next, rows_end}
 use Rattle.report.proofs.writing.put_rows.Goals as goal
 use Rattle.report.proofs.writing.put_rows.Goals.{Start}

@@ -1,12 +1,8 @@
 use Prim.Native.Nat.{◌-◌}
-use mathlib.Core.Path.{◌≡◌, sym, ◌∙◌}
-use native.Mathlib.Omega.{arith}
-use borrow.Author.Rules.{rules}
-use lib.ListN.{length, drop, length-map}
-use Rattle.common.proofs.PutLoop.{Going, going_start, going-length, going-within, going_end, next_fits, going-sum, going_next}
-use Rattle.ledger.specs.Ledgers.{most_rows, held}
+use lib.ListN.{drop}
+use Rattle.common.proofs.PutLoop.{Going}
+use Rattle.ledger.specs.Ledgers.{held}
 use Rattle.report.specs.Report.{rows_text}
-use Rattle.report.proofs.RowLines.{row_next, rows_end}
 use Rattle.report.proofs.writing.put_rows.Given as goal
 
 abbrev pub invariant-loop-i : goal.invariant-loop-i

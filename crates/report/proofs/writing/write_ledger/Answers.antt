@@ -1,6 +1,5 @@
 -- `write_ledger` meets its contract: the report is measured first, and only then put. Assumes nothing.
 use native.Mathlib.Omega.{arith}
-use borrow.Author.Rules.{rules}
 use Rattle.text.proofs.Outcomes.{line-short, line-done}
 use Rattle.report.proofs.writing.write_ledger.Goals as goal
 
