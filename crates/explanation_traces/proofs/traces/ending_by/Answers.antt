@@ -1,5 +1,4 @@
 -- `ending_by` meets its contract. Assumes nothing.
-use borrow.Author.Rules.{rules}
 use Rattle.explanation_traces.proofs.traces.ending_by.Goals as goal
 
 pub returns-in-Start : goal.returns-in-Start

@@ -1,5 +1,4 @@
 -- `explain` meets its contract. Assumes nothing.
-use borrow.Author.Rules.{rules}
 use Rattle.trace.specs.Fields.{number_of_tag}
 use Rattle.explanation_traces.specs.Traces.{explaining_by}
 use Rattle.explanation_traces.proofs.traces.explain.Goals as goal

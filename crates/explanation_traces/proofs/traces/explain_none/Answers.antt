@@ -1,5 +1,4 @@
 -- `explain_none` meets its contract. Assumes nothing.
-use borrow.Author.Rules.{rules}
 use Rattle.explanation_traces.proofs.traces.explain_none.Goals as goal
 
 pub returns : goal.returns

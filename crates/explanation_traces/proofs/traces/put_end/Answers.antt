@@ -1,5 +1,4 @@
 -- `put_end` meets its contract. Assumes nothing.
-use borrow.Author.Rules.{rules}
 use Rattle.replay.specs.Progressing.{finish_of}
 use Rattle.columns.proofs.Poured.{poured-both}
 use Rattle.explanation_traces.specs.Traces.{end_text}

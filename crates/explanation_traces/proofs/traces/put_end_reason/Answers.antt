@@ -1,5 +1,4 @@
 -- `put_end_reason` meets its contract. Assumes nothing.
-use borrow.Author.Rules.{rules}
 use borrow.Author.Tests.{eq-eqb, ne_eqb}
 use Rattle.columns.specs.Pouring.{pour}
 use Rattle.explanation_traces.proofs.traces.put_end_reason.Goals as goal

@@ -1,5 +1,4 @@
 -- `put_ends_inside` meets its contract. Assumes nothing.
-use borrow.Author.Rules.{rules}
 use Rattle.columns.proofs.Poured.{poured-both}
 use Rattle.explanation_traces.proofs.traces.put_ends_inside.Goals as goal
 

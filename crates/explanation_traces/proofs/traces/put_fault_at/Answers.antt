@@ -1,5 +1,4 @@
 -- `put_fault_at` meets its contract. Assumes nothing.
-use borrow.Author.Rules.{rules}
 use Rattle.explanation_traces.proofs.FaultLines.{fault-poured}
 use Rattle.explanation_traces.proofs.traces.put_fault_at.Goals as goal
 

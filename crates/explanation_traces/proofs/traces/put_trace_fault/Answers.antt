@@ -1,5 +1,4 @@
 -- `put_trace_fault` meets its contract. Assumes nothing.
-use borrow.Author.Rules.{rules}
 use Rattle.text.specs.Lines.{line_of}
 use Rattle.columns.specs.Pouring.{pour}
 use Rattle.explanation_traces.proofs.traces.put_trace_fault.Goals as goal

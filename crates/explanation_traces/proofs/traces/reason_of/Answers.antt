@@ -1,5 +1,4 @@
 -- `reason_of` meets its contract. Assumes nothing.
-use borrow.Author.Rules.{rules}
 use borrow.Author.Tests.{ne_eqb}
 use Rattle.explanation_traces.specs.Traces.{reason_of}
 use Rattle.explanation_traces.proofs.traces.reason_of.Goals as goal

@@ -1,5 +1,4 @@
 -- `shown_in` meets its contract. Assumes nothing.
-use borrow.Author.Rules.{rules}
 use Rattle.explanation_traces.proofs.traces.shown_in.Goals as goal
 
 pub returns-in-Faulty : goal.returns-in-Faulty

@@ -1,5 +1,4 @@
 -- `tell` meets its contract. Assumes nothing.
-use borrow.Author.Rules.{rules}
 use native.Mathlib.Omega.{arith}
 use Rattle.replay.proofs.FieldSteps.{stands}
 use Rattle.explanation_traces.proofs.FieldsTaken.{none-taken, one-taken}
