@@ -22,12 +22,10 @@ pub fn explain(rt: &(impl Input + Print + Eprint)) {
     let mut progress = replay::begin();
     let mut left: usize = 0;
     for _ in 0..u64::MAX {
-        let got = read_behind(rt, &mut buffer, left);
-        let n = got.unwrap_or(0);
-        if n == 0 {
-            finish(rt, progress, &buffer[..left], got);
-            return;
-        }
+        let n = match read_behind(rt, &mut buffer, left) {
+            Some(n) if n > 0 => n,
+            got => return finish(rt, progress, &buffer[..left], got),
+        };
         let end = left + n;
         let printed = print_fields(rt, progress, &buffer[..end]);
         if !printed.written {

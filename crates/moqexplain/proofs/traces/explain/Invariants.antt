@@ -1,0 +1,6 @@
+-- What is left always lies within the buffer.
+use Rattle.std.proofs.Common.{◌≤◌, length}
+use Rattle.moqexplain.proofs.traces.explain.Given as goal
+
+abbrev pub invariant-loop : goal.invariant-loop
+invariant-loop g l = l.left ≤ length l.buffer

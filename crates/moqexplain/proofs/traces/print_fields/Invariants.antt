@@ -1,0 +1,9 @@
+-- The text ends within its buffer, and the fields within the bytes; the measure is what is left of the bytes.
+use Rattle.std.proofs.Common.{◌-◌, ◌≤◌, length}
+use Rattle.moqexplain.proofs.traces.print_fields.Given as goal
+
+abbrev pub invariant-loop-used : goal.invariant-loop-used
+invariant-loop-used g l = (l.at ≤ length l.out) × (l.used ≤ length l.s)
+
+abbrev pub decreases-loop-used : goal.decreases-loop-used
+decreases-loop-used g l = length l.s - l.used
