@@ -1,7 +1,6 @@
 -- `moq_integer_read` meets its contract. Assumes nothing.
 use mathlib.Core.Path.{sym, ap, ◌∙◌}
 use native.Mathlib.Omega.{arith}
-use borrow.Author.Rules.{rules}
 use Rattle.integer.specs.Integer.{told}
 use Rattle.exports.proofs.IntegerCalls.{read-cut, read_short, read_whole}
 use Rattle.exports.proofs.integers.moq_integer_read.Goals as goal

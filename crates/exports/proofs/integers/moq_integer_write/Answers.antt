@@ -1,6 +1,5 @@
 -- `moq_integer_write` meets its contract. Assumes nothing.
 use native.Mathlib.Omega.{arith}
-use borrow.Author.Rules.{rules}
 use Rattle.common.specs.Answer.{number}
 use Rattle.rewrite.proofs.InfoTold.{one}
 use Rattle.exports.proofs.IntegerCalls.{write-great, write-short, write-said}

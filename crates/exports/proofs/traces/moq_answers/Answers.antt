@@ -1,6 +1,5 @@
 -- `moq_answers` meets its contract. Assumes nothing.
 use native.Mathlib.Omega.{arith}
-use borrow.Author.Rules.{rules}
 use Rattle.exports.proofs.TraceCalls.{no-info, text-short, text-done}
 use Rattle.exports.proofs.traces.moq_answers.Goals as goal
 
