@@ -9,5 +9,5 @@ slice_bounds-out-end g c = omega (arith, c.measure-n.ensures, end-bound _ _ c.te
 pub slice_bounds-write-end : goal.slice_bounds-write-end
 slice_bounds-write-end g c =
     let fits : c.measure-n.result ≤ length c.put.new.out =
-        omega (arith, c.measure-n.ensures, end-bound _ _ c.tell_end-line.ensures) in
+    omega (arith, c.measure-n.ensures, end-bound _ _ c.tell_end-line.ensures) in
     sym (length-take-le _ _ fits)
