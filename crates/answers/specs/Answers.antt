@@ -77,5 +77,9 @@ unfoldable pub taken_at : Progress → List ℕ → ℕ → FieldLine
 taken_at p s at =
     let field = take (field_size (drop at s)) (drop at s) in
     pick (is_whole (drop at s))
-    (record { line = placed (line_in p field); progress = (stepped_by p field).next; used = at + field_size (drop at s) })
+    (record {
+      line = placed (line_in p field);
+      progress = (stepped_by p field).next;
+      used = at + field_size (drop at s);
+    })
     (record { line = placed []; progress = p; used = at })

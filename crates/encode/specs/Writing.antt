@@ -39,7 +39,11 @@ bare_of s ps before = written_of (right_all s ps) (sized_all s ps) true (encode_
 unfoldable pub framed_of : ℕ → List ℕ → ℕ → List Piece → List ℕ → Written
 framed_of longest s kind ps before =
     let body = encode_all s ps in
-    written_of (both (leb kind greatest) (right_all s ps)) (sized_all s ps) (leb (length body) longest) (frame kind body)
+    written_of
+    (both (leb kind greatest) (right_all s ps))
+    (sized_all s ps)
+    (leb (length body) longest)
+    (frame kind body)
     before
 
 -- ---- 01's number and values of what is answered

@@ -47,7 +47,8 @@ tag_words tag =
 
 unfoldable pub field_line : ℕ → List ℕ → List ℕ
 field_line offset field =
-    margin offset field 0 3 ++ tag_words (slice_index field 0) ++ letters ", " ++ size_text (length field - 3) ++ newline
+    margin offset field 0 3 ++ tag_words (slice_index field 0)
+    ++ letters ", " ++ size_text (length field - 3) ++ newline
 
 -- ---- the line of a part, of bytes whose first one has that offset
 
@@ -59,7 +60,9 @@ called offset s p =
 -- and what it holds: a type has a name, if it is known
 unfoldable pub type_text : ℕ → List ℕ
 type_text n =
-    pick (nat_lt 0 (length (name_of n))) (name_of n ++ letters " (0x" ++ hex_of n ++ letters ")") (letters "0x" ++ hex_of n)
+    pick (nat_lt 0 (length (name_of n)))
+    (name_of n ++ letters " (0x" ++ hex_of n ++ letters ")")
+    (letters "0x" ++ hex_of n)
 
 -- a number in more bytes than it needs is shown in its shortest form too
 unfoldable pub shortest_text : ℕ → ℕ → List ℕ

@@ -1,5 +1,5 @@
-// The calls that C makes; the crate exports_c lends each its name in C, and include/moq.h declares them. Each call answers
-// document 01's number; the declarations say with which of them what is lent is changed.
+// The calls that C makes; the crate exports_c lends each its name in C, and include/moq.h declares them. Each call
+// answers document 01's number; the declarations say with which of them what is lent is changed.
 #![tactic(auto)]
 
 pub mod headers;

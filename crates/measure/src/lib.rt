@@ -22,7 +22,7 @@ pub enum Measured {
     Forbidden,
 }
 
-// A place for one field. (An array of structs can be held in a struct, and one of enums can not.)
+// A place for one field, in a struct of its own: when it was written, a struct could hold no array of enums.
 #[derive(Clone, Copy)]
 pub struct Slot {
     pub piece: Piece,

@@ -38,7 +38,7 @@ pub enum Item {
     Name(u64),
 }
 
-// A place for one item. (An array of structs can be held in a struct, and one of enums can not.)
+// A place for one item, in a struct of its own: when it was written, a struct could hold no array of enums.
 #[derive(Clone, Copy)]
 pub struct Slot {
     pub item: Item,

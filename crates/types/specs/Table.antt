@@ -109,7 +109,8 @@ abbrev pub subscribe_announces_ok_row : TypeRow
 subscribe_announces_ok_row = row 0x12 "SUBSCRIBE_ANNOUNCES_OK" announces (named TrackNamespacePrefix done)
 
 abbrev pub subscribe_announces_error_row : TypeRow
-subscribe_announces_error_row = row 0x13 "SUBSCRIBE_ANNOUNCES_ERROR" announces (named TrackNamespacePrefix (failure done))
+subscribe_announces_error_row =
+    row 0x13 "SUBSCRIBE_ANNOUNCES_ERROR" announces (named TrackNamespacePrefix (failure done))
 
 abbrev pub unsubscribe_announces_row : TypeRow
 unsubscribe_announces_row = row 0x14 "UNSUBSCRIBE_ANNOUNCES" announces (named TrackNamespacePrefix done)
@@ -117,10 +118,14 @@ unsubscribe_announces_row = row 0x14 "UNSUBSCRIBE_ANNOUNCES" announces (named Tr
 -- all of them, in the order of 004
 unfoldable pub messages : List TypeRow
 messages =
-    client_setup_row ∷ server_setup_row ∷ goaway_row ∷ max_subscribe_id_row ∷ subscribes_blocked_row ∷ subscribe_row ∷ subscribe_ok_row
-    ∷ subscribe_error_row ∷ unsubscribe_row ∷ subscribe_update_row ∷ subscribe_done_row ∷ fetch_row ∷ fetch_ok_row ∷ fetch_error_row
-    ∷ fetch_cancel_row ∷ track_status_request_row ∷ track_status_row ∷ announce_row ∷ announce_ok_row ∷ announce_error_row
-    ∷ unannounce_row ∷ announce_cancel_row ∷ subscribe_announces_row ∷ subscribe_announces_ok_row ∷ subscribe_announces_error_row
+    client_setup_row ∷ server_setup_row ∷ goaway_row ∷ max_subscribe_id_row ∷ subscribes_blocked_row
+    ∷ subscribe_row ∷ subscribe_ok_row ∷ subscribe_error_row
+    ∷ unsubscribe_row ∷ subscribe_update_row ∷ subscribe_done_row
+    ∷ fetch_row ∷ fetch_ok_row ∷ fetch_error_row ∷ fetch_cancel_row
+    ∷ track_status_request_row ∷ track_status_row
+    ∷ announce_row ∷ announce_ok_row ∷ announce_error_row
+    ∷ unannounce_row ∷ announce_cancel_row
+    ∷ subscribe_announces_row ∷ subscribe_announces_ok_row ∷ subscribe_announces_error_row
     ∷ unsubscribe_announces_row ∷ []
 
 -- ---- a type, looked up
