@@ -2,7 +2,7 @@
 // time, whatever the trace's length.
 #![tactic(auto)]
 
-ghost use Rattle.std.specs.Prelude.{◌+◌, ◌≤◌, IfOk, length};
+ghost use Rattle.std.specs.Prelude.{◌≡◌, ◌+◌, ◌≤◌, IfOk, length, take};
 ghost use Rattle.common.specs.Buffer.{Put};
 ghost use Rattle.replay.specs.Progressing.{finish_of};
 ghost use Rattle.report.specs.Report.{text_of, longest_report};
@@ -38,10 +38,11 @@ fn fail(rt: &impl Eprint, what: &str, e: io::Error) {
     let _ = eprintln!(rt; "{what}: {e}");
 }
 
-// One read into buffer, after what is left of the bytes before. It answers how many came.
+// One read into buffer, after what is left of the bytes before, which stays. It answers how many came.
 fn read_behind(rt: &impl Input, buffer: &mut [u8], left: usize) -> io::Result<usize>
     requires { left ≤ length buffer.old }
-    ensures { IfOk result (λ n. left + n ≤ length buffer.old) }
+    ensures count { IfOk result (λ n. left + n ≤ length buffer.old) }
+    ensures front { take left buffer.new ≡ take left buffer.old }
 {
     rt.reader().read(&mut buffer[left..])
 }
