@@ -1,3 +1,7 @@
-// The words that every crate shares: tests and refusals, answers, buffers, lists. It has no code: specs/ says what they
-// mean, and proofs/ has the laws that hold of them.
+// The words that every crate shares: tests and refusals, answers, buffers, lists. specs/ says what they mean, and
+// proofs/ has the laws that hold of them. Its one type is a list of at most so many items.
 #![tactic(auto)]
+
+mod few;
+
+pub use few::Few;
