@@ -7,6 +7,7 @@ use mathlib.Core.Bool.{true, false}
 use native.Mathlib.Omega.{arith}
 use lib.ListN.{length, take}
 use lib.Seq.{length-take-le}
+use Rattle.std.specs.Prelude.{Option, Some, None}
 use Rattle.common.specs.Answer.{Answer, whole as answered, refused}
 use Rattle.common.proofs.Cases.{pick-by}
 use Rattle.field.specs.Outcome.{Outcome, whole, no}
@@ -25,8 +26,6 @@ use Rattle.types.specs.Kinds.{number_of, type_of, told_type}
 use Rattle.types.specs.Limits.{longest_body}
 use Rattle.message.specs.Reading.{filled_by, read_of}
 use Rattle.types.specs.declared.kinds.Kind.{Kind}
-use Rattle.types.specs.declared.kinds.Found.{Found}
-use Rattle.types.specs.declared.kinds.Found.TheVariants.{Known, Unknown}
 use Rattle.message.proofs.Front.{Headed, no-type, unknown, no_length, too_long, missing, stopped, present, answer-is}
 
 -- ---- a type
@@ -73,16 +72,16 @@ module _ (s : List ℕ) (at : ℕ) {r : NumberRead} (said : told_number r ≡ fi
 pub reads_nothing : (s : List ℕ) {r : NumberRead} → r ≡ CutNumber → told_number r ≡ field_at integer s 0 → refused 1 ≡ read_of s
 reads_nothing s read said = answer-is (stopped (no-type (number-no s 0 said read)))
 
-module _ (s : List ℕ) {r : NumberRead} {n next : ℕ} (read : r ≡ WholeNumber n next) (said : told_number r ≡ field_at integer s 0) {f : Found} (judged : told_type f ≡ type_of n) where
+module _ (s : List ℕ) {r : NumberRead} {n next : ℕ} (read : r ≡ WholeNumber n next) (said : told_number r ≡ field_at integer s 0) {f : Option Kind} (judged : told_type f ≡ type_of n) where
   -- or it is unknown,
-  pub reads-unknown : f ≡ Unknown → refused 2 ≡ read_of s
+  pub reads-unknown : f ≡ None → refused 2 ≡ read_of s
   reads-unknown which = answer-is (stopped (unknown (number_is s 0 said read) (type-unknown n (ap told_type (sym which) ∙ judged))))
 
   -- or it is known, and the number of a kind
-  of-kind : {k : Kind} → f ≡ Known k → (known n ≡ true) × (number_of k ≡ n)
+  of-kind : {k : Kind} → f ≡ Some k → (known n ≡ true) × (number_of k ≡ n)
   of-kind which = type-known n (ap told_type (sym which) ∙ judged)
 
-  module _ {k : Kind} (which : f ≡ Known k) {l : NumberRead} (measured : told_number l ≡ field_at integer s next) where
+  module _ {k : Kind} (which : f ≡ Some k) {l : NumberRead} (measured : told_number l ≡ field_at integer s next) where
     -- and there is no Length,
     pub reads-no-length : l ≡ CutNumber → refused 1 ≡ read_of s
     reads-no-length none =

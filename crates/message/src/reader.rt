@@ -14,7 +14,7 @@ use field::{Fault, NumberRead};
 use session::SessionRead;
 use subscription::SubscriptionRead;
 use types::LONGEST_BODY;
-use types::kinds::{Found, Kind};
+use types::kinds::Kind;
 
 pub fn read(s: &[u8]) -> Reading
     ensures { told result ≡ read_of s.now }
@@ -22,7 +22,7 @@ pub fn read(s: &[u8]) -> Reading
     let NumberRead::Whole(number, a) = field::read_number(s, 0) else {
         return Reading::More;
     };
-    let Found::Known(kind) = types::type_of(number) else {
+    let Some(kind) = types::type_of(number) else {
         return Reading::Unknown;
     };
     let NumberRead::Whole(length, b) = field::read_number(s, a) else {

@@ -3,6 +3,7 @@ use Prim.Native.Nat.{ℕ}
 use mathlib.Core.Path.{◌≡◌, refl}
 use mathlib.Core.List.{List, [], ◌∷◌}
 use lib.Dec.{eqb}
+use Rattle.std.specs.Prelude.{Option, Some, None}
 use Rattle.common.specs.Choice.{pick}
 use Rattle.common.specs.Answer.{Answer, whole, refused}
 use Rattle.common.proofs.Telling.{once}
@@ -20,8 +21,9 @@ use Rattle.types.specs.declared.kinds.Refusing.TheVariants as refusing
 use Rattle.types.specs.declared.kinds.SessionKind.TheVariants as session
 use Rattle.types.specs.declared.kinds.Kind.{Kind}
 use Rattle.types.specs.declared.kinds.Kind.TheVariants.{Subscription, Fetch, Announce, Session}
-use Rattle.types.specs.declared.kinds.Found.{Found}
-use Rattle.types.specs.declared.kinds.Found.TheVariants.{Known, Unknown}
+use Rattle.types.specs.Refusals.{number_of as refusal_number}
+use Rattle.types.specs.declared.Refusal.{Refusal}
+use Rattle.types.specs.declared.Refusal.TheVariants.{More, Unknown, TooLong, Unfilled, Forbidden, Oversize}
 
 -- the first kind of a list that has a number, or another where none has
 first_of : Kind → List Kind → ℕ → Kind
@@ -73,15 +75,34 @@ kind-back (Session session.ServerSetup) = refl
 kind-back (Session session.GoAway) = refl
 
 -- what was found, by its number
-found_of : Answer ℕ → Found
-found_of (whole number used) = Known (kind_of number)
-found_of (refused number) = Unknown
+found_of : Answer ℕ → Option Kind
+found_of (whole number used) = Some (kind_of number)
+found_of (refused number) = None
 
-found_back : (f : Found) → found_of (told_type f) ≡ f
+found_back : (f : Option Kind) → found_of (told_type f) ≡ f
 unfolding found_of
-found_back (Known k) = rw (kind-back k)
-found_back Unknown = refl
+found_back (Some k) = rw (kind-back k)
+found_back None = refl
 
 -- so what is told is told of one answer
-pub told-once : (a b : Found) → told_type a ≡ told_type b → a ≡ b
+pub told-once : (a b : Option Kind) → told_type a ≡ told_type b → a ≡ b
 told-once = once told_type found_of found_back
+
+-- the refusal that has a number, or the last where none has
+pub refusal_of : ℕ → Refusal
+refusal_of number =
+    pick (eqb number 1) More (pick (eqb number 2) Unknown (pick (eqb number 3) TooLong
+    (pick (eqb number 4) Unfilled (pick (eqb number 5) Forbidden Oversize))))
+
+pub refusal_back : (r : Refusal) → refusal_of (refusal_number r) ≡ r
+unfolding refusal_of
+refusal_back More = refl
+refusal_back Unknown = refl
+refusal_back TooLong = refl
+refusal_back Unfilled = refl
+refusal_back Forbidden = refl
+refusal_back Oversize = refl
+
+-- and a number is that of one refusal
+pub refusal-once : (a b : Refusal) → refusal_number a ≡ refusal_number b → a ≡ b
+refusal-once = once refusal_number refusal_of refusal_back

@@ -1,5 +1,5 @@
 -- The kinds of control messages: the number of each, and which kind a number stands for.
-use Rattle.std.specs.Prelude.{ℕ}
+use Rattle.std.specs.Prelude.{ℕ, Option, Some, None}
 use Rattle.common.specs.Choice.{guard}
 use Rattle.common.specs.Answer.{Answer, whole, refused}
 use Rattle.types.specs.Table.{known}
@@ -9,8 +9,6 @@ use Rattle.types.specs.AnnounceKinds.{number_of as announce_number}
 use Rattle.types.specs.SessionKinds.{number_of as session_number}
 use Rattle.types.specs.declared.kinds.Kind.{Kind}
 use Rattle.types.specs.declared.kinds.Kind.TheVariants.{Subscription, Fetch, Announce, Session}
-use Rattle.types.specs.declared.kinds.Found.{Found}
-use Rattle.types.specs.declared.kinds.Found.TheVariants.{Known, Unknown}
 
 -- the number of a kind of message
 unfoldable pub number_of : Kind → ℕ
@@ -23,6 +21,6 @@ number_of (Session k) = session_number k
 unfoldable pub type_of : ℕ → Answer ℕ
 type_of type = guard (known type) (refused 2) (whole type 0)
 
-abbrev pub told_type : Found → Answer ℕ
-told_type (Known k) = whole (number_of k) 0
-told_type Unknown = refused 2
+abbrev pub told_type : Option Kind → Answer ℕ
+told_type (Some k) = whole (number_of k) 0
+told_type None = refused 2

@@ -11,3 +11,4 @@ pub mod FetchKinds
 pub mod AnnounceKinds
 pub mod SessionKinds
 pub mod Kinds
+pub mod Refusals

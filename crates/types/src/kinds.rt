@@ -72,10 +72,3 @@ pub enum Kind {
     Announce(AnnounceKind),
     Session(SessionKind),
 }
-
-// What is known of a type number.
-#[derive(Clone, Copy)]
-pub enum Found {
-    Known(Kind),
-    Unknown,
-}

@@ -4,6 +4,7 @@
 
 pub mod kinds;
 mod numbers;
+mod refusals;
 mod rules;
 
 pub use numbers::type_of;
@@ -11,3 +12,15 @@ pub use rules::{ends_after, is_track_status, may_hold};
 
 // The longest body that is read or written.
 pub const LONGEST_BODY: u32 = 65_000;
+
+// Why bytes are no message and no header: that more are needed; that the type is unknown; that a body is too long; that
+// its fields don't fill it; that a value is forbidden; that one is over a size.
+#[derive(Clone, Copy, PartialEq, Eq)]
+pub enum Refusal {
+    More,
+    Unknown,
+    TooLong,
+    Unfilled,
+    Forbidden,
+    Oversize,
+}

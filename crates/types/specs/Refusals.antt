@@ -1,0 +1,13 @@
+-- The refusals by document 01's numbers: "1 more bytes needed", "2 unknown type", "3 body too long", "4 fields don't fill
+-- the body", "5 forbidden field value", "6 over a size".
+use Rattle.std.specs.Prelude.{ℕ}
+use Rattle.types.specs.declared.Refusal.{Refusal}
+use Rattle.types.specs.declared.Refusal.TheVariants.{More, Unknown, TooLong, Unfilled, Forbidden, Oversize}
+
+abbrev pub number_of : Refusal → ℕ
+number_of More = 1
+number_of Unknown = 2
+number_of TooLong = 3
+number_of Unfilled = 4
+number_of Forbidden = 5
+number_of Oversize = 6
