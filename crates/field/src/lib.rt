@@ -60,8 +60,8 @@ pub enum Piece {
     Track(Track),
 }
 
-// A place in a track: a group and an object.
-#[derive(Clone, Copy)]
+// A place in a track: a group and an object. Places are ordered by group first.
+#[derive(Clone, Copy, PartialEq, Eq, PartialOrd, Ord)]
 pub struct Place {
     pub group: u64,
     pub object: u64,

@@ -8,10 +8,7 @@ use field::Place;
 pub fn is_before(p: Place, q: Place) -> bool
     ensures { result ≡ before p q }
 {
-    if p.group == q.group {
-        return p.object < q.object;
-    }
-    p.group < q.group
+    p < q
 }
 
 // Whether no number of p is above the greatest integer.

@@ -1,12 +1,9 @@
--- `is_before` meets its contract. Assumes nothing.
-use Rattle.row.proofs.Checks.{checks}
+-- `is_before` meets its contract: the derived order compares the groups first. Assumes nothing.
+use Rattle.std.proofs.Common.{arith}
+use Rattle.std.proofs.lemmas.Grind.{common_steps}
 use Rattle.row.specs.Places.{before}
 use Rattle.row.proofs.places.is_before.Goals as goal
 
-pub returns-then-p-q : goal.returns-then-p-q
-unfolding before
-returns-then-p-q c = search checks
-
 pub returns : goal.returns
 unfolding before
-returns c = search checks
+returns c = rw c.lt.ensures (grind (arith, common_steps))
