@@ -2,3 +2,4 @@ pub mod OneByOne
 pub mod Givable
 pub mod Joins
 pub mod Statuses
+pub mod Listed

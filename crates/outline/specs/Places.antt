@@ -3,6 +3,7 @@ use Rattle.std.specs.Prelude.{ℕ, List, [], ◌∷◌}
 use Rattle.common.specs.Choice.{pick}
 use Rattle.field.specs.Fields.{FieldForm, integer, byte, bytes, list, track}
 use Rattle.layout.specs.Layout.{Layout, done, forbidden, field, when}
+use Rattle.layout.specs.declared.FieldName.{FieldName}
 use Rattle.types.specs.Table.{layout_of}
 use Rattle.header.specs.Layouts.{layout_of as layout_in, datagrams, streams, subgroup_object, fetch_object}
 use Rattle.outline.specs.declared.Form.{Form}
@@ -11,6 +12,19 @@ use Rattle.outline.specs.declared.Ahead.{Ahead}
 use Rattle.outline.specs.declared.Ahead.TheVariants.{Field, Done, Forbidden}
 use Rattle.outline.specs.declared.Outline.{Outline}
 use Rattle.outline.specs.declared.Outline.TheVariants.{Message, Datagram, Stream, SubgroupObject, FetchObject}
+
+-- a form of field, as the definitions have it,
+abbrev pub form_of : Form → FieldForm
+form_of Integer = integer
+form_of Byte = byte
+form_of Bytes = bytes
+form_of (Listing kind) = list kind
+form_of Tracked = track
+
+-- and a layout that is a list of fields, whatever they hold
+unfoldable pub listed : List (FieldName × Form) → Layout
+listed [] = done
+listed (f ∷ rest) = field f.0 (form_of f.1) λ n. listed rest
 
 -- what is left of a layout after its first fields, which handed on these numbers
 unfoldable pub rest_of : Layout → List ℕ → Layout

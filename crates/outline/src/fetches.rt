@@ -1,4 +1,6 @@
 // The layouts of FETCH, FETCH_OK, FETCH_ERROR, FETCH_CANCEL, TRACK_STATUS_REQUEST and TRACK_STATUS.
+#![tactic(auto, unfolding(crate::specs::Places::listed, layout::specs::Layout::failure, layout::specs::Layout::parameters, layout::specs::Layout::place, types::specs::Fetches::fetch_cancel, types::specs::Fetches::fetch_error, types::specs::Fetches::joining, types::specs::Fetches::standalone, types::specs::Fetches::track_status_request))]
+
 ghost use Rattle.std.specs.Prelude.{◌≡◌};
 ghost use Rattle.field.specs.Fields.{byte};
 ghost use Rattle.layout.specs.Layout.{field, largest_place};
@@ -6,24 +8,19 @@ ghost use Rattle.layout.specs.declared.FieldName.TheVariants.{EndOfTrack};
 ghost use Rattle.types.specs.Fetches.{standalone, joining, range, fetch, fetch_ok, fetch_error, fetch_cancel, track_status_request, largest, track_status};
 ghost use Rattle.outline.specs.Places.{rest_of, ahead_of};
 
-use crate::shared::{byte, bytes, largest_place, number, parameters};
+use crate::shared::{PARAMETERS, listed};
 use crate::{Ahead, Form};
 use layout::FieldName;
 
 pub fn fetch(v: &[u64]) -> Ahead
     ensures { result ≡ ahead_of (rest_of fetch v.now) }
 {
-    let n = v.len();
-    match n {
-        0 => return number(FieldName::SubscribeId),
-        1 => return byte(FieldName::SubscriberPriority),
-        2 => return byte(FieldName::GroupOrder),
-        _ => {
-            if v[2] > 2 {
-                return Ahead::Forbidden;
-            }
-            return range(&v[3..]);
-        }
+    match v {
+        [] => Ahead::Field(FieldName::SubscribeId, Form::Integer),
+        [_] => Ahead::Field(FieldName::SubscriberPriority, Form::Byte),
+        [_, _] => Ahead::Field(FieldName::GroupOrder, Form::Byte),
+        [_, _, 0..=2, rest @ ..] => range(rest),
+        _ => Ahead::Forbidden,
     }
 }
 
@@ -31,53 +28,51 @@ pub fn fetch(v: &[u64]) -> Ahead
 fn range(v: &[u64]) -> Ahead
     ensures { result ≡ ahead_of (rest_of range v.now) }
 {
-    if v.len() == 0 {
-        return number(FieldName::FetchType);
-    }
-    let rest = &v[1..];
-    match v[0] {
-        1 => return standalone(rest),
-        2..=3 => return joining(rest),
-        _ => return Ahead::Forbidden,
+    match v {
+        [] => Ahead::Field(FieldName::FetchType, Form::Integer),
+        [1, rest @ ..] => standalone(rest),
+        [2..=3, rest @ ..] => joining(rest),
+        _ => Ahead::Forbidden,
     }
 }
 
 fn standalone(v: &[u64]) -> Ahead
     ensures { result ≡ ahead_of (rest_of standalone v.now) }
 {
-    let n = v.len();
-    match n {
-        0 => return Ahead::Field(FieldName::FullTrackName, Form::Track),
-        1 => return number(FieldName::StartGroup),
-        2 => return number(FieldName::StartObject),
-        3 => return number(FieldName::EndGroup),
-        4 => return number(FieldName::EndObject),
-        _ => return parameters(&v[5..]),
-    }
+    listed(
+        &[
+            (FieldName::FullTrackName, Form::Track),
+            (FieldName::StartGroup, Form::Integer),
+            (FieldName::StartObject, Form::Integer),
+            (FieldName::EndGroup, Form::Integer),
+            (FieldName::EndObject, Form::Integer),
+            PARAMETERS,
+        ],
+        v,
+    )
 }
 
 fn joining(v: &[u64]) -> Ahead
     ensures { result ≡ ahead_of (rest_of joining v.now) }
 {
-    let n = v.len();
-    match n {
-        0 => return number(FieldName::JoiningSubscribeId),
-        1 => return number(FieldName::JoiningStart),
-        _ => return parameters(&v[2..]),
-    }
+    listed(
+        &[
+            (FieldName::JoiningSubscribeId, Form::Integer),
+            (FieldName::JoiningStart, Form::Integer),
+            PARAMETERS,
+        ],
+        v,
+    )
 }
 
 pub fn fetch_ok(v: &[u64]) -> Ahead
     ensures { result ≡ ahead_of (rest_of fetch_ok v.now) }
 {
-    let n = v.len();
-    match n {
-        0 => return number(FieldName::SubscribeId),
-        1 => return byte(FieldName::GroupOrder),
-        _ => match v[1] {
-            1..=2 => return fetched(&v[2..]),
-            _ => return Ahead::Forbidden,
-        },
+    match v {
+        [] => Ahead::Field(FieldName::SubscribeId, Form::Integer),
+        [_] => Ahead::Field(FieldName::GroupOrder, Form::Byte),
+        [_, 1..=2, rest @ ..] => fetched(rest),
+        _ => Ahead::Forbidden,
     }
 }
 
@@ -85,55 +80,50 @@ pub fn fetch_ok(v: &[u64]) -> Ahead
 fn fetched(v: &[u64]) -> Ahead
     ensures { result ≡ ahead_of (rest_of (field EndOfTrack byte λ end_of_track. largest_place) v.now) }
 {
-    if v.len() == 0 {
-        return byte(FieldName::EndOfTrack);
-    }
-    largest_place(&v[1..])
+    listed(
+        &[
+            (FieldName::EndOfTrack, Form::Byte),
+            (FieldName::LargestGroupId, Form::Integer),
+            (FieldName::LargestObjectId, Form::Integer),
+            PARAMETERS,
+        ],
+        v,
+    )
 }
 
 pub fn fetch_error(v: &[u64]) -> Ahead
     ensures { result ≡ ahead_of (rest_of fetch_error v.now) }
 {
-    let n = v.len();
-    match n {
-        0 => return number(FieldName::SubscribeId),
-        1 => return number(FieldName::ErrorCode),
-        2 => return bytes(FieldName::ReasonPhrase),
-        _ => return Ahead::Done,
-    }
+    listed(
+        &[
+            (FieldName::SubscribeId, Form::Integer),
+            (FieldName::ErrorCode, Form::Integer),
+            (FieldName::ReasonPhrase, Form::Bytes),
+        ],
+        v,
+    )
 }
 
 pub fn fetch_cancel(v: &[u64]) -> Ahead
     ensures { result ≡ ahead_of (rest_of fetch_cancel v.now) }
 {
-    if v.len() == 0 {
-        return number(FieldName::SubscribeId);
-    }
-    Ahead::Done
+    listed(&[(FieldName::SubscribeId, Form::Integer)], v)
 }
 
 pub fn track_status_request(v: &[u64]) -> Ahead
     ensures { result ≡ ahead_of (rest_of track_status_request v.now) }
 {
-    if v.len() == 0 {
-        return Ahead::Field(FieldName::FullTrackName, Form::Track);
-    }
-    Ahead::Done
+    listed(&[(FieldName::FullTrackName, Form::Track)], v)
 }
 
 pub fn track_status(v: &[u64]) -> Ahead
     ensures { result ≡ ahead_of (rest_of track_status v.now) }
 {
-    let n = v.len();
-    match n {
-        0 => return Ahead::Field(FieldName::FullTrackName, Form::Track),
-        1 => return number(FieldName::StatusCode),
-        _ => {
-            if !types::is_track_status(v[1]) {
-                return Ahead::Forbidden;
-            }
-            return largest(v[1], &v[2..]);
-        }
+    match v {
+        [] => Ahead::Field(FieldName::FullTrackName, Form::Track),
+        [_] => Ahead::Field(FieldName::StatusCode, Form::Integer),
+        [_, status, rest @ ..] if types::is_track_status(*status) => largest(*status, rest),
+        _ => Ahead::Forbidden,
     }
 }
 
@@ -141,18 +131,11 @@ pub fn track_status(v: &[u64]) -> Ahead
 fn largest(status: u64, v: &[u64]) -> Ahead
     ensures { result ≡ ahead_of (rest_of (largest status) v.now) }
 {
-    let n = v.len();
-    if n == 0 {
-        return number(FieldName::LargestGroupId);
+    match v {
+        [] => Ahead::Field(FieldName::LargestGroupId, Form::Integer),
+        [group, ..] if !types::may_hold(status, *group) => Ahead::Forbidden,
+        [_] => Ahead::Field(FieldName::LargestObjectId, Form::Integer),
+        [_, object, ..] if !types::may_hold(status, *object) => Ahead::Forbidden,
+        _ => Ahead::Done,
     }
-    if !types::may_hold(status, v[0]) {
-        return Ahead::Forbidden;
-    }
-    if n == 1 {
-        return number(FieldName::LargestObjectId);
-    }
-    if !types::may_hold(status, v[1]) {
-        return Ahead::Forbidden;
-    }
-    Ahead::Done
 }

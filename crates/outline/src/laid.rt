@@ -12,11 +12,11 @@ pub fn look_ahead(outline: Outline, v: &[u64]) -> Ahead
     ensures { result ≡ ahead_at outline v.now }
 {
     match outline {
-        Outline::Message(number) => return message(number, v),
-        Outline::Datagram(number) => return datagram(number, v),
-        Outline::Stream(number) => return stream(number, v),
-        Outline::SubgroupObject => return headers::subgroup_object(v),
-        Outline::FetchObject => return headers::fetch_object(v),
+        Outline::Message(number) => message(number, v),
+        Outline::Datagram(number) => datagram(number, v),
+        Outline::Stream(number) => stream(number, v),
+        Outline::SubgroupObject => headers::subgroup_object(v),
+        Outline::FetchObject => headers::fetch_object(v),
     }
 }
 
@@ -58,9 +58,9 @@ fn datagram(number: u64, v: &[u64]) -> Ahead
     ensures { result ≡ ahead_of (rest_of (layout_in (datagrams number)) v.now) }
 {
     match number {
-        header::OBJECT_DATAGRAM => return headers::object_datagram(v),
-        header::OBJECT_DATAGRAM_STATUS => return headers::datagram_status(v),
-        _ => return Ahead::Forbidden,
+        header::OBJECT_DATAGRAM => headers::object_datagram(v),
+        header::OBJECT_DATAGRAM_STATUS => headers::datagram_status(v),
+        _ => Ahead::Forbidden,
     }
 }
 
@@ -68,8 +68,8 @@ fn stream(number: u64, v: &[u64]) -> Ahead
     ensures { result ≡ ahead_of (rest_of (layout_in (streams number)) v.now) }
 {
     match number {
-        header::SUBGROUP_HEADER => return headers::subgroup_header(v),
-        header::FETCH_HEADER => return headers::fetch_header(v),
-        _ => return Ahead::Forbidden,
+        header::SUBGROUP_HEADER => headers::subgroup_header(v),
+        header::FETCH_HEADER => headers::fetch_header(v),
+        _ => Ahead::Forbidden,
     }
 }

@@ -26,6 +26,7 @@ pub enum Form {
 }
 
 // What stands at a place: a field; or nothing more; or nothing, since a value before it is forbidden.
+// It stays an enum of its own: three names are plainer than a Result of an Option.
 #[derive(Clone, Copy)]
 pub enum Ahead {
     Field(FieldName, Form),

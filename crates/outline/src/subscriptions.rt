@@ -1,52 +1,50 @@
 // The layouts of SUBSCRIBE_UPDATE, SUBSCRIBE, SUBSCRIBE_OK, SUBSCRIBE_ERROR and SUBSCRIBE_DONE, and that of an ID
 // alone.
+#![tactic(auto, unfolding(crate::specs::Places::listed, layout::specs::Layout::failure, layout::specs::Layout::parameters, layout::specs::Layout::place, types::specs::Subscriptions::id_only, types::specs::Subscriptions::subscribe_done, types::specs::Subscriptions::subscribe_error, types::specs::Subscriptions::subscribe_update))]
+
 ghost use Rattle.std.specs.Prelude.{◌≡◌};
 ghost use Rattle.types.specs.Subscriptions.{subscribe_update, open_range, closed_range, filter, delivery, subscribe, content, subscribe_ok, subscribe_error, subscribe_done, id_only};
 ghost use Rattle.outline.specs.Places.{rest_of, ahead_of};
 
-use crate::shared::{byte, bytes, largest_place, number, parameters};
+use crate::shared::{PARAMETERS, largest_place, listed, parameters};
 use crate::{Ahead, Form};
 use layout::FieldName;
 
 pub fn subscribe_update(v: &[u64]) -> Ahead
     ensures { result ≡ ahead_of (rest_of subscribe_update v.now) }
 {
-    let n = v.len();
-    match n {
-        0 => return number(FieldName::SubscribeId),
-        1 => return number(FieldName::StartGroup),
-        2 => return number(FieldName::StartObject),
-        3 => return number(FieldName::EndGroup),
-        4 => return byte(FieldName::SubscriberPriority),
-        _ => return parameters(&v[5..]),
-    }
+    listed(
+        &[
+            (FieldName::SubscribeId, Form::Integer),
+            (FieldName::StartGroup, Form::Integer),
+            (FieldName::StartObject, Form::Integer),
+            (FieldName::EndGroup, Form::Integer),
+            (FieldName::SubscriberPriority, Form::Byte),
+            PARAMETERS,
+        ],
+        v,
+    )
 }
 
 pub fn subscribe(v: &[u64]) -> Ahead
     ensures { result ≡ ahead_of (rest_of subscribe v.now) }
 {
-    let n = v.len();
-    match n {
-        0 => return number(FieldName::SubscribeId),
-        1 => return number(FieldName::TrackAlias),
-        2 => return Ahead::Field(FieldName::FullTrackName, Form::Track),
-        _ => return delivery(&v[3..]),
+    match v {
+        [] => Ahead::Field(FieldName::SubscribeId, Form::Integer),
+        [_] => Ahead::Field(FieldName::TrackAlias, Form::Integer),
+        [_, _] => Ahead::Field(FieldName::FullTrackName, Form::Track),
+        [_, _, _, rest @ ..] => delivery(rest),
     }
 }
 
 fn delivery(v: &[u64]) -> Ahead
     ensures { result ≡ ahead_of (rest_of delivery v.now) }
 {
-    let n = v.len();
-    match n {
-        0 => return byte(FieldName::SubscriberPriority),
-        1 => return byte(FieldName::GroupOrder),
-        _ => {
-            if v[1] > 2 {
-                return Ahead::Forbidden;
-            }
-            return filter(&v[2..]);
-        }
+    match v {
+        [] => Ahead::Field(FieldName::SubscriberPriority, Form::Byte),
+        [_] => Ahead::Field(FieldName::GroupOrder, Form::Byte),
+        [_, 0..=2, rest @ ..] => filter(rest),
+        _ => Ahead::Forbidden,
     }
 }
 
@@ -54,58 +52,49 @@ fn delivery(v: &[u64]) -> Ahead
 fn filter(v: &[u64]) -> Ahead
     ensures { result ≡ ahead_of (rest_of filter v.now) }
 {
-    if v.len() == 0 {
-        return number(FieldName::FilterType);
-    }
-    let rest = &v[1..];
-    match v[0] {
-        2 => return parameters(rest),
-        3 => return open_range(rest),
-        4 => return closed_range(rest),
-        _ => return Ahead::Forbidden,
+    match v {
+        [] => Ahead::Field(FieldName::FilterType, Form::Integer),
+        [2, rest @ ..] => parameters(rest),
+        [3, rest @ ..] => open_range(rest),
+        [4, rest @ ..] => closed_range(rest),
+        _ => Ahead::Forbidden,
     }
 }
 
 fn open_range(v: &[u64]) -> Ahead
     ensures { result ≡ ahead_of (rest_of open_range v.now) }
 {
-    let n = v.len();
-    match n {
-        0 => return number(FieldName::StartGroup),
-        1 => return number(FieldName::StartObject),
-        _ => return parameters(&v[2..]),
-    }
+    listed(
+        &[
+            (FieldName::StartGroup, Form::Integer),
+            (FieldName::StartObject, Form::Integer),
+            PARAMETERS,
+        ],
+        v,
+    )
 }
 
 fn closed_range(v: &[u64]) -> Ahead
     ensures { result ≡ ahead_of (rest_of closed_range v.now) }
 {
-    let n = v.len();
-    match n {
-        0 => return number(FieldName::StartGroup),
-        1 => return number(FieldName::StartObject),
-        2 => return number(FieldName::EndGroup),
-        _ => {
-            if v[2] < v[0] {
-                return Ahead::Forbidden;
-            }
-            return parameters(&v[3..]);
-        }
+    match v {
+        [] => Ahead::Field(FieldName::StartGroup, Form::Integer),
+        [_] => Ahead::Field(FieldName::StartObject, Form::Integer),
+        [_, _] => Ahead::Field(FieldName::EndGroup, Form::Integer),
+        [start, _, end, rest @ ..] if types::ends_after(*start, *end) => parameters(rest),
+        _ => Ahead::Forbidden,
     }
 }
 
 pub fn subscribe_ok(v: &[u64]) -> Ahead
     ensures { result ≡ ahead_of (rest_of subscribe_ok v.now) }
 {
-    let n = v.len();
-    match n {
-        0 => return number(FieldName::SubscribeId),
-        1 => return number(FieldName::Expires),
-        2 => return byte(FieldName::GroupOrder),
-        _ => match v[2] {
-            1..=2 => return content(&v[3..]),
-            _ => return Ahead::Forbidden,
-        },
+    match v {
+        [] => Ahead::Field(FieldName::SubscribeId, Form::Integer),
+        [_] => Ahead::Field(FieldName::Expires, Form::Integer),
+        [_, _] => Ahead::Field(FieldName::GroupOrder, Form::Byte),
+        [_, _, 1..=2, rest @ ..] => content(rest),
+        _ => Ahead::Forbidden,
     }
 }
 
@@ -113,49 +102,45 @@ pub fn subscribe_ok(v: &[u64]) -> Ahead
 fn content(v: &[u64]) -> Ahead
     ensures { result ≡ ahead_of (rest_of content v.now) }
 {
-    if v.len() == 0 {
-        return byte(FieldName::ContentExists);
-    }
-    let rest = &v[1..];
-    match v[0] {
-        0 => return parameters(rest),
-        1 => return largest_place(rest),
-        _ => return Ahead::Forbidden,
+    match v {
+        [] => Ahead::Field(FieldName::ContentExists, Form::Byte),
+        [0, rest @ ..] => parameters(rest),
+        [1, rest @ ..] => largest_place(rest),
+        _ => Ahead::Forbidden,
     }
 }
 
 pub fn subscribe_error(v: &[u64]) -> Ahead
     ensures { result ≡ ahead_of (rest_of subscribe_error v.now) }
 {
-    let n = v.len();
-    match n {
-        0 => return number(FieldName::SubscribeId),
-        1 => return number(FieldName::ErrorCode),
-        2 => return bytes(FieldName::ReasonPhrase),
-        3 => return number(FieldName::TrackAlias),
-        _ => return Ahead::Done,
-    }
+    listed(
+        &[
+            (FieldName::SubscribeId, Form::Integer),
+            (FieldName::ErrorCode, Form::Integer),
+            (FieldName::ReasonPhrase, Form::Bytes),
+            (FieldName::TrackAlias, Form::Integer),
+        ],
+        v,
+    )
 }
 
 pub fn subscribe_done(v: &[u64]) -> Ahead
     ensures { result ≡ ahead_of (rest_of subscribe_done v.now) }
 {
-    let n = v.len();
-    match n {
-        0 => return number(FieldName::SubscribeId),
-        1 => return number(FieldName::StatusCode),
-        2 => return number(FieldName::StreamCount),
-        3 => return bytes(FieldName::ReasonPhrase),
-        _ => return Ahead::Done,
-    }
+    listed(
+        &[
+            (FieldName::SubscribeId, Form::Integer),
+            (FieldName::StatusCode, Form::Integer),
+            (FieldName::StreamCount, Form::Integer),
+            (FieldName::ReasonPhrase, Form::Bytes),
+        ],
+        v,
+    )
 }
 
 // An ID alone.
 pub fn id_only(v: &[u64], name: FieldName) -> Ahead
     ensures { result ≡ ahead_of (rest_of (id_only name) v.now) }
 {
-    if v.len() == 0 {
-        return number(name);
-    }
-    Ahead::Done
+    listed(&[(name, Form::Integer)], v)
 }

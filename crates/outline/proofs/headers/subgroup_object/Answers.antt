@@ -1,4 +1,5 @@
 -- `subgroup_object` meets its contract. Assumes nothing.
+use mathlib.Core.Path.{refl}
 use native.Mathlib.Omega.{arith}
 use Rattle.common.proofs.Parts.{to_end}
 use Rattle.header.specs.Layouts.{subgroup_object}
@@ -6,15 +7,14 @@ use Rattle.outline.specs.Places.{rest_of, ahead_of}
 use Rattle.outline.proofs.OneByOne.{stands, past}
 use Rattle.outline.proofs.headers.subgroup_object.Goals as goal
 
-pub returns-in-0 : goal.returns-in-0
+pub returns-in-empty : goal.returns-in-empty
 unfolding rest_of ahead_of subgroup_object
-returns-in-0 c = stands subgroup_object 0 c.args.v.now (omega arith) c.number.ensures
+returns-in-empty c = stands subgroup_object 0 c.args.v.now (omega arith) refl
 
-pub returns-in-1 : goal.returns-in-1
+pub returns-in-len1 : goal.returns-in-len1
 unfolding rest_of ahead_of subgroup_object
-returns-in-1 c = stands subgroup_object 1 c.args.v.now (omega arith) c.bytes.ensures
+returns-in-len1 c = stands subgroup_object 1 c.args.v.now (omega arith) refl
 
-pub returns-in_default : goal.returns-in_default
+pub returns-in-len2-up : goal.returns-in-len2-up
 unfolding rest_of ahead_of subgroup_object
-returns-in_default c =
-    let v = c.args.v.now in past subgroup_object 2 v (omega arith) (rw (to_end v 2) at c.payload.ensures)
+returns-in-len2-up c = let v = c.args.v.now in past subgroup_object 2 v (omega arith) (rw (to_end v 2) at c.payload.ensures)
