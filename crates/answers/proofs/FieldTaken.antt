@@ -7,8 +7,7 @@ use Rattle.text.specs.Lines.{placed}
 use Rattle.text.specs.declared.Line.{Line}
 use Rattle.trace.specs.Fields.{field_size, field_of}
 use Rattle.trace.specs.declared.Field.{Field}
-use Rattle.trace.specs.declared.FieldRead.{FieldRead}
-use Rattle.trace.specs.declared.FieldRead.TheVariants.{Whole, Cut}
+use Rattle.std.specs.Prelude.{Option, Some, None}
 use Rattle.replay.specs.Events.{event_of}
 use Rattle.replay.specs.Progressing.{Stepping, step_of, told_step, stepped_by}
 use Rattle.replay.specs.declared.Event.{Event}
@@ -18,14 +17,14 @@ use Rattle.replay.proofs.FieldSteps.{stands, stands-none, stepped-is}
 use Rattle.answers.specs.Answers.{line_by, line_in, taken_at}
 use Rattle.answers.specs.declared.FieldLine.{FieldLine}
 
-module _ (p : Progress) (s : List ℕ) (at : ℕ) {r : FieldRead} (said : r ≡ field_of s at) (line : Line) where
+module _ (p : Progress) (s : List ℕ) (at : ℕ) {r : Option Field} (said : r ≡ field_of s at) (line : Line) where
   -- where none is whole, nothing is,
-  pub none-taken : r ≡ Cut → line ≡ placed [] → ◌≡◌ {A = FieldLine} (record { line = line; progress = p; used = at }) (taken_at p s at)
+  pub none-taken : r ≡ None → line ≡ placed [] → ◌≡◌ {A = FieldLine} (record { line = line; progress = p; used = at }) (taken_at p s at)
   unfolding taken_at
   none-taken cut none = rw (stands-none s at said cut, none)
 
   -- and else its line is that of the step
-  module _ {f : Field} (found : r ≡ Whole f) where
+  module _ {f : Field} (found : r ≡ Some f) where
     pub one-taken : {e : Event} {t : Stepped} → e ≡ event_of f.tag (take (f.end - f.start) (drop f.start s)) → told_step t ≡ step_of p e (f.end - at) → line ≡ placed (line_by p.offset t.event (record { number = t.number; rule = t.rule })) → ◌≡◌ {A = FieldLine} (record { line = line; progress = t.progress; used = f.end }) (taken_at p s at)
     unfolding taken_at line_in
     one-taken {e} {t} is went held =

@@ -6,7 +6,6 @@ ghost use Rattle.answers.specs.Answers.{offset_line, malformed_line, line_by, fa
 use crate::FieldLine;
 use replay::{Event, Progress, Stage};
 use text::{Item, Line, Word};
-use trace::FieldRead;
 
 // The offset of its tag, what it is and the answer; with a 13 its rule.
 fn answer_line(offset: u64, what: Item, number: u8, rule: u8) -> Line
@@ -54,7 +53,7 @@ pub fn tell(p: Progress, s: &[u8], at: usize) -> FieldLine
     ensures { result ≡ taken_at p s.now at }
 {
     let offset = p.offset;
-    let FieldRead::Whole(f) = trace::field_at(s, at) else {
+    let Some(f) = trace::field_at(s, at) else {
         return FieldLine {
             line: text::of0(),
             progress: p,

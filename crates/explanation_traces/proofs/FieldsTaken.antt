@@ -6,8 +6,7 @@ use native.Mathlib.Omega.{arith}
 use lib.ListN.{take, drop}
 use Rattle.trace.specs.Fields.{field_size, field_of}
 use Rattle.trace.specs.declared.Field.{Field}
-use Rattle.trace.specs.declared.FieldRead.{FieldRead}
-use Rattle.trace.specs.declared.FieldRead.TheVariants.{Whole, Cut}
+use Rattle.std.specs.Prelude.{Option, Some, None}
 use Rattle.replay.specs.Events.{event_of}
 use Rattle.replay.specs.Progressing.{step_of, told_step, stepped_by}
 use Rattle.replay.specs.declared.Event.{Event}
@@ -20,14 +19,14 @@ use Rattle.explanation.specs.declared.Due.TheVariants.{Nothing}
 use Rattle.explanation.specs.declared.Explaining.{Explaining}
 use Rattle.explanation_traces.specs.declared.FieldTaken.{FieldTaken}
 
-module _ (p : Progress) (s : List ℕ) (at : ℕ) {r : FieldRead} (said : r ≡ field_of s at) where
+module _ (p : Progress) (s : List ℕ) (at : ℕ) {r : Option Field} (said : r ≡ field_of s at) where
   -- where none is whole, nothing is,
-  pub none-taken : {e : Explaining} → r ≡ Cut → e ≡ duly (message_begun s p.offset) Nothing → ◌≡◌ {A = FieldTaken} (record { explaining = e; progress = p; used = at }) (taken_at p s at)
+  pub none-taken : {e : Explaining} → r ≡ None → e ≡ duly (message_begun s p.offset) Nothing → ◌≡◌ {A = FieldTaken} (record { explaining = e; progress = p; used = at }) (taken_at p s at)
   unfolding taken_at
   none-taken cut none = rw (stands-none s at said cut, none)
 
   -- and else it is explained by its step
-  pub one-taken : {f : Field} {e : Event} {t : Stepped} {d : Explaining} → r ≡ Whole f → e ≡ event_of f.tag (take (f.end - f.start) (drop f.start s)) → told_step t ≡ step_of p e (f.end - at) → d ≡ explaining_by p.stage p.offset (take (f.end - at) (drop at s)) t.event (record { number = t.number; rule = t.rule }) → ◌≡◌ {A = FieldTaken} (record { explaining = d; progress = t.progress; used = f.end }) (taken_at p s at)
+  pub one-taken : {f : Field} {e : Event} {t : Stepped} {d : Explaining} → r ≡ Some f → e ≡ event_of f.tag (take (f.end - f.start) (drop f.start s)) → told_step t ≡ step_of p e (f.end - at) → d ≡ explaining_by p.stage p.offset (take (f.end - at) (drop at s)) t.event (record { number = t.number; rule = t.rule }) → ◌≡◌ {A = FieldTaken} (record { explaining = d; progress = t.progress; used = f.end }) (taken_at p s at)
   unfolding taken_at explaining_in
   one-taken {f} {e} {t} found is went shown =
       let w = stands s at said found in

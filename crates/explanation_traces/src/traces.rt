@@ -13,7 +13,6 @@ use explanation::{Ending, Explaining, Reason, begin_field, begin_message, over, 
 use explanation_lines::{Word, put_cut_field, put_reason};
 use replay::{Event, Progress, Stage};
 use text::Item;
-use trace::FieldRead;
 
 fn is_empty(stage: Stage) -> bool
     ensures { result ≡ is_empty stage }
@@ -95,7 +94,7 @@ fn explain_none(s: &[u8], offset: u64) -> Explaining
 pub fn tell(p: Progress, s: &[u8], at: usize) -> FieldTaken
     ensures { result ≡ taken_at p s.now at }
 {
-    let FieldRead::Whole(f) = trace::field_at(s, at) else {
+    let Some(f) = trace::field_at(s, at) else {
         return FieldTaken {
             explaining: explain_none(s, p.offset),
             progress: p,

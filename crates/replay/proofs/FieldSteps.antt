@@ -9,8 +9,7 @@ use Rattle.ledger.proofs.RunTurns.{thirds, run-behind}
 use Rattle.trace.specs.Fields.{number_of_tag, value_of, field_size, is_whole, field_of}
 use Rattle.trace.specs.Feeding.{Held, feed}
 use Rattle.trace.specs.declared.Field.{Field}
-use Rattle.trace.specs.declared.FieldRead.{FieldRead}
-use Rattle.trace.specs.declared.FieldRead.TheVariants.{Whole, Cut}
+use Rattle.std.specs.Prelude.{Option, Some, None}
 use Rattle.trace.proofs.Fed.{size-take, size-head, whole-fits, fed-field, fed-none}
 use Rattle.replay.specs.Events.{event_of}
 use Rattle.replay.specs.Progressing.{due_of, heard_of, offset_of, Stepping, step_of, step, fed, fed_of, arrived_all, told_heard, told_step, holding}
@@ -56,13 +55,13 @@ pub record Stands (s : List ℕ) (at : ℕ) (f : Field) : Type 0 where
 abbrev front : List ℕ → ℕ → Field
 front s at = record { tag = number_of_tag (drop at s); start = at + 3; end = at + field_size (drop at s) }
 
-pub stands : (s : List ℕ) (at : ℕ) {r : FieldRead} {f : Field} → r ≡ field_of s at → r ≡ Whole f → Stands s at f
+pub stands : (s : List ℕ) (at : ℕ) {r : Option Field} {f : Field} → r ≡ field_of s at → r ≡ Some f → Stands s at f
 unfolding field_of
 stands s at {r} {f} said h = go (is_whole (drop at s)) refl
   where
     go : (b : Bool) → is_whole (drop at s) ≡ b → Stands s at f
     go true e =
-        let same : front s at ≡ f = (let both : Whole (front s at) ≡ Whole f = sym (rw e at said) ∙ h in cc) in
+        let same : front s at ≡ f = (let both : Some (front s at) ≡ Some f = sym (rw e at said) ∙ h in cc) in
         let w = whole-fits (drop at s) e in
         let ends : f.end ≡ at + field_size (drop at s) = sym (ap (λ (x : Field). x.end) same) in
         let starts : f.start ≡ at + 3 = sym (ap (λ (x : Field). x.start) same) in
@@ -74,16 +73,16 @@ stands s at {r} {f} said h = go (is_whole (drop at s)) refl
           within = omega (arith, w.0, w.1, length-drop at s);
           tagged = sym (ap (λ (x : Field). x.tag) same);
         }
-    go false e = absurd (let z : Cut ≡ Whole f = sym (rw e at said) ∙ h in let n : ◌≡◌ {A = ℕ} 0 1 = cc in omega arith)
+    go false e = absurd (let z : None ≡ Some f = sym (rw e at said) ∙ h in let n : ◌≡◌ {A = ℕ} 0 1 = cc in omega arith)
 
 -- where none was found none stands
-pub stands-none : (s : List ℕ) (at : ℕ) {r : FieldRead} → r ≡ field_of s at → r ≡ Cut → is_whole (drop at s) ≡ false
+pub stands-none : (s : List ℕ) (at : ℕ) {r : Option Field} → r ≡ field_of s at → r ≡ None → is_whole (drop at s) ≡ false
 unfolding field_of
 stands-none s at {r} said h = go (is_whole (drop at s)) refl
   where
     go : (b : Bool) → is_whole (drop at s) ≡ b → is_whole (drop at s) ≡ false
     go false e = e
-    go true e = absurd (let z : Whole (front s at) ≡ Cut = sym (rw e at said) ∙ h in let n : ◌≡◌ {A = ℕ} 0 1 = cc in omega arith)
+    go true e = absurd (let z : Some (front s at) ≡ None = sym (rw e at said) ∙ h in let n : ◌≡◌ {A = ℕ} 0 1 = cc in omega arith)
 
 module _ {s : List ℕ} {at : ℕ} {f : Field} (w : Stands s at f) where
   abbrev field : List ℕ
@@ -125,13 +124,13 @@ module _ {s : List ℕ} {at : ℕ} {f : Field} (w : Stands s at f) where
 
 -- ---- a turn
 
-module _ (p : Progress) (s : List ℕ) (at : ℕ) {r : FieldRead} (said : r ≡ field_of s at) where
+module _ (p : Progress) (s : List ℕ) (at : ℕ) {r : Option Field} (said : r ≡ field_of s at) where
   -- nothing is used where no field stands,
-  pub no-turn : at ≤ length s → r ≡ Cut → Turns p s at (record { progress = p; used = at })
+  pub no-turn : at ≤ length s → r ≡ None → Turns p s at (record { progress = p; used = at })
   no-turn h cut = record { goes_on = omega arith; ends = h; feeds = refl; last = λ _. stands-none s at said cut }
 
   -- and else a field is
-  module _ {f : Field} (found : r ≡ Whole f) where
+  module _ {f : Field} (found : r ≡ Some f) where
     pub one-turn : {e : Event} {t : Stepped} → e ≡ event_of f.tag (take (f.end - f.start) (drop f.start s)) → told_step t ≡ step_of p e (f.end - at) → Turns p s at (record { progress = t.progress; used = f.end })
     one-turn {e} {t} is went =
         let w = stands s at said found in
@@ -223,7 +222,7 @@ gathers-none s at run h =
     }
 
 -- one more
-pub gathers-more : {s : List ℕ} {at : ℕ} {count end : ℕ} {before run : List ℕ} {r : FieldRead} {f : Field} {e : Event} {a : Arrival} → Gathers s at (record { count = count; end = end }) before run → r ≡ field_of s end → r ≡ Whole f → e ≡ arrival_in s f → e ≡ Arrived a → count < length before / 3 → Gathers s at (record { count = count + 1; end = f.end }) before (set (set (set run (3 * count) a.alias) (3 * count + 1) a.place.group) (3 * count + 2) a.place.object)
+pub gathers-more : {s : List ℕ} {at : ℕ} {count end : ℕ} {before run : List ℕ} {r : Option Field} {f : Field} {e : Event} {a : Arrival} → Gathers s at (record { count = count; end = end }) before run → r ≡ field_of s end → r ≡ Some f → e ≡ arrival_in s f → e ≡ Arrived a → count < length before / 3 → Gathers s at (record { count = count + 1; end = f.end }) before (set (set (set run (3 * count) a.alias) (3 * count + 1) a.place.group) (3 * count + 2) a.place.object)
 gathers-more {s} {at} {count} {end} {before} {run} {r} {f} {e} {a} g said found event arrived room =
     let w = stands s end said found in
     let three = size-head (drop end s) in

@@ -6,7 +6,7 @@ ghost use Rattle.replay.specs.Gathering.{Turns, is_running};
 use crate::events::event_of;
 use crate::gathering::gather;
 use crate::{Fed, Progress, Stage};
-use trace::{FieldRead, field_at};
+use trace::field_at;
 
 impl Progress {
     // All whole fields from the front of s on.
@@ -56,7 +56,7 @@ fn one(p: Progress, s: &[u8], at: usize) -> Fed
     requires { at ≤ length s.now }
     ensures { Turns p s.now at result }
 {
-    let FieldRead::Whole(f) = field_at(s, at) else {
+    let Some(f) = field_at(s, at) else {
         return Fed {
             progress: p,
             used: at,

@@ -5,7 +5,7 @@ ghost use Rattle.replay.specs.Gathering.{Gathers, arrival_in};
 
 use crate::events::arrived;
 use crate::{Gathered, Next};
-use trace::{Field, FieldRead, field_at};
+use trace::{Field, field_at};
 
 // Whole fields from an offset on, as long as they are arrivals and run has room: three numbers each.
 pub fn gather(s: &[u8], at: usize, run: &mut [u64]) -> Gathered
@@ -16,7 +16,7 @@ pub fn gather(s: &[u8], at: usize, run: &mut [u64]) -> Gathered
     let mut count: usize = 0;
     let mut end = at;
     while count < room {
-        let FieldRead::Whole(f) = field_at(s, end) else {
+        let Some(f) = field_at(s, end) else {
             return Gathered { count, end };
         };
         let Next::One(a) = arrival_in(s, f) else {

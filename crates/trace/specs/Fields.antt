@@ -1,8 +1,7 @@
 -- "Input fields of the trace: one-byte tag, two-byte length (big-endian), value." A field is here all of its bytes.
-use Rattle.std.specs.Prelude.{ℕ, ◌+◌, ◌*◌, ◌%◌, ◌^◌, Bool, List, length, get_or, drop, leb}
+use Rattle.std.specs.Prelude.{ℕ, ◌+◌, ◌*◌, ◌%◌, ◌^◌, Bool, List, Option, Some, None, length, get_or, drop, leb}
 use Rattle.common.specs.Choice.{guard, both}
-use Rattle.trace.specs.declared.FieldRead.{FieldRead}
-use Rattle.trace.specs.declared.FieldRead.TheVariants.{Whole, Cut}
+use Rattle.trace.specs.declared.Field.{Field}
 
 unfoldable pub number_of_tag : List ℕ → ℕ
 number_of_tag field = get_or field 0 0
@@ -18,11 +17,11 @@ field_size field = 3 + (get_or field 1 0 * 256 + get_or field 2 0)
 unfoldable pub is_whole : List ℕ → Bool
 is_whole s = both (leb 3 (length s)) (leb (field_size s) (length s))
 
--- the field at an offset: its tag, and where its value stands
-unfoldable pub field_of : List ℕ → ℕ → FieldRead
+-- the field at an offset: its tag, and where its value stands; none where the bytes end before it does
+unfoldable pub field_of : List ℕ → ℕ → Option Field
 field_of s at =
-    guard (is_whole (drop at s)) Cut
-    (Whole (record { tag = number_of_tag (drop at s); start = at + 3; end = at + field_size (drop at s) }))
+    guard (is_whole (drop at s)) None
+    (Some (record { tag = number_of_tag (drop at s); start = at + 3; end = at + field_size (drop at s) }))
 
 -- an offset is kept in 64 bits, which no trace uses up
 unfoldable pub offset_of : ℕ → ℕ → ℕ

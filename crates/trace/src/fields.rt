@@ -2,27 +2,23 @@
 ghost use Rattle.std.specs.Prelude.{◌≡◌};
 ghost use Rattle.trace.specs.Fields.{field_of};
 
-use crate::{Field, FieldRead};
+use crate::Field;
 
-pub fn field_at(s: &[u8], at: usize) -> FieldRead
+// The field at an offset, or nothing where the bytes end before it does.
+#[tactic(auto, using(crate::proofs::Found::no_value, crate::proofs::Found::there))]
+pub fn field_at(s: &[u8], at: usize) -> Option<Field>
     ensures { result ≡ field_of s.now at }
 {
-    if s.len() < at {
-        return FieldRead::Cut;
+    let rest = s.get(at..)?;
+    let [tag, high, low, ..] = rest else {
+        return None;
+    };
+    let size = 3 + usize::from(u16::from_be_bytes([*high, *low]));
+    if rest.len() < size {
+        return None;
     }
-    let left = s.len() - at;
-    if left < 3 {
-        return FieldRead::Cut;
-    }
-    let tag = s[at];
-    let high = s[at + 1] as usize;
-    let low = s[at + 2] as usize;
-    let size = 3 + (high * 256 + low);
-    if left < size {
-        return FieldRead::Cut;
-    }
-    FieldRead::Whole(Field {
-        tag,
+    Some(Field {
+        tag: *tag,
         start: at + 3,
         end: at + size,
     })

@@ -12,10 +12,3 @@ pub struct Field {
     pub start: usize,
     pub end: usize,
 }
-
-// A field at an offset, or that the bytes end before it does.
-#[derive(Clone, Copy)]
-pub enum FieldRead {
-    Whole(Field),
-    Cut,
-}

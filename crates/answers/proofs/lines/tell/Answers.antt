@@ -8,17 +8,17 @@ pub returns-in_default : goal.returns-in_default
 returns-in_default c = none-taken _ _ _ c.field_at.ensures _ c.in_default.is c.of0.ensures
 
 pub slice_bounds-event_of-count : goal.slice_bounds-event_of-count
-slice_bounds-event_of-count c = (stands _ _ c.field_at.ensures c.in-Whole.is).ordered
+slice_bounds-event_of-count c = (stands _ _ c.field_at.ensures c.in-Some.is).ordered
 
 pub slice_bounds-event_of-start : goal.slice_bounds-event_of-start
-slice_bounds-event_of-start c = (stands _ _ c.field_at.ensures c.in-Whole.is).ordered
+slice_bounds-event_of-start c = (stands _ _ c.field_at.ensures c.in-Some.is).ordered
 
 pub slice_bounds-event_of-end : goal.slice_bounds-event_of-end
-slice_bounds-event_of-end c = (stands _ _ c.field_at.ensures c.in-Whole.is).within
+slice_bounds-event_of-end c = (stands _ _ c.field_at.ensures c.in-Some.is).within
 
 pub overflow_sub-end : goal.overflow_sub-end
-overflow_sub-end c = let w = stands _ _ c.field_at.ensures c.in-Whole.is in omega (arith, w.ends)
+overflow_sub-end c = let w = stands _ _ c.field_at.ensures c.in-Some.is in omega (arith, w.ends)
 
 pub returns : goal.returns
 returns c =
-    one-taken _ _ _ c.field_at.ensures _ c.in-Whole.is c.event_of.ensures c.step-stepped.ensures c.line.ensures
+    one-taken _ _ _ c.field_at.ensures _ c.in-Some.is c.event_of.ensures c.step-stepped.ensures c.line.ensures

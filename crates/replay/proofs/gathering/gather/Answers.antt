@@ -15,7 +15,7 @@ returns-in_default c = c.loop-count.invariant
 
 pub arrival_in-requires : goal.arrival_in-requires
 arrival_in-requires c =
-    let w = stands _ _ c.field_at.ensures c.in-Whole.is in
+    let w = stands _ _ c.field_at.ensures c.in-Some.is in
     (w.ordered, w.within)
 
 pub shape_of-run-in_default-arrival_in : goal.shape_of-run-in_default-arrival_in
@@ -32,7 +32,7 @@ bounds-run-count-in-loop-count-2 c = simp length-set (omega (arith, c.loop-count
 
 pub loop-count-preserved : goal.loop-count-preserved
 loop-count-preserved c =
-    gathers-more c.loop-count.invariant c.field_at.ensures c.in-Whole.is c.arrival_in.ensures (ap as_event c.in-One.is) (search rules)
+    gathers-more c.loop-count.invariant c.field_at.ensures c.in-Some.is c.arrival_in.ensures (ap as_event c.in-One.is) (search rules)
 
 pub shape_of-run : goal.shape_of-run
 shape_of-run c = c.loop-count.invariant.same-room
