@@ -2,6 +2,7 @@
 ghost use Rattle.std.specs.Prelude.{◌≡◌, ◌++◌};
 ghost use Rattle.columns.specs.Pouring.{filling, pour};
 ghost use Rattle.columns.specs.Columns.{size_text};
+ghost use Rattle.types.specs.Refusals.{number_of as refusal_number};
 ghost use Rattle.explanation_lines.specs.Lines.{newline, tag_words, field_line, called, part_line, faulty_line, left_line, numbered, mark_line, rule_text, answer_line, fault_line, cut_field_line};
 
 use crate::Word;
@@ -13,6 +14,7 @@ use labels::{put_label, put_meaning};
 use layout::FieldName;
 use parts::{Part, What};
 use text::Item;
+use types::Refusal;
 
 // ---- a field
 
@@ -119,11 +121,11 @@ fn put_numbered(out: &mut [u8], at: usize, number: u8) -> usize
 }
 
 // The mark under a part that is refused.
-pub fn put_mark(out: &mut [u8], at: usize, number: u8) -> usize
-    ensures { filling out.new result ≡ pour (filling out.old at) (mark_line number) }
+pub fn put_mark(out: &mut [u8], at: usize, why: Refusal) -> usize
+    ensures { filling out.new result ≡ pour (filling out.old at) (mark_line (refusal_number why)) }
 {
     let marked = put_bytes(out, at, b"                                 ^ ");
-    let next = put_numbered(out, marked, number);
+    let next = put_numbered(out, marked, why.number());
     put_byte(out, next, b'\n')
 }
 

@@ -13,6 +13,7 @@ use field::NumberRead;
 use layout::FieldName;
 use parts::{Part, What};
 use text::Item;
+use types::Refusal;
 
 // A number that the bytes end in.
 fn put_cut(out: &mut [u8], at: usize, offset: u64, s: &[u8], name: FieldName, start: usize) -> usize
@@ -27,7 +28,7 @@ fn put_cut(out: &mut [u8], at: usize, offset: u64, s: &[u8], name: FieldName, st
         end: s.len(),
     };
     let next = put_faulty_line(out, at, offset, s, part);
-    put_mark(out, next, 1)
+    put_mark(out, next, Refusal::More)
 }
 
 // A number that is there, from start up to end.
@@ -116,7 +117,7 @@ pub fn put_start(out: &mut [u8], at: usize, offset: u64, s: &[u8]) -> usize
     let called = put_bytes(out, margin, b"  Part: ");
     if s.len() == 0 {
         let next = put_bytes(out, called, b"cut\n");
-        return put_mark(out, next, 1);
+        return put_mark(out, next, Refusal::More);
     }
     let part = put_item(out, called, Item::Number(first_byte(s) as u64));
     let next = put_byte(out, part, b'\n');

@@ -1,11 +1,11 @@
 -- `tell_number` meets its contract. Assumes nothing.
 use Rattle.field.proofs.TwoReads.{number-there, number-missing}
 use Rattle.parts.specs.Telling.{tell_number}
-use Rattle.parts.proofs.telling.tell_number.Goals as goal
+use Rattle.parts.proofs.Cursor.tell_number.Goals as goal
 
 pub returns-in-Whole : goal.returns-in-Whole
 unfolding tell_number
-returns-in-Whole c = rw (number-there _ _ c.in-Whole.is c.read_number.ensures, c.advance.ensures)
+returns-in-Whole c = rw (number-there _ _ c.in-Whole.is c.read_number.ensures) c.told.ensures
 
 pub returns-in-Cut : goal.returns-in-Cut
 unfolding tell_number

@@ -1,2 +1,0 @@
-pub mod LastArms
-pub mod AfterTypes
