@@ -28,7 +28,7 @@ use Rattle.parts.specs.declared.What.TheVariants.{Byte as AByte, Left}
 use Rattle.parts.specs.declared.Part.{Part}
 use Rattle.parts.specs.declared.Stage.TheVariants.{Field as AtField}
 use Rattle.parts.specs.declared.Cursor.{Cursor}
-use Rattle.parts.specs.declared.Step.TheVariants.{Refused as IsRefused, Faulty}
+use Rattle.parts.specs.declared.Step.TheVariants.{Refused as IsRefused}
 use Rattle.parts.specs.declared.NextPart.{NextPart}
 use Rattle.explained.specs.Grammar.{Parts, end, stop, a_number, a_byte, some_bytes}
 use Rattle.explained.specs.Explaining.{Explained, taking, refusing, first, cut_at, explain}

@@ -5,7 +5,8 @@
 mod telling;
 
 use parts::Cursor;
-pub use telling::{begin_field, begin_message, is_over, next, over, tag_of};
+pub use telling::tag_of;
+use types::Refusal;
 
 // How many bytes a call puts at most.
 pub const LONGEST_LINES: usize = 2048;
@@ -25,18 +26,19 @@ pub enum Reason {
 // field is at fault. Below those of a message in a control stream, what the reader answered.
 #[derive(Clone, Copy)]
 pub enum Ending {
+    // numbers: the ledger, whose answers they are, is not below this crate
     Answered(u8, u8),
     Fault(Reason),
     Read,
 }
 
-// Which line comes next: that of a field; that of the part at the cursor; the ending, and what the reader answered; or
-// none.
+// Which line comes next: that of a field; that of the part at the cursor; the ending, and what the reader refused, if it
+// did; or none.
 #[derive(Clone, Copy)]
 pub enum Due {
     Field,
     Part,
-    Ending(u8),
+    Ending(Option<Refusal>),
     Nothing,
 }
 

@@ -1,4 +1,6 @@
 // A trace: its fields, as they are taken, and its end.
+#![tactic(auto, unfolding(crate::specs::Traces::reason_of, columns::specs::Pouring::pour, text::specs::Lines::line_of))]
+
 ghost use Rattle.std.specs.Prelude.{◌≡◌, []};
 ghost use Rattle.text.specs.Lines.{line_of, fault_line as trace_fault};
 ghost use Rattle.replay.specs.Progressing.{on_fault};
@@ -9,45 +11,21 @@ ghost use Rattle.explanation_traces.specs.Traces.{is_empty, reason_of, ending_by
 
 use crate::FieldTaken;
 use columns::{put_byte, put_item, put_spaces};
-use explanation::{Ending, Explaining, Reason, begin_field, begin_message, over, tag_of};
+use explanation::{Ending, Explaining, Reason, tag_of};
 use explanation_lines::{Word, put_cut_field, put_reason};
 use replay::{Event, Progress, Stage};
 use text::Item;
-
-fn is_empty(stage: Stage) -> bool
-    ensures { result ≡ is_empty stage }
-{
-    match stage {
-        Stage::Empty => true,
-        Stage::Running => false,
-        Stage::Faulty(_) => false,
-    }
-}
 
 // Why a field would be at fault: its tag; that it isn't due; or that its value has another shape.
 fn reason_of(stage: Stage, tag: u8) -> Reason
     ensures { result ≡ reason_of stage tag }
 {
-    let first = is_empty(stage);
-    match tag {
-        1 => {
-            if first {
-                return Reason::NoStart;
-            }
-            Reason::SecondStart
-        }
-        2 => {
-            if first {
-                return Reason::NotFirst;
-            }
-            Reason::NoMessage
-        }
-        3 => {
-            if first {
-                return Reason::NotFirst;
-            }
-            Reason::NoArrival
-        }
+    match (tag, matches!(stage, Stage::Empty)) {
+        (1, true) => Reason::NoStart,
+        (1, false) => Reason::SecondStart,
+        (2 | 3, true) => Reason::NotFirst,
+        (2, false) => Reason::NoMessage,
+        (3, false) => Reason::NoArrival,
         _ => Reason::NoTag,
     }
 }
@@ -56,11 +34,8 @@ fn ending_by(e: Event, number: u8, rule: u8, reason: Reason) -> Ending
     ensures { result ≡ ending_by e (record { number = number; rule = rule }) reason }
 {
     match e {
-        Event::Start(_, _) => Ending::Answered(number, rule),
-        Event::Control(_) => Ending::Answered(number, rule),
-        Event::Malformed(_) => Ending::Answered(number, rule),
-        Event::Arrived(_) => Ending::Answered(number, rule),
         Event::Fault => Ending::Fault(reason),
+        _ => Ending::Answered(number, rule),
     }
 }
 
@@ -69,9 +44,8 @@ fn shown_in(stage: Stage, e: Explaining) -> Explaining
     ensures { result ≡ shown_in stage e }
 {
     match stage {
-        Stage::Empty => e,
-        Stage::Running => e,
-        Stage::Faulty(_) => over(e),
+        Stage::Empty | Stage::Running => e,
+        Stage::Faulty(_) => e.over(),
     }
 }
 
@@ -80,14 +54,14 @@ fn explain(stage: Stage, offset: u64, field: &[u8], e: Event, number: u8, rule: 
     ensures { result ≡ explaining_by stage offset field.now e (record { number = number; rule = rule }) }
 {
     let ending = ending_by(e, number, rule, reason_of(stage, tag_of(field)));
-    shown_in(stage, begin_field(field, offset, ending))
+    shown_in(stage, Explaining::begin_field(field, offset, ending))
 }
 
 // No field.
 fn explain_none(s: &[u8], offset: u64) -> Explaining
     ensures { result ≡ duly (message_begun s.now offset) Nothing }
 {
-    over(begin_message(s, offset))
+    Explaining::begin_message(s, offset).over()
 }
 
 // The field at an offset is taken.
@@ -101,23 +75,18 @@ pub fn tell(p: Progress, s: &[u8], at: usize) -> FieldTaken
             used: at,
         };
     };
-    let start = f.start;
-    let end = f.end;
-    let stepped = p.step(replay::event_of(f.tag, &s[start..end]), end - at);
-    let stage = p.stage;
-    let event = stepped.event;
-    let progress = stepped.progress;
+    let stepped = p.step(replay::event_of(f.tag, &s[f.start..f.end]), f.end - at);
     FieldTaken {
         explaining: explain(
-            stage,
+            p.stage,
             p.offset,
-            &s[at..end],
-            event,
+            &s[at..f.end],
+            stepped.event,
             stepped.number,
             stepped.rule,
         ),
-        progress,
-        used: end,
+        progress: stepped.progress,
+        used: f.end,
     }
 }
 
@@ -128,18 +97,9 @@ fn put_end_reason(out: &mut [u8], at: usize, stage: Stage, offset: u64, rest: &[
 {
     match stage {
         Stage::Faulty(_) => at,
-        Stage::Empty => {
-            if rest.len() == 0 {
-                return put_reason(out, at, Word::NoBytes);
-            }
-            put_ends_inside(out, at, offset, rest)
-        }
-        Stage::Running => {
-            if rest.len() == 0 {
-                return at;
-            }
-            put_ends_inside(out, at, offset, rest)
-        }
+        Stage::Empty if rest.len() == 0 => put_reason(out, at, Word::NoBytes),
+        Stage::Running if rest.len() == 0 => at,
+        _ => put_ends_inside(out, at, offset, rest),
     }
 }
 
@@ -156,12 +116,8 @@ pub fn put_end(out: &mut [u8], at: usize, p: Progress, rest: &[u8]) -> usize
     ensures { filling out.new result ≡ pour (filling out.old at)
         (end_text p rest.now) }
 {
-    let stage = p.stage;
-    let offset = p.offset;
-    let next = put_end_reason(out, at, stage, offset, rest);
-    let ended = p.finish(rest.len());
-    let last = ended.stage;
-    put_trace_fault(out, next, last)
+    let next = put_end_reason(out, at, p.stage, p.offset, rest);
+    put_trace_fault(out, next, p.finish(rest.len()).stage)
 }
 
 // The last line of a trace that is at fault.

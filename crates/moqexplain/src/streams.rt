@@ -5,6 +5,7 @@ ghost use Rattle.moqexplain.specs.Ending.{Ends, Within};
 use crate::Found;
 use crate::reading::read_behind;
 use crate::writing::{print, write};
+use explanation::Explaining;
 use message::Reading;
 use text::Putting;
 
@@ -83,7 +84,7 @@ fn print_message(
     requires { at ≤ length out.old }
     ensures { Ends result (length out.old) }
 {
-    let e = explanation::begin_message(s, offset);
+    let e = Explaining::begin_message(s, offset);
     print(rt, out, at, s, e)
 }
 

@@ -46,13 +46,13 @@ pub fn print(
     let mut turns = u64::MAX;
     while turns > 0 {
         turns -= 1;
-        if explanation::is_over(e) {
+        if e.is_over() {
             return Putting::Done(at);
         }
         let Putting::Done(front) = make_room(rt, out, at) else {
             return Putting::TooShort;
         };
-        let told = explanation::next(out, front, field, e);
+        let told = e.next(out, front, field);
         at = told.at;
         e = told.next;
     }

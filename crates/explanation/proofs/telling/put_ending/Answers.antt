@@ -5,7 +5,7 @@ pub returns-in-Answered : goal.returns-in-Answered
 returns-in-Answered c = rw c.in-Answered.is c.put_answer.ensures
 
 pub returns-in-Fault : goal.returns-in-Fault
-returns-in-Fault c = rw (c.in-Fault.is, ← c.reason_word.ensures) c.put_reason.ensures
+returns-in-Fault c = rw (c.in-Fault.is, ← c.into.ensures) c.put_reason.ensures
 
 pub returns-in-Read : goal.returns-in-Read
-returns-in-Read c = rw c.in-Read.is c.put_answer-in-Read.ensures
+returns-in-Read c = rw (c.in-Read.is, ← c.number_read.ensures) c.put_answer-in-Read.ensures

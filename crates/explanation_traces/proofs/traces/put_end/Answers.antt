@@ -7,4 +7,4 @@ use Rattle.explanation_traces.proofs.traces.put_end.Goals as goal
 pub returns : goal.returns
 unfolding end_text finish_of
 returns c =
-    poured-both _ _ _ c.put_end_reason-next.ensures (rw c.finish-ended.ensures at c.put_trace_fault.ensures)
+    poured-both _ _ _ c.put_end_reason-next.ensures (rw c.finish.ensures at c.put_trace_fault.ensures)

@@ -16,8 +16,8 @@ slice_bounds-event_of-start c = (stands _ _ c.field_at.ensures c.in-Some.is).ord
 pub slice_bounds-event_of-end : goal.slice_bounds-event_of-end
 slice_bounds-event_of-end c = (stands _ _ c.field_at.ensures c.in-Some.is).within
 
-pub overflow_sub-end : goal.overflow_sub-end
-overflow_sub-end c = let w = stands _ _ c.field_at.ensures c.in-Some.is in omega (arith, w.ends)
+pub overflow_sub-f : goal.overflow_sub-f
+overflow_sub-f c = let w = stands _ _ c.field_at.ensures c.in-Some.is in omega (arith, w.ends)
 
 pub slice_bounds-explain-count : goal.slice_bounds-explain-count
 slice_bounds-explain-count c = let w = stands _ _ c.field_at.ensures c.in-Some.is in omega (arith, w.ends)
