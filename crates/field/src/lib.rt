@@ -2,6 +2,9 @@
 // numbers as they are, bytes as parts of the caller's. Nothing is copied.
 #![tactic(auto)]
 
+ghost use Rattle.std.specs.Prelude.{◌≡◌};
+ghost use Rattle.field.specs.declared.Piece.TheVariants.{Number};
+
 mod pairs;
 mod reader;
 mod rules;
@@ -58,6 +61,15 @@ pub enum Piece {
     Bytes(Span),
     List(Kind, Entries),
     Track(Track),
+}
+
+// What stands where a list of fields holds none.
+impl Default for Piece {
+    ghost is_default = { λ p. p ≡ Number 0 };
+
+    fn default() -> Self {
+        Piece::Number(0)
+    }
 }
 
 // A place in a track: a group and an object. Places are ordered by group first.
