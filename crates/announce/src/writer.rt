@@ -6,7 +6,7 @@ ghost use Rattle.announce.specs.Told.{typed_of};
 
 use crate::AnnounceMessage;
 use field::{Kind, Piece};
-use measure::{Fields, places};
+use measure::Fields;
 use types::kinds::{AnnounceKind, Asking, Naming, Refusing};
 
 // The number of its type.
@@ -26,28 +26,23 @@ pub fn fields(m: AnnounceMessage) -> Fields
     let number = number(m);
     match m {
         AnnounceMessage::Named(_, namespace) => {
-            places::of1(number, Piece::List(Kind::Namespace, namespace))
+            Fields::of(number, [Piece::List(Kind::Namespace, namespace)])
         }
-        AnnounceMessage::Asked(_, x) => {
-            let namespace = x.namespace;
-            let parameters = x.parameters;
-            places::of2(
-                number,
-                Piece::List(Kind::Namespace, namespace),
-                Piece::List(Kind::Parameters, parameters),
-            )
-        }
-        AnnounceMessage::Refused(_, x) => {
-            let namespace = x.namespace;
-            let failure = x.failure;
-            let reason = failure.reason;
-            places::of3(
-                number,
-                Piece::List(Kind::Namespace, namespace),
-                Piece::Number(failure.code),
-                Piece::Bytes(reason),
-            )
-        }
+        AnnounceMessage::Asked(_, x) => Fields::of(
+            number,
+            [
+                Piece::List(Kind::Namespace, x.namespace),
+                Piece::List(Kind::Parameters, x.parameters),
+            ],
+        ),
+        AnnounceMessage::Refused(_, x) => Fields::of(
+            number,
+            [
+                Piece::List(Kind::Namespace, x.namespace),
+                Piece::Number(x.failure.code),
+                Piece::Bytes(x.failure.reason),
+            ],
+        ),
     }
 }
 

@@ -5,7 +5,7 @@ use mathlib.Core.Bool.{true}
 use mathlib.Core.List.{List, ◌++◌, append_assoc}
 use native.Mathlib.Omega.{arith}
 use lib.ListN.{length}
-use Rattle.common.specs.Buffer.{over, Put}
+use Rattle.common.specs.Buffer.{Put}
 use Rattle.common.proofs.Puts.{lent, given}
 use Rattle.common.proofs.PutLoop.{Going, Next, going_start, going-within, going_end, next_fits, going-sum, going_next}
 use Rattle.integer.specs.Integer.{greatest}
@@ -25,7 +25,6 @@ use Rattle.measure.specs.Judging.{right_list}
 use Rattle.measure.proofs.EntriesFrom.{Run, run-first, run-next, items-next, items-none}
 use Rattle.measure.proofs.Lists.{holds}
 use Rattle.encode.specs.Entries.{enc_head}
-use Rattle.encode.proofs.Copies.{copy-put}
 use Rattle.encode.proofs.EntryForms.{head-is}
 
 -- that many entries from an offset on are there, and left to be put
@@ -100,12 +99,12 @@ module _ {kind : Kind} {s all before out : List ℕ} {at here left : ℕ} {e : E
     pub bytes_fit : size e.bytes ≤ length (lent (at + head) (given at out t))
     bytes_fit = rw (length_part s e.bytes parts.within) at (next_fits headed w.fits bytes_next)
 
-    module _ {u : List ℕ} (k : u ≡ over (part s e.bytes) (lent (at + head) (given at out t))) where
+    module _ {n : ℕ} {u : List ℕ} (k : Put (part s e.bytes) (lent (at + head) (given at out t)) n u) where
       -- which end within it too,
-      pub entry-sum : at + head + size e.bytes ≤ length before
-      entry-sum = going-sum headed w.fits bytes_next (copy-put s e.bytes parts.within k)
+      pub entry-sum : at + head + n ≤ length before
+      entry-sum = going-sum headed w.fits bytes_next k
 
       -- and then the others are left
-      pub entry_next : Entering kind s all before (given (at + head) (given at out t) u) (at + head + size e.bytes) e.bytes.end (left - 1)
+      pub entry_next : Entering kind s all before (given (at + head) (given at out t) u) (at + head + n) e.bytes.end (left - 1)
       entry_next =
-          record { going = going_next headed w.fits bytes_next (copy-put s e.bytes parts.within k); run = run-next left w.entering.run w.more w.found }
+          record { going = going_next headed w.fits bytes_next k; run = run-next left w.entering.run w.more w.found }

@@ -2,8 +2,10 @@
 use Prim.Native.Nat.{ℕ, ◌+◌, ◌≤◌, ◌<◌}
 use mathlib.Core.Path.{◌≡◌, sym}
 use mathlib.Core.Bool.{true}
-use mathlib.Core.List.{List, ◌++◌}
-use lib.ListN.{length}
+use mathlib.Core.List.{List, [], ◌∷◌, ◌++◌, map}
+use native.Mathlib.Numerals.{add-one}
+use lib.Seq.{drop-cons}
+use lib.ListN.{length, get_or, drop}
 use Rattle.common.specs.Choice.{both}
 use Rattle.common.proofs.Tests.{both_first, both-second}
 use Rattle.common.specs.Buffer.{Put}
@@ -13,7 +15,6 @@ use Rattle.field.specs.Value.{mean, enc_field, encode}
 use Rattle.field.specs.declared.Piece.{Piece}
 use Rattle.measure.specs.Judging.{right}
 use Rattle.measure.specs.Measuring.{right_all, encode_all}
-use Rattle.measure.proofs.FieldsFrom.{Row}
 use Rattle.measure.proofs.Joins.{right-joined, encode-joined}
 use Rattle.encode.proofs.Pieces.{Asks}
 
@@ -28,36 +29,40 @@ filling-start {s} {ps} before h = record { going = going_start (encode_all s ps)
 
 -- ---- one at a time
 
-module _ {from : ℕ → List Piece} {count : ℕ} {piece : ℕ → Piece} (r : Row from count piece) {s all before out : List ℕ} {at i : ℕ} (g : Filling s all before out at (from i)) (fits : length all ≤ length before) where
-  -- none is left
-  pub filling-end : count ≤ i → Put all before at out
-  unfolding encode_all encode
-  filling-end h = going_end g.going fits (rw (r.last i h))
+-- a part, as a field, and those after it
+pub left-more : {A B : Type 0} (f : A → B) (xs : List A) (i : ℕ) (d : A) → i < length xs → map f (drop i xs) ≡ f (get_or xs i d) ∷ map f (drop (i + 1) xs)
+left-more f xs i d h = rw (drop-cons xs i d h, add-one i)
 
-  module _ (h : i < count) where
+module _ {s all before out : List ℕ} {at : ℕ} {ps : List Piece} (g : Filling s all before out at ps) (fits : length all ≤ length before) where
+  -- none is left
+  pub filling-end : ps ≡ [] → Put all before at out
+  unfolding encode_all encode
+  filling-end n = going_end g.going fits (rw n)
+
+  module _ {p : Piece} {others : List Piece} (is : ps ≡ p ∷ others) where
     -- the others follow the next
-    next : Next (enc_field (mean s (piece i))) (encode_all s (from (i + 1))) (encode_all s (from i))
+    next : Next (enc_field (mean s p)) (encode_all s others) (encode_all s ps)
     unfolding encode_all encode
-    next = record { joins = rw (r.next i h) }
+    next = record { joins = rw is }
 
     -- all of which are right
-    next-right : both (right s (piece i)) (right_all s (from (i + 1))) ≡ true
+    next-right : both (right s p) (right_all s others) ≡ true
     unfolding right_all
-    next-right = rw (r.next i h) at g.rights
+    next-right = rw is at g.rights
 
     -- it can be put into what is left,
-    pub field-asks : Asks s (piece i) (length (lent at out))
+    pub field-asks : Asks s p (length (lent at out))
     field-asks = (both_first _ _ next-right, next_fits g.going fits next)
 
-    module _ {n : ℕ} {t : List ℕ} (q : Put (enc_field (mean s (piece i))) (lent at out) n t) where
+    module _ {n : ℕ} {t : List ℕ} (q : Put (enc_field (mean s p)) (lent at out) n t) where
       -- ends within the buffer,
       pub field-sum : at + n ≤ length before
       field-sum = going-sum g.going fits next q
 
       -- and then the others are left
-      pub field_next : Filling s all before (given at out t) (at + n) (from (i + 1))
+      pub field_next : Filling s all before (given at out t) (at + n) others
       field_next =
-          record { going = going_next g.going fits next q; rights = both-second (right s (piece i)) _ next-right }
+          record { going = going_next g.going fits next q; rights = both-second (right s p) _ next-right }
 
 -- ---- several at a time
 

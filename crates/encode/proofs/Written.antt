@@ -6,6 +6,7 @@ use mathlib.Core.List.{List, ◌++◌, append_assoc}
 use native.Mathlib.Omega.{arith}
 use borrow.Author.Tests.{le-leb, lt-leb}
 use lib.Dec.{leb, lit≤}
+use Rattle.std.specs.Prelude.{Ok, Err}
 use lib.ListN.{length, length-append}
 use Rattle.common.specs.Answer.{refused, wrote, Written, Leaves}
 use Rattle.common.specs.Choice.{both}
@@ -14,10 +15,9 @@ use Rattle.common.proofs.Puts.{Room}
 use Rattle.integer.specs.Integer.{size_of, greatest, enc_of}
 use Rattle.integer.proofs.Laws.{length-enc}
 use Rattle.field.specs.declared.Piece.{Piece}
-use Rattle.measure.specs.Judging.{judged}
+use Rattle.measure.specs.Judging.{Judged, judged}
 use Rattle.measure.specs.Measuring.{right_all, sized_all, encode_all, measure_all}
-use Rattle.measure.specs.declared.Measured.{Measured}
-use Rattle.measure.specs.declared.Measured.TheVariants.{Takes, TooLong, Oversize, Forbidden}
+use Rattle.measure.specs.declared.Unfit.TheVariants.{TooLong, Oversize, Forbidden}
 use Rattle.measure.proofs.Judges.{Taken, judged-takes, judged-wrong, judged-great, judged-long}
 use Rattle.encode.specs.Writing.{written_of, frame, framed_of}
 
@@ -43,15 +43,15 @@ module _ {kind : ℕ} (is_right is_sized is_short : Bool) (bytes before : List �
   kind-great h = rw (lt-leb kind greatest h) (record { says = refl; holds = refl })
 
   module _ (small : kind ≤ greatest) where
-    module _ {r : Measured} (n room : ℕ) (said : r ≡ judged is_right is_sized n room) where
+    module _ {r : Judged} (n room : ℕ) (said : r ≡ judged is_right is_sized n room) where
       -- 5: a field can't
-      pub fields-forbidden : r ≡ Forbidden → Leaves (with_kind kind is_right is_sized is_short bytes before) (refused 5) before
+      pub fields-forbidden : r ≡ Err Forbidden → Leaves (with_kind kind is_right is_sized is_short bytes before) (refused 5) before
       unfolding written_of
       fields-forbidden e =
           rw (le-leb kind greatest small, judged-wrong is_right is_sized n room (sym said ∙ e)) (record { says = refl; holds = refl })
 
       -- 6: a field is over a size
-      pub fields-oversize : r ≡ Oversize → Leaves (with_kind kind is_right is_sized is_short bytes before) (refused 6) before
+      pub fields-oversize : r ≡ Err Oversize → Leaves (with_kind kind is_right is_sized is_short bytes before) (refused 6) before
       unfolding written_of
       fields-oversize e =
           let j = judged-great is_right is_sized n room (sym said ∙ e) in
@@ -78,35 +78,35 @@ done {kind} {bytes = bytes} {before = before} r q =
 
 -- ---- what the judgement of the fields tells
 
-module _ (s : List ℕ) (ps : List Piece) (room : ℕ) {r : Measured} (said : r ≡ measure_all s ps room) where
+module _ (s : List ℕ) (ps : List Piece) (room : ℕ) {r : Judged} (said : r ≡ measure_all s ps room) where
   -- they take that many bytes,
-  pub taken : {n : ℕ} → r ≡ Takes n → Taken (right_all s ps) (sized_all s ps) (length (encode_all s ps)) room n
+  pub taken : {n : ℕ} → r ≡ Ok n → Taken (right_all s ps) (sized_all s ps) (length (encode_all s ps)) room n
   unfolding measure_all
   taken e = judged-takes (right_all s ps) (sized_all s ps) (length (encode_all s ps)) room (sym said ∙ e)
 
   -- or they are too long
-  too_long : r ≡ TooLong → ((right_all s ps ≡ true) × (sized_all s ps ≡ true)) × (room < length (encode_all s ps))
+  too_long : r ≡ Err TooLong → ((right_all s ps ≡ true) × (sized_all s ps ≡ true)) × (room < length (encode_all s ps))
   unfolding measure_all
   too_long e = judged-long (right_all s ps) (sized_all s ps) (length (encode_all s ps)) room (sym said ∙ e)
 
 -- ---- a field or a header: its bytes alone
 
-module _ (is_right is_sized : Bool) (bytes before : List ℕ) {r : Measured} (said : r ≡ judged is_right is_sized (length bytes) (length before)) where
+module _ (is_right is_sized : Bool) (bytes before : List ℕ) {r : Judged} (said : r ≡ judged is_right is_sized (length bytes) (length before)) where
   -- 5: one can't be written,
-  pub bare-forbidden : r ≡ Forbidden → Leaves (written_of is_right is_sized true bytes before) (refused 5) before
+  pub bare-forbidden : r ≡ Err Forbidden → Leaves (written_of is_right is_sized true bytes before) (refused 5) before
   bare-forbidden = fields-forbidden {kind = 0} _ _ _ _ _ (lit≤ tt) _ _ said
 
   -- 6: or is over a size,
-  pub bare-oversize : r ≡ Oversize → Leaves (written_of is_right is_sized true bytes before) (refused 6) before
+  pub bare-oversize : r ≡ Err Oversize → Leaves (written_of is_right is_sized true bytes before) (refused 6) before
   bare-oversize = fields-oversize {kind = 0} _ _ _ _ _ (lit≤ tt) _ _ said
 
   -- 7: or they are longer than the output
-  pub bare-over : r ≡ TooLong → Leaves (written_of is_right is_sized true bytes before) (refused 7) before
+  pub bare-over : r ≡ Err TooLong → Leaves (written_of is_right is_sized true bytes before) (refused 7) before
   bare-over e =
       let t = judged-long is_right is_sized (length bytes) (length before) (sym said ∙ e) in
       output-short {kind = 0} _ _ _ _ _ (lit≤ tt) t.0.0 t.0.1 refl t.1
 
-  module _ {n : ℕ} (e : r ≡ Takes n) where
+  module _ {n : ℕ} (e : r ≡ Ok n) where
     -- all was checked,
     pub bare-taken : Taken is_right is_sized (length bytes) (length before) n
     bare-taken = judged-takes is_right is_sized (length bytes) (length before) (sym said ∙ e)
@@ -137,15 +137,15 @@ module _ {longest : ℕ} {s : List ℕ} {kind : ℕ} {ps : List Piece} {before :
   message-room =
       record { joins = append_assoc (enc_of kind) (enc_of n) (encode_all s ps) ∙ rw m.counts; fits = m.ready.fits }
 
-module _ (longest : ℕ) (s : List ℕ) {kind : ℕ} (ps : List Piece) (before : List ℕ) (small : kind ≤ greatest) {r : Measured} (said : r ≡ measure_all s ps longest) where
+module _ (longest : ℕ) (s : List ℕ) {kind : ℕ} (ps : List Piece) (before : List ℕ) (small : kind ≤ greatest) {r : Judged} (said : r ≡ measure_all s ps longest) where
   -- 3: the body is longer than it may be
-  pub message-long : r ≡ TooLong → Leaves (framed_of longest s kind ps before) (refused 3) before
+  pub message-long : r ≡ Err TooLong → Leaves (framed_of longest s kind ps before) (refused 3) before
   unfolding framed_of
   message-long e =
       let t = too_long s ps longest said e in
       body-long _ _ _ _ _ small t.0.0 t.0.1 (lt-leb (length (encode_all s ps)) longest t.1)
 
-  module _ {n a b : ℕ} (e : r ≡ Takes n) (h : a ≡ size_of kind) (k : b ≡ size_of n) where
+  module _ {n a b : ℕ} (e : r ≡ Ok n) (h : a ≡ size_of kind) (k : b ≡ size_of n) where
     -- its bytes are counted
     counted : a + b + n ≡ length (frame kind (encode_all s ps))
     counted =

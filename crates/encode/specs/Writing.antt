@@ -1,5 +1,5 @@
 -- What writing a field, a message or a header does: "The writer checks 5, 6, 3, 7 in that order", each over all of it.
-use Rattle.std.specs.Prelude.{ℕ, List, ◌++◌, Bool, true, length, leb}
+use Rattle.std.specs.Prelude.{ℕ, List, ◌++◌, Bool, true, length, leb, Result, Ok, Err}
 use Rattle.common.specs.Choice.{guard, both}
 use Rattle.common.specs.Answer.{unwritten, Answer, refused, Nothing, wrote, Written}
 use Rattle.common.specs.Buffer.{over}
@@ -8,8 +8,8 @@ use Rattle.field.specs.Value.{mean, enc_field}
 use Rattle.field.specs.declared.Piece.{Piece}
 use Rattle.measure.specs.Judging.{right, sized}
 use Rattle.measure.specs.Measuring.{right_all, sized_all, encode_all}
-use Rattle.encode.specs.declared.Writing.{Writing}
-use Rattle.encode.specs.declared.Writing.TheVariants.{Done, Forbidden, Oversize, TooLong, TooShort}
+use Rattle.encode.specs.declared.Refusal.{Refusal}
+use Rattle.encode.specs.declared.Refusal.TheVariants.{Forbidden, Oversize, TooLong, TooShort}
 
 -- ---- the writer
 
@@ -48,9 +48,9 @@ framed_of longest s kind ps before =
 
 -- ---- 01's number and values of what is answered
 
-abbrev pub told_writing : Writing → Answer Nothing
-told_writing (Done n) = wrote n
-told_writing Forbidden = refused 5
-told_writing Oversize = refused 6
-told_writing TooLong = refused 3
-told_writing TooShort = refused 7
+abbrev pub told_writing : Result ℕ Refusal → Answer Nothing
+told_writing (Ok n) = wrote n
+told_writing (Err Forbidden) = refused 5
+told_writing (Err Oversize) = refused 6
+told_writing (Err TooLong) = refused 3
+told_writing (Err TooShort) = refused 7

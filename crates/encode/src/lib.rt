@@ -2,21 +2,37 @@
 // the front of what is lent.
 #![tactic(auto)]
 
+ghost use Rattle.std.specs.Prelude.{◌≡◌};
+ghost use Rattle.encode.specs.Framing.{refusal_of};
+
 mod heading;
 mod putting;
+mod several;
 mod writer;
 
 pub use heading::write_header;
+use measure::Unfit;
 pub use putting::put;
 pub use writer::write_framed;
 
-// How many bytes were written; or that something can't be written, is over a size, makes a body too long, or finds the
-// output too short.
-#[derive(Clone, Copy)]
-pub enum Writing {
-    Done(usize),
+// Why nothing was written: something can't be, is over a size, makes a body too long, or finds the output too short.
+#[derive(Clone, Copy, PartialEq, Eq)]
+pub enum Refusal {
     Forbidden,
     Oversize,
     TooLong,
     TooShort,
+}
+
+// The refusal of a body is its message's.
+impl From<Unfit> for Refusal {
+    ghost from_gives = { λ unfit refusal. refusal ≡ refusal_of unfit };
+
+    fn from(unfit: Unfit) -> Self {
+        match unfit {
+            Unfit::Forbidden => Refusal::Forbidden,
+            Unfit::Oversize => Refusal::Oversize,
+            Unfit::TooLong => Refusal::TooLong,
+        }
+    }
 }

@@ -2,7 +2,7 @@
 // put.
 ghost use Rattle.std.specs.Prelude.{◌≡◌, true, ◌++◌, ◌-◌, ◌≤◌, length};
 ghost use Rattle.common.specs.Answer.{Leaves};
-ghost use Rattle.common.specs.Buffer.{over, Put};
+ghost use Rattle.common.specs.Buffer.{Put};
 ghost use Rattle.integer.specs.Integer.{enc_of, greatest};
 ghost use Rattle.field.specs.Value.{part, contents, mean, enc_text, enc_items, enc_list, enc_field};
 ghost use Rattle.measure.specs.Judging.{right_span, right_list, right};
@@ -11,7 +11,7 @@ ghost use Rattle.encode.specs.Entries.{enc_head};
 ghost use Rattle.encode.specs.Writing.{put_field};
 
 use field::{Entries, EntryRead, Kind, Piece, Span};
-use measure::Measured;
+use measure::Unfit;
 
 // An integer.
 pub fn put_number(out: &mut [u8], n: u64) -> usize
@@ -34,18 +34,14 @@ pub fn put_two(out: &mut [u8], first: u64, second: u64) -> usize
 }
 
 // A part of the bytes, as it is.
-fn copy(out: &mut [u8], bytes: &[u8], start: usize, end: usize)
-    requires start_le_end { (start ≤ end) × (end ≤ length bytes.now) }
-    requires start_in_bounds { end - start ≤ length out.old }
-    ensures { out.new ≡ over (part bytes.now (record { start = start; end = end }))
-        out.old }
+fn put_bytes(out: &mut [u8], bytes: &[u8], p: Span) -> usize
+    requires lies { (p.start ≤ p.end) × (p.end ≤ length bytes.now) }
+    requires in_bounds { p.end - p.start ≤ length out.old }
+    ensures { Put (part bytes.now p) out.old result out.new }
 {
-    let n = end - start;
-    let mut i: usize = 0;
-    while i < n {
-        out[i] = bytes[start + i];
-        i += 1;
-    }
+    let n = p.end - p.start;
+    out[..n].copy_from_slice(&bytes[p.start..p.end]);
+    n
 }
 
 // A length and the bytes of a part.
@@ -54,9 +50,8 @@ pub fn put_text(out: &mut [u8], bytes: &[u8], p: Span) -> usize
     requires p_in_bounds { length (enc_text (part bytes.now p)) ≤ length out.old }
     ensures { Put (enc_text (part bytes.now p)) out.old result out.new }
 {
-    let n = p.end - p.start;
-    let head = put_number(out, n as u64);
-    copy(&mut out[head..], bytes, p.start, p.end);
+    let head = put_number(out, (p.end - p.start) as u64);
+    let n = put_bytes(&mut out[head..], bytes, p);
     head + n
 }
 
@@ -82,20 +77,14 @@ fn put_entries(out: &mut [u8], bytes: &[u8], kind: Kind, l: Entries) -> usize
 {
     let mut at: usize = 0;
     let mut here = l.start;
-    let mut left = l.count;
-    while left > 0 {
+    for _ in 0..l.count {
         let EntryRead::Whole(e) = field::entry_at(bytes, kind, integer::GREATEST, here) else {
             return at;
         };
-        let start = e.bytes.start;
-        let end = e.bytes.end;
-        let n = end - start;
-        let head = put_head(&mut out[at..], kind, e.number, n as u64);
-        let from = at + head;
-        copy(&mut out[from..], bytes, start, end);
-        at = from + n;
-        here = end;
-        left = left - 1;
+        let n = e.bytes.end - e.bytes.start;
+        at += put_head(&mut out[at..], kind, e.number, n as u64);
+        at += put_bytes(&mut out[at..], bytes, e.bytes);
+        here = e.bytes.end;
     }
     at
 }
@@ -135,12 +124,10 @@ pub fn put_piece(out: &mut [u8], bytes: &[u8], p: Piece) -> usize
 }
 
 // The shortest form of a field, at the front of out; every byte after it stays, and a refusal changes none.
-pub fn put(out: &mut [u8], bytes: &[u8], p: Piece) -> Measured
+pub fn put(out: &mut [u8], bytes: &[u8], p: Piece) -> Result<usize, Unfit>
     ensures { Leaves (put_field bytes.now p out.old) (told_measured result) out.new }
 {
-    let found = measure::measure(bytes, p, out.len());
-    if let Measured::Takes(_) = found {
-        put_piece(out, bytes, p);
-    }
-    found
+    let n = measure::measure(bytes, p, out.len())?;
+    put_piece(out, bytes, p);
+    Ok(n)
 }

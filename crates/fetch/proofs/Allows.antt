@@ -1,8 +1,7 @@
 -- What its layout forbids in a message that retrieves: FETCH, FETCH_OK and TRACK_STATUS can hold it. Assumes nothing.
 use mathlib.Core.Path.{◌≡◌, refl}
-use mathlib.Core.Bool.{Bool, true, false, not}
+use mathlib.Core.Bool.{Bool, true, false}
 use mathlib.Core.List.{[], ◌∷◌, ◌++◌}
-use borrow.Author.Tests.{not-true, not-false}
 use Rattle.field.specs.Rules.{askable, givable}
 use Rattle.field.specs.declared.Kind.TheVariants.{Parameters}
 use Rattle.field.specs.declared.Entries.{Entries}
@@ -24,19 +23,19 @@ use Rattle.fetch.specs.declared.FetchMessage.TheVariants.{Fetch as AFetch, Fetch
 
 -- ---- TRACK_STATUS: its status is judged, and then each number of its largest place
 
-module _ (x : TrackStatus) {a : Bool} (first : a ≡ is_track_status x.status) where
-  pub status-no : not a ≡ true → false ≡ allowed track_status (status_pieces x)
+module _ (x : TrackStatus) where
+  pub status-no : false ≡ is_track_status x.status → false ≡ allowed track_status (status_pieces x)
   unfolding allowed track_status
-  status-no h = rw (← first, not-true a h)
+  status-no h = rw (← h)
 
-  module _ (known : not a ≡ false) {b : Bool} (second : b ≡ may_hold x.status x.largest.group) where
-    pub group-no : not b ≡ true → false ≡ allowed track_status (status_pieces x)
+  module _ (known : true ≡ is_track_status x.status) where
+    pub group-no : false ≡ may_hold x.status x.largest.group → false ≡ allowed track_status (status_pieces x)
     unfolding allowed largest track_status
-    group-no h = rw (← first, not-false a known, ← second, not-true b h)
+    group-no h = rw (← known, ← h)
 
-    pub object-is : {c : Bool} → not b ≡ false → c ≡ may_hold x.status x.largest.object → c ≡ allowed track_status (status_pieces x)
+    pub object-is : true ≡ may_hold x.status x.largest.group → may_hold x.status x.largest.object ≡ allowed track_status (status_pieces x)
     unfolding allowed largest track_status
-    object-is h k = rw (← first, not-false a known, ← second, not-false b h, test-alone (may_hold x.status x.largest.object)) k
+    object-is h = rw (← known, ← h, test-alone (may_hold x.status x.largest.object))
 
 -- ---- FETCH: its order is judged, and nothing is forbidden after it
 

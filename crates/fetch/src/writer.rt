@@ -8,7 +8,7 @@ ghost use Rattle.fetch.specs.Told.{joining_type, fetch_pieces, status_pieces, ty
 
 use crate::{Fetch, FetchMessage, Range, TrackStatus};
 use field::{Kind, Piece};
-use measure::{Fields, places};
+use measure::Fields;
 use types::{is_track_status, may_hold};
 
 // The number of its type.
@@ -31,31 +31,27 @@ pub fn fields(m: FetchMessage) -> Fields
     let number = number(m);
     match m {
         FetchMessage::Fetch(x) => fetch_fields(number, x),
-        FetchMessage::FetchOk(x) => {
-            let largest = x.largest;
-            let parameters = x.parameters;
-            places::of6(
-                number,
+        FetchMessage::FetchOk(x) => Fields::of(
+            number,
+            [
                 Piece::Number(x.id),
                 Piece::Byte(x.order),
                 Piece::Byte(x.end_of_track),
-                Piece::Number(largest.group),
-                Piece::Number(largest.object),
-                Piece::List(Kind::Parameters, parameters),
-            )
-        }
-        FetchMessage::FetchError(x) => {
-            let failure = x.failure;
-            let reason = failure.reason;
-            places::of3(
-                number,
+                Piece::Number(x.largest.group),
+                Piece::Number(x.largest.object),
+                Piece::List(Kind::Parameters, x.parameters),
+            ],
+        ),
+        FetchMessage::FetchError(x) => Fields::of(
+            number,
+            [
                 Piece::Number(x.id),
-                Piece::Number(failure.code),
-                Piece::Bytes(reason),
-            )
-        }
-        FetchMessage::FetchCancel(id) => places::of1(number, Piece::Number(id)),
-        FetchMessage::TrackStatusRequest(t) => places::of1(number, Piece::Track(t)),
+                Piece::Number(x.failure.code),
+                Piece::Bytes(x.failure.reason),
+            ],
+        ),
+        FetchMessage::FetchCancel(id) => Fields::of(number, [Piece::Number(id)]),
+        FetchMessage::TrackStatusRequest(t) => Fields::of(number, [Piece::Track(t)]),
         FetchMessage::TrackStatus(x) => status_fields(number, x),
     }
 }
@@ -66,33 +62,28 @@ fn fetch_fields(number: u64, x: Fetch) -> Fields
     let id = Piece::Number(x.id);
     let priority = Piece::Byte(x.priority);
     let order = Piece::Byte(x.order);
-    let parameters = x.parameters;
-    let last = Piece::List(Kind::Parameters, parameters);
-    let range = x.range;
-    match range {
-        Range::Standalone(r) => {
-            let track = r.track;
-            let start = r.start;
-            let end = r.end;
-            places::of10(
-                number,
+    let last = Piece::List(Kind::Parameters, x.parameters);
+    match x.range {
+        Range::Standalone(r) => Fields::of(
+            number,
+            [
                 id,
                 priority,
                 order,
                 Piece::Number(1),
-                Piece::Track(track),
-                Piece::Number(start.group),
-                Piece::Number(start.object),
-                Piece::Number(end.group),
-                Piece::Number(end.object),
+                Piece::Track(r.track),
+                Piece::Number(r.start.group),
+                Piece::Number(r.start.object),
+                Piece::Number(r.end.group),
+                Piece::Number(r.end.object),
                 last,
-            )
-        }
+            ],
+        ),
         Range::Joining(j) => {
             let joining = Piece::Number(joining_type(j.absolute));
             let joined = Piece::Number(j.id);
             let start = Piece::Number(j.start);
-            places::of7(number, id, priority, order, joining, joined, start, last)
+            Fields::of(number, [id, priority, order, joining, joined, start, last])
         }
     }
 }
@@ -100,14 +91,14 @@ fn fetch_fields(number: u64, x: Fetch) -> Fields
 fn status_fields(number: u64, x: TrackStatus) -> Fields
     ensures { result ≡ placed (record { type = number; pieces = status_pieces x }) }
 {
-    let track = x.track;
-    let largest = x.largest;
-    places::of4(
+    Fields::of(
         number,
-        Piece::Track(track),
-        Piece::Number(x.status),
-        Piece::Number(largest.group),
-        Piece::Number(largest.object),
+        [
+            Piece::Track(x.track),
+            Piece::Number(x.status),
+            Piece::Number(x.largest.group),
+            Piece::Number(x.largest.object),
+        ],
     )
 }
 
@@ -115,10 +106,7 @@ fn status_fields(number: u64, x: TrackStatus) -> Fields
 fn joining_type(absolute: bool) -> u64
     ensures { result ≡ joining_type absolute }
 {
-    if absolute {
-        return 3;
-    }
-    2
+    if absolute { 3 } else { 2 }
 }
 
 // Whether a message holds no value that its layout forbids.
@@ -139,13 +127,7 @@ pub fn is_allowed(m: FetchMessage) -> bool
 fn is_status_allowed(x: TrackStatus) -> bool
     ensures { result ≡ allowed track_status (status_pieces x) }
 {
-    let status = x.status;
-    let largest = x.largest;
-    if !is_track_status(status) {
-        return false;
-    }
-    if !may_hold(status, largest.group) {
-        return false;
-    }
-    may_hold(status, largest.object)
+    is_track_status(x.status)
+        && may_hold(x.status, x.largest.group)
+        && may_hold(x.status, x.largest.object)
 }

@@ -5,7 +5,8 @@ use mathlib.Core.Path.{◌≡◌}
 use mathlib.Core.List.{List}
 use Rattle.common.specs.Answer.{Written, Leaves}
 use Rattle.encode.specs.Writing.{told_writing}
-use Rattle.encode.specs.declared.Writing.{Writing}
+use Rattle.std.specs.Prelude.{Result}
+use Rattle.encode.specs.declared.Refusal.{Refusal}
 use Rattle.encode.proofs.OneAnswer.{leaves-once}
 use Rattle.header_writer.specs.Laws.{Kept, Shortest}
 use Rattle.header_writer.specs.Codecs.{datagram_codec, stream_codec, subgroup_object_codec, fetch_object_codec}
@@ -41,6 +42,6 @@ pub fetch-object-shortest : Shortest fetch_object_codec
 fetch-object-shortest = headers.fetch-object-shortest
 
 -- 3. Each writer has one possible answer, and leaves one content of its buffer.
-pub written_once : {w : Written} {a b : Writing} {x y : List ℕ} → Leaves w (told_writing a) x
+pub written_once : {w : Written} {a b : Result ℕ Refusal} {x y : List ℕ} → Leaves w (told_writing a) x
     → Leaves w (told_writing b) y → (a ≡ b) × (x ≡ y)
 written_once = leaves-once

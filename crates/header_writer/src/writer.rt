@@ -8,7 +8,7 @@ ghost use Rattle.header.specs.Told.{datagram_typed, payload_pieces};
 ghost use Rattle.header_writer.specs.Writing.{datagram_written, stream_written};
 ghost use Rattle.header_writer.specs.Writing.{subgroup_object_written, fetch_object_written};
 
-use encode::Writing;
+use encode::Refusal;
 use header::{
     Datagram, FETCH_HEADER, FetchObject, OBJECT_DATAGRAM, OBJECT_DATAGRAM_STATUS, Payload,
     SUBGROUP_HEADER, StreamHeader, SubgroupObject, is_status,
@@ -16,81 +16,76 @@ use header::{
 use measure::Middle;
 
 // bytes is what the extension headers point into.
-pub fn write_datagram(out: &mut [u8], bytes: &[u8], d: Datagram) -> Writing
+pub fn write_datagram(out: &mut [u8], bytes: &[u8], d: Datagram) -> Result<usize, Refusal>
     ensures { Leaves (datagram_written bytes.now d out.old) (told_writing result)
         out.new }
 {
     if !is_datagram_allowed(d) {
-        return Writing::Forbidden;
+        return Err(Refusal::Forbidden);
     }
-    let none: [u64; 0] = [];
     match d {
         Datagram::Object(x) => {
-            let place = x.place;
-            let extensions = x.extensions;
-            let front = [OBJECT_DATAGRAM, x.alias, place.group, place.object];
-            let middle = Middle::Both(x.priority, extensions);
-            encode::write_header(out, bytes, &front, middle, &none)
+            let front = [OBJECT_DATAGRAM, x.alias, x.place.group, x.place.object];
+            let middle = Middle::Both(x.priority, x.extensions);
+            encode::write_header(out, bytes, &front, middle, &[])
         }
         Datagram::Status(x, status) => {
-            let place = x.place;
-            let extensions = x.extensions;
-            let front = [OBJECT_DATAGRAM_STATUS, x.alias, place.group, place.object];
-            let middle = Middle::Both(x.priority, extensions);
+            let front = [
+                OBJECT_DATAGRAM_STATUS,
+                x.alias,
+                x.place.group,
+                x.place.object,
+            ];
+            let middle = Middle::Both(x.priority, x.extensions);
             encode::write_header(out, bytes, &front, middle, &[status])
         }
     }
 }
 
 // The header of a stream points into no bytes.
-pub fn write_stream(out: &mut [u8], h: StreamHeader) -> Writing
+pub fn write_stream(out: &mut [u8], h: StreamHeader) -> Result<usize, Refusal>
     ensures { Leaves (stream_written h out.old) (told_writing result) out.new }
 {
-    let none: [u64; 0] = [];
     match h {
         StreamHeader::Subgroup(x) => {
             let front = [SUBGROUP_HEADER, x.alias, x.group, x.subgroup];
-            encode::write_header(out, b"", &front, Middle::Byte(x.priority), &none)
+            encode::write_header(out, b"", &front, Middle::Byte(x.priority), &[])
         }
-        StreamHeader::Fetch(id) => encode::write_header(
-            out,
-            b"",
-            &[FETCH_HEADER, id],
-            Middle::Nothing,
-            &none,
-        ),
+        StreamHeader::Fetch(id) => {
+            encode::write_header(out, b"", &[FETCH_HEADER, id], Middle::Nothing, &[])
+        }
     }
 }
 
-pub fn write_subgroup_object(out: &mut [u8], bytes: &[u8], o: SubgroupObject) -> Writing
+pub fn write_subgroup_object(
+    out: &mut [u8],
+    bytes: &[u8],
+    o: SubgroupObject,
+) -> Result<usize, Refusal>
     ensures { Leaves (subgroup_object_written bytes.now o out.old) (told_writing result)
         out.new }
 {
-    let payload = o.payload;
-    if !is_payload_allowed(payload) {
-        return Writing::Forbidden;
+    if !is_payload_allowed(o.payload) {
+        return Err(Refusal::Forbidden);
     }
     let front = [o.object];
-    let extensions = o.extensions;
-    let middle = Middle::Bytes(extensions);
-    match payload {
+    let middle = Middle::Bytes(o.extensions);
+    match o.payload {
         Payload::Length(length) => encode::write_header(out, bytes, &front, middle, &[length]),
         Payload::Status(status) => encode::write_header(out, bytes, &front, middle, &[0, status]),
     }
 }
 
-pub fn write_fetch_object(out: &mut [u8], bytes: &[u8], o: FetchObject) -> Writing
+pub fn write_fetch_object(out: &mut [u8], bytes: &[u8], o: FetchObject) -> Result<usize, Refusal>
     ensures { Leaves (fetch_object_written bytes.now o out.old) (told_writing result)
         out.new }
 {
-    let payload = o.payload;
-    if !is_payload_allowed(payload) {
-        return Writing::Forbidden;
+    if !is_payload_allowed(o.payload) {
+        return Err(Refusal::Forbidden);
     }
     let front = [o.group, o.subgroup, o.object];
-    let extensions = o.extensions;
-    let middle = Middle::Both(o.priority, extensions);
-    match payload {
+    let middle = Middle::Both(o.priority, o.extensions);
+    match o.payload {
         Payload::Length(length) => encode::write_header(out, bytes, &front, middle, &[length]),
         Payload::Status(status) => encode::write_header(out, bytes, &front, middle, &[0, status]),
     }

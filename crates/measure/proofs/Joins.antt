@@ -1,18 +1,18 @@
 -- Fields before others: each check over both is the checks over each, and so is their judgement. Assumes nothing.
-use Prim.Native.Nat.{ℕ}
+use Prim.Native.Nat.{ℕ, ◌+◌, ◌<◌}
 use mathlib.Core.Path.{◌≡◌, refl, sym, ap, ◌∙◌}
 use mathlib.Core.List.{List, [], ◌∷◌, ◌++◌, map, append_assoc, append-nil}
-use lib.Dec.{leb}
-use lib.ListN.{length, length-append}
+use native.Mathlib.Omega.{arith}
+use Rattle.std.specs.Prelude.{Ok}
+use lib.ListN.{length, take, get_or, length-append}
+use Rattle.std.proofs.lemmas.List.{take_more, map-append}
 use Rattle.common.specs.Choice.{both}
 use Rattle.common.proofs.Tests.{both_true, both-joined}
-use Rattle.integer.specs.Integer.{greatest}
-use Rattle.field.specs.Value.{Value, number, mean, enc_field, encode}
+use Rattle.field.specs.Value.{mean, enc_field, encode}
 use Rattle.field.specs.declared.Piece.{Piece}
-use Rattle.field.specs.declared.Piece.TheVariants.{Number}
-use Rattle.measure.specs.Judging.{right, sized, joined, measure_of}
+use Rattle.measure.specs.Judging.{right, sized, Judged, judged, joined, measure_of}
 use Rattle.measure.specs.Measuring.{right_all, sized_all, encode_all, measure_all}
-use Rattle.measure.proofs.Judges.{judged-joined}
+use Rattle.measure.proofs.Judges.{fit-within, judged-joined}
 
 module _ (s : List ℕ) where
   -- ---- both are right,
@@ -59,32 +59,18 @@ module _ (s : List ℕ) where
   unfolding measure_of measure_all right_all sized_all
   alone-judged p room = rw (alone-is p, both_true (right s p), both_true (sized s p))
 
--- ---- numbers point into no bytes, so they are the same over any
+-- ---- several, one after the other
 
-module _ (s t : List ℕ) where
-  -- right,
-  pub numbers-right : (ns : List ℕ) → right_all s (map Number ns) ≡ right_all t (map Number ns)
-  unfolding right_all right
-  numbers-right [] = refl
-  numbers-right (n ∷ ns) = ap (both (leb n greatest)) (numbers-right ns)
+-- a part more, as a field
+pub front-more : {A B : Type 0} (f : A → B) (xs : List A) (i : ℕ) (d : A) → i < length xs → map f (take (i + 1) xs) ≡ map f (take i xs) ++ f (get_or xs i d) ∷ []
+front-more f xs i d h = rw (take_more xs i d h) (map-append f (take i xs) (get_or xs i d ∷ []))
 
-  -- sized,
-  numbers-sized : (ns : List ℕ) → sized_all s (map Number ns) ≡ sized_all t (map Number ns)
-  unfolding sized_all sized
-  numbers-sized [] = refl
-  numbers-sized (n ∷ ns) = numbers-sized ns
+module _ (s : List ℕ) (room : ℕ) where
+  -- none takes no bytes,
+  pub none-judged : Ok 0 ≡ measure_all s [] room
+  unfolding measure_all right_all sized_all encode_all encode judged
+  none-judged = fit-within 0 room (omega arith)
 
-  numbers-mean : (ns : List ℕ) → map (mean s) (map Number ns) ≡ map (mean t) (map Number ns)
-  unfolding mean
-  numbers-mean [] = refl
-  numbers-mean (n ∷ ns) = ap (λ (vs : List Value). number n ∷ vs) (numbers-mean ns)
-
-  -- written
-  pub numbers-encode : (ns : List ℕ) → encode_all s (map Number ns) ≡ encode_all t (map Number ns)
-  unfolding encode_all
-  numbers-encode ns = ap encode (numbers-mean ns)
-
-  -- and judged
-  pub numbers-judged : (ns : List ℕ) (room : ℕ) → measure_all s (map Number ns) room ≡ measure_all t (map Number ns) room
-  unfolding measure_all
-  numbers-judged ns room = rw (numbers-right ns, numbers-sized ns, numbers-encode ns)
+  -- and one more is judged with those before it
+  pub one-more : (ps : List Piece) (p : Piece) {found one next : Judged} → found ≡ measure_all s ps room → one ≡ measure_of s p room → next ≡ joined found one room → next ≡ measure_all s (ps ++ p ∷ []) room
+  one-more ps p f o j = j ∙ rw (f, o, alone-judged s p room) (measure-joined s ps (p ∷ []) room)

@@ -7,8 +7,6 @@ pub mod Pieces
 pub mod OneAnswer
 pub mod Numbers
 pub mod Placed
-pub mod FieldsFrom
-pub mod JudgedSoFar
 pub mod Joins
 pub mod Middles
 pub mod AllSmall

@@ -24,7 +24,8 @@ use Rattle.field.specs.declared.Walked.TheVariants.{Whole, No}
 use Rattle.field.proofs.Found.{steps}
 use Rattle.layout.specs.Permitted.{within}
 use Rattle.measure.specs.Judging.{ends_at, right_list, sized_list, fit, measure_list}
-use Rattle.measure.specs.declared.Measured.TheVariants.{Oversize, Forbidden}
+use Rattle.std.specs.Prelude.{Err}
+use Rattle.measure.specs.declared.Unfit.TheVariants.{Oversize, Forbidden}
 use Rattle.measure.proofs.Judges.{judged-forbidden, judged-oversize, judged-fit}
 use Rattle.measure.proofs.EntriesFrom.{Run, items-length, items-held}
 
@@ -91,19 +92,19 @@ module _ (kind : Kind) (count : ℕ) (s : List ℕ) (at : ℕ) where
 
 module _ (s : List ℕ) (kind : Kind) (l : Entries) (also room : ℕ) where
   -- the count can't be written
-  pub list-great : greatest < l.count → Forbidden ≡ measure_list s kind l also room
+  pub list-great : greatest < l.count → Err Forbidden ≡ measure_list s kind l also room
   unfolding measure_list right_list
   list-great h = judged-forbidden _ _ _ (rw (lt-leb l.count greatest h))
 
   module _ (small : l.count ≤ greatest) where
     -- the bytes end before the part does
-    pub list-outside : length s < l.end → Forbidden ≡ measure_list s kind l also room
+    pub list-outside : length s < l.end → Err Forbidden ≡ measure_list s kind l also room
     unfolding measure_list right_list
     list-outside h = judged-forbidden _ _ _ (rw (le-leb l.count greatest small, lt-leb l.end (length s) h))
 
     module _ (inside : l.end ≤ length s) {r : Walked} (said : told_walk r ≡ walk_of false kind l.count s l.start) where
       -- an entry is missing
-      pub list-missing : {fault : Fault} → r ≡ No fault → Forbidden ≡ measure_list s kind l also room
+      pub list-missing : {fault : Fault} → r ≡ No fault → Err Forbidden ≡ measure_list s kind l also room
       unfolding measure_list right_list
       list-missing f =
           judged-forbidden _ _ _
@@ -115,7 +116,7 @@ module _ (s : List ℕ) (kind : Kind) (l : Entries) (also room : ℕ) where
         walks = walked kind l.count s l.start (sym said ∙ ap told_walk f)
 
         -- the entries end elsewhere
-        pub list-other : (w.end ≡ l.end → ⊥) → Forbidden ≡ measure_list s kind l also room
+        pub list-other : (w.end ≡ l.end → ⊥) → Err Forbidden ≡ measure_list s kind l also room
         unfolding measure_list right_list
         list-other h =
             judged-forbidden _ _ _
@@ -136,13 +137,13 @@ module _ (s : List ℕ) (kind : Kind) (l : Entries) (also room : ℕ) where
               rw (le-leb l.count greatest small, le-leb l.end (length s) inside, walks.runs, eq-eqb w.end l.end ends)
 
           -- there are too many entries, or too few
-          pub list-many : few kind l.count ≡ false → Oversize ≡ measure_list s kind l also room
+          pub list-many : few kind l.count ≡ false → Err Oversize ≡ measure_list s kind l also room
           unfolding measure_list sized_list
           list-many h = judged-oversize _ _ is_right_lem (rw h)
 
           module _ (fine : few kind l.count ≡ true) where
             -- they hold too many bytes
-            pub list_over : within kind (w.held + also) ≡ false → Oversize ≡ measure_list s kind l also room
+            pub list_over : within kind (w.held + also) ≡ false → Err Oversize ≡ measure_list s kind l also room
             unfolding measure_list sized_list
             list_over h = judged-oversize _ _ is_right_lem (rw (fine, ← held-is, h))
 

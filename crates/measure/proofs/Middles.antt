@@ -9,7 +9,7 @@ use Rattle.field.specs.declared.Piece.TheVariants.{Byte, Bytes}
 use Rattle.measure.specs.Judging.{fit, judged, joined, measure_span}
 use Rattle.measure.specs.Fields.{middle_pieces}
 use Rattle.measure.specs.Measuring.{right_all, sized_all, encode_all, measure_all}
-use Rattle.measure.specs.declared.Measured.TheVariants.{Takes}
+use Rattle.std.specs.Prelude.{Ok}
 use Rattle.measure.specs.declared.Middle.{Middle}
 use Rattle.measure.specs.declared.Middle.TheVariants.{Nothing, Byte as OneByte, Bytes as SomeBytes, Both}
 use Rattle.measure.proofs.Judges.{fit-within}
@@ -26,7 +26,7 @@ part-judged s p room = bytes-judged s room refl ∙ alone-judged s (Bytes p) roo
 
 module _ (s : List ℕ) {m : Middle} (room : ℕ) where
   -- nothing takes no bytes,
-  pub nothing-fits : m ≡ Nothing → Takes 0 ≡ measure_all s (middle_pieces m) room
+  pub nothing-fits : m ≡ Nothing → Ok 0 ≡ measure_all s (middle_pieces m) room
   unfolding measure_all right_all sized_all encode_all encode judged
   nothing-fits e = rw e (fit-within 0 room (omega arith))
 

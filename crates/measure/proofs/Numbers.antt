@@ -9,14 +9,14 @@ use Rattle.common.specs.Choice.{pick}
 use Rattle.common.specs.Answer.{refused, wrote}
 use Rattle.field.specs.Value.{mean, enc_field}
 use Rattle.field.specs.declared.Piece.{Piece}
-use Rattle.measure.specs.Judging.{right, sized, fit, judged, joined, measure_of}
+use Rattle.measure.specs.Judging.{right, sized, Judged, fit, judged, joined, graver, measure_of}
 use Rattle.measure.specs.Measuring.{right_all, sized_all, encode_all, measure_all, measured_of, measured_all, joined_of, told_measured}
-use Rattle.measure.specs.declared.Measured.{Measured}
-use Rattle.measure.specs.declared.Measured.TheVariants.{Takes, TooLong, Oversize, Forbidden}
+use Rattle.std.specs.Prelude.{Ok, Err}
+use Rattle.measure.specs.declared.Unfit.TheVariants.{TooLong, Oversize, Forbidden}
 use Rattle.measure.proofs.OneAnswer.{told-measured-once}
 
 -- a judgement in 01's numbers
-said-judged : (is_right is_sized fits : Bool) (n : ℕ) → told_measured (pick is_right (pick is_sized (pick fits (Takes n) TooLong) Oversize) Forbidden) ≡ pick is_right (pick is_sized (pick fits (wrote n) (refused 7)) (refused 6)) (refused 5)
+said-judged : (is_right is_sized fits : Bool) (n : ℕ) → told_measured (pick is_right (pick is_sized (pick fits (Ok n) (Err TooLong)) (Err Oversize)) (Err Forbidden)) ≡ pick is_right (pick is_sized (pick fits (wrote n) (refused 7)) (refused 6)) (refused 5)
 said-judged true true true n = refl
 said-judged true true false n = refl
 said-judged true false fits n = refl
@@ -29,7 +29,7 @@ module _ (s : List ℕ) (p : Piece) (room : ℕ) where
       let n = length (enc_field (mean s p)) in
       said-judged (right s p) (sized s p) (leb n room) n
 
-  module _ {r : Measured} where
+  module _ {r : Judged} where
     -- a field is measured as it is judged,
     pub measured : r ≡ measure_of s p room → told_measured r ≡ measured_of s p room
     measured e = ap told_measured e ∙ said-measure
@@ -45,7 +45,7 @@ module _ (s : List ℕ) (ps : List Piece) (room : ℕ) where
       let n = length (encode_all s ps) in
       said-judged (right_all s ps) (sized_all s ps) (leb n room) n
 
-  module _ {r : Measured} where
+  module _ {r : Judged} where
     -- so are several
     pub measured-all : r ≡ measure_all s ps room → told_measured r ≡ measured_all s ps room
     measured-all e = ap told_measured e ∙ said_all
@@ -53,38 +53,33 @@ module _ (s : List ℕ) (ps : List Piece) (room : ℕ) where
     pub judgement-all : told_measured r ≡ measured_all s ps room → r ≡ measure_all s ps room
     judgement-all e = told-measured-once r (measure_all s ps room) (e ∙ sym said_all)
 
-said-fit : (fits : Bool) (n : ℕ) → told_measured (pick fits (Takes n) TooLong) ≡ pick fits (wrote n) (refused 7)
+said-fit : (fits : Bool) (n : ℕ) → told_measured (pick fits (Ok n) (Err TooLong)) ≡ pick fits (wrote n) (refused 7)
 said-fit true n = refl
 said-fit false n = refl
 
-said-joined : (a b : Measured) (room : ℕ) → told_measured (joined a b room) ≡ joined_of (told_measured a) (told_measured b) room
-unfolding joined joined_of fit
-said-joined Forbidden Forbidden room = refl
-said-joined Forbidden Oversize room = refl
-said-joined Forbidden TooLong room = refl
-said-joined Forbidden (Takes n) room = refl
-said-joined Oversize Forbidden room = refl
-said-joined Oversize Oversize room = refl
-said-joined Oversize TooLong room = refl
-said-joined Oversize (Takes n) room = refl
-said-joined TooLong Forbidden room = refl
-said-joined TooLong Oversize room = refl
-said-joined TooLong TooLong room = refl
-said-joined TooLong (Takes n) room = refl
-said-joined (Takes m) Forbidden room = refl
-said-joined (Takes m) Oversize room = refl
-said-joined (Takes m) TooLong room = refl
-said-joined (Takes m) (Takes n) room = said-fit (leb (m + n) room) (m + n)
+said-joined : (a b : Judged) (room : ℕ) → told_measured (joined a b room) ≡ joined_of (told_measured a) (told_measured b) room
+unfolding joined graver joined_of fit
+said-joined (Err Forbidden) (Err Forbidden) room = refl
+said-joined (Err Forbidden) (Err Oversize) room = refl
+said-joined (Err Forbidden) (Err TooLong) room = refl
+said-joined (Err Oversize) (Err Forbidden) room = refl
+said-joined (Err Oversize) (Err Oversize) room = refl
+said-joined (Err Oversize) (Err TooLong) room = refl
+said-joined (Err TooLong) (Err Forbidden) room = refl
+said-joined (Err TooLong) (Err Oversize) room = refl
+said-joined (Err TooLong) (Err TooLong) room = refl
+said-joined (Err Forbidden) (Ok n) room = refl
+said-joined (Err Oversize) (Ok n) room = refl
+said-joined (Err TooLong) (Ok n) room = refl
+said-joined (Ok m) (Err Forbidden) room = refl
+said-joined (Ok m) (Err Oversize) room = refl
+said-joined (Ok m) (Err TooLong) room = refl
+said-joined (Ok m) (Ok n) room = said-fit (leb (m + n) room) (m + n)
 
 -- what is judged in both is told in 01's numbers,
-pub forbidden-first : (b : Measured) (room : ℕ) → refused 5 ≡ joined_of (refused 5) (told_measured b) room
-unfolding joined
-forbidden-first b room = said-joined Forbidden b room
-
-pub taken-both : (m n room : ℕ) {r : Measured} → r ≡ fit (m + n) room → told_measured r ≡ pick (leb (m + n) room) (wrote (m + n)) (refused 7)
-unfolding fit
-taken-both m n room e = ap told_measured e ∙ said-fit (leb (m + n) room) (m + n)
+pub told-pair : (room : ℕ) {a b x y r : Judged} → a ≡ x → b ≡ y → r ≡ joined x y room → told_measured r ≡ joined_of (told_measured a) (told_measured b) room
+told-pair room e f j = rw (e, f, j) (said-joined _ _ room)
 
 -- and judged as it is told
-pub judgement-joined : (a b : Measured) (room : ℕ) {r : Measured} → told_measured r ≡ joined_of (told_measured a) (told_measured b) room → r ≡ joined a b room
+pub judgement-joined : (a b : Judged) (room : ℕ) {r : Judged} → told_measured r ≡ joined_of (told_measured a) (told_measured b) room → r ≡ joined a b room
 judgement-joined a b room {r} e = told-measured-once r (joined a b room) (e ∙ sym (said-joined a b room))

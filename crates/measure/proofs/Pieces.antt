@@ -19,13 +19,14 @@ use Rattle.field.specs.declared.Track.{Track}
 use Rattle.field.specs.declared.Piece.{Piece}
 use Rattle.field.specs.declared.Piece.TheVariants.{Number, Byte, Bytes, List as Listing, Track as Tracked}
 use Rattle.measure.specs.Judging.{right, sized, fit, joined, measure_span, measure_list, measure_of}
-use Rattle.measure.specs.declared.Measured.TheVariants.{Forbidden}
+use Rattle.std.specs.Prelude.{Err}
+use Rattle.measure.specs.declared.Unfit.TheVariants.{Forbidden}
 use Rattle.measure.proofs.Judges.{judged-forbidden, judged-fit, judged-joined}
 use Rattle.measure.proofs.Spans.{backward-wrong}
 
 module _ (s : List ℕ) {p : Piece} (room : ℕ) where
   -- a number that can't be written
-  pub number-great : {n : ℕ} → p ≡ Number n → greatest < n → Forbidden ≡ measure_of s p room
+  pub number-great : {n : ℕ} → p ≡ Number n → greatest < n → Err Forbidden ≡ measure_of s p room
   unfolding measure_of right
   number-great {n} e h = rw e (judged-forbidden _ _ _ (lt-leb n greatest h))
 
@@ -55,7 +56,7 @@ module _ (s : List ℕ) {p : Piece} (room : ℕ) where
   list-judged e = rw e
 
   -- a name that ends before it starts
-  pub track-backward : {t : Track} → p ≡ Tracked t → t.name.end < t.name.start → Forbidden ≡ measure_of s p room
+  pub track-backward : {t : Track} → p ≡ Tracked t → t.name.end < t.name.start → Err Forbidden ≡ measure_of s p room
   unfolding measure_of right
   track-backward {t} e h = rw (e, backward-wrong s t.name h, both_false) (judged-forbidden {is_right = false} _ _ _ refl)
 

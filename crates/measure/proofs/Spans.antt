@@ -16,7 +16,8 @@ use Rattle.field.specs.Value.{part, enc_text}
 use Rattle.field.specs.declared.Span.{Span}
 use Rattle.field.proofs.Lengths.{length_part}
 use Rattle.measure.specs.Judging.{right_span, fit, measure_span}
-use Rattle.measure.specs.declared.Measured.TheVariants.{Forbidden}
+use Rattle.std.specs.Prelude.{Err}
+use Rattle.measure.specs.declared.Unfit.TheVariants.{Forbidden}
 use Rattle.measure.proofs.Judges.{judged-forbidden, judged-fit}
 
 -- ---- a right part, by its parts
@@ -67,17 +68,17 @@ text-length {s} {p} l =
 
 module _ (s : List ℕ) (p : Span) (room : ℕ) where
   -- it ends before it starts
-  pub span-backward : p.end < p.start → Forbidden ≡ measure_span s p room
+  pub span-backward : p.end < p.start → Err Forbidden ≡ measure_span s p room
   unfolding measure_span
   span-backward h = judged-forbidden _ _ _ (backward-wrong s p h)
 
   -- it ends after the bytes do
-  pub span-outside : p.start ≤ p.end → length s < p.end → Forbidden ≡ measure_span s p room
+  pub span-outside : p.start ≤ p.end → length s < p.end → Err Forbidden ≡ measure_span s p room
   unfolding measure_span right_span
   span-outside h k = judged-forbidden _ _ _ (rw (le-leb p.start p.end h, lt-leb p.end (length s) k))
 
   -- its length can't be written
-  pub span-great : p.start ≤ p.end → p.end ≤ length s → greatest < size p → Forbidden ≡ measure_span s p room
+  pub span-great : p.start ≤ p.end → p.end ≤ length s → greatest < size p → Err Forbidden ≡ measure_span s p room
   unfolding measure_span right_span
   span-great h k g =
       judged-forbidden _ _ _ (rw (le-leb p.start p.end h, le-leb p.end (length s) k, lt-leb (size p) greatest g))

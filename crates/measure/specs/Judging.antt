@@ -1,6 +1,6 @@
 -- How a field is judged before it is written: 5 for what can't be written, then 6 for 01's sizes, then the bytes it may
 -- take.
-use Rattle.std.specs.Prelude.{ℕ, ◌+◌, List, Bool, true, false, length, leb, eqb}
+use Rattle.std.specs.Prelude.{ℕ, ◌+◌, List, Bool, true, false, length, leb, eqb, Result, Ok, Err}
 use Rattle.common.specs.Choice.{guard, pick, both}
 use Rattle.integer.specs.Integer.{greatest}
 use Rattle.field.specs.Outcome.{Outcome, whole, no}
@@ -14,8 +14,8 @@ use Rattle.field.specs.declared.Piece.{Piece}
 use Rattle.field.specs.declared.Piece.TheVariants.{Number, Byte, Bytes, List as Listing, Track as Tracked}
 use Rattle.layout.specs.Permitted.{within}
 use Rattle.measure.specs.Small.{small_span, small_list}
-use Rattle.measure.specs.declared.Measured.{Measured}
-use Rattle.measure.specs.declared.Measured.TheVariants.{Takes, TooLong, Oversize, Forbidden}
+use Rattle.measure.specs.declared.Unfit.{Unfit}
+use Rattle.measure.specs.declared.Unfit.TheVariants.{TooLong, Oversize, Forbidden}
 
 -- ---- 5
 
@@ -54,35 +54,38 @@ sized s (Tracked t) = sized_list s Namespace t.namespace (size t.name)
 
 -- ---- the judgement
 
+-- how many bytes it takes, or why it can't
+abbrev pub Judged : Type 0
+Judged = Result ℕ Unfit
+
 -- that many bytes, of the room there is
-unfoldable pub fit : ℕ → ℕ → Measured
-fit n room = pick (leb n room) (Takes n) TooLong
+unfoldable pub fit : ℕ → ℕ → Judged
+fit n room = pick (leb n room) (Ok n) (Err TooLong)
 
-unfoldable pub judged : Bool → Bool → ℕ → ℕ → Measured
-judged is_right is_sized n room = guard is_right Forbidden (guard is_sized Oversize (fit n room))
+unfoldable pub judged : Bool → Bool → ℕ → ℕ → Judged
+judged is_right is_sized n room = guard is_right (Err Forbidden) (guard is_sized (Err Oversize) (fit n room))
 
-unfoldable pub measure_span : List ℕ → Span → ℕ → Measured
+unfoldable pub measure_span : List ℕ → Span → ℕ → Judged
 measure_span s p room = judged (right_span s p) true (length (enc_text (part s p))) room
 
-unfoldable pub measure_list : List ℕ → Kind → Entries → ℕ → ℕ → Measured
+unfoldable pub measure_list : List ℕ → Kind → Entries → ℕ → ℕ → Judged
 measure_list s kind l also room =
     judged (right_list s kind l) (sized_list s kind l also) (length (enc_list kind (contents s kind l))) room
 
-unfoldable pub measure_of : List ℕ → Piece → ℕ → Measured
+unfoldable pub measure_of : List ℕ → Piece → ℕ → Judged
 measure_of s p room = judged (right s p) (sized s p) (length (enc_field (mean s p))) room
 
+-- the graver of two refusals
+unfoldable pub graver : Unfit → Unfit → Unfit
+graver Forbidden y = Forbidden
+graver Oversize Forbidden = Forbidden
+graver Oversize Oversize = Oversize
+graver Oversize TooLong = Oversize
+graver TooLong y = y
+
 -- two judgements as one: the graver of them, and both together of the room there is
-unfoldable pub joined : Measured → Measured → ℕ → Measured
-joined Forbidden b room = Forbidden
-joined Oversize Forbidden room = Forbidden
-joined Oversize Oversize room = Oversize
-joined Oversize TooLong room = Oversize
-joined Oversize (Takes n) room = Oversize
-joined TooLong Forbidden room = Forbidden
-joined TooLong Oversize room = Oversize
-joined TooLong TooLong room = TooLong
-joined TooLong (Takes n) room = TooLong
-joined (Takes m) Forbidden room = Forbidden
-joined (Takes m) Oversize room = Oversize
-joined (Takes m) TooLong room = TooLong
-joined (Takes m) (Takes n) room = fit (m + n) room
+unfoldable pub joined : Judged → Judged → ℕ → Judged
+joined (Err x) (Err y) room = Err (graver x y)
+joined (Err x) (Ok n) room = Err x
+joined (Ok m) (Err y) room = Err y
+joined (Ok m) (Ok n) room = fit (m + n) room

@@ -1,13 +1,12 @@
 -- How many bytes a field takes in its shortest form, and how many several take: each check is made over all of them
 -- before the next.
-use Rattle.std.specs.Prelude.{ℕ, ◌+◌, min, List, [], ◌∷◌, map, Bool, true, length, leb}
+use Rattle.std.specs.Prelude.{ℕ, ◌+◌, min, List, [], ◌∷◌, map, Bool, true, length, leb, Ok, Err}
 use Rattle.common.specs.Choice.{guard, both}
 use Rattle.common.specs.Answer.{Answer, whole, refused, Nothing, wrote}
 use Rattle.field.specs.Value.{mean, enc_field, encode}
 use Rattle.field.specs.declared.Piece.{Piece}
-use Rattle.measure.specs.Judging.{right, sized, judged}
-use Rattle.measure.specs.declared.Measured.{Measured}
-use Rattle.measure.specs.declared.Measured.TheVariants.{Takes, TooLong, Oversize, Forbidden}
+use Rattle.measure.specs.Judging.{right, sized, Judged, judged}
+use Rattle.measure.specs.declared.Unfit.TheVariants.{TooLong, Oversize, Forbidden}
 
 -- ---- each check over all of them
 
@@ -23,7 +22,7 @@ sized_all s (p ∷ ps) = both (sized s p) (sized_all s ps)
 unfoldable pub encode_all : List ℕ → List Piece → List ℕ
 encode_all s ps = encode (map (mean s) ps)
 
-unfoldable pub measure_all : List ℕ → List Piece → ℕ → Measured
+unfoldable pub measure_all : List ℕ → List Piece → ℕ → Judged
 measure_all s ps room = judged (right_all s ps) (sized_all s ps) (length (encode_all s ps)) room
 
 -- ---- in 01's numbers
@@ -49,8 +48,8 @@ joined_of (refused x) (whole b n) room = refused x
 joined_of (refused x) (refused y) room = refused (min x y)
 
 -- 01's number and values of what is answered
-abbrev pub told_measured : Measured → Answer Nothing
-told_measured (Takes n) = wrote n
-told_measured Forbidden = refused 5
-told_measured Oversize = refused 6
-told_measured TooLong = refused 7
+abbrev pub told_measured : Judged → Answer Nothing
+told_measured (Ok n) = wrote n
+told_measured (Err Forbidden) = refused 5
+told_measured (Err Oversize) = refused 6
+told_measured (Err TooLong) = refused 7

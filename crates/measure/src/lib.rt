@@ -2,41 +2,48 @@
 // the fields of a message, and in a header.
 #![tactic(auto)]
 
-mod heading;
+ghost use Rattle.std.specs.Prelude.{◌≡◌, take};
+ghost use Rattle.measure.specs.Fields.{most_pieces, placed};
+
 mod judging;
-pub mod places;
+mod several;
 mod small;
 
+use common::Few;
 use field::{Piece, Span};
-pub use heading::{measure_middle, measure_numbers};
 pub use judging::{join, measure};
+pub use several::{AsPiece, measure_all, measure_middle};
 pub use small::are_small;
 
-// How a field, or several, is judged against the bytes it may take: it takes that many; or more than it may; or it is
-// over a size; or it holds what can't be written.
-#[derive(Clone, Copy)]
-pub enum Measured {
-    Takes(usize),
+// Why a field, or several, can't take the bytes that it may: it takes more; it is over a size; it holds what can't be
+// written. Of two, the greater is looked for first.
+#[derive(Clone, Copy, PartialEq, Eq, PartialOrd, Ord)]
+pub enum Unfit {
     TooLong,
     Oversize,
     Forbidden,
 }
 
-// A place for one field, in a struct of its own: when it was written, a struct could hold no array of enums.
-#[derive(Clone, Copy)]
-pub struct Slot {
-    pub piece: Piece,
-}
-
-// How many fields a message has at most: there is a place for each.
+// How many fields a message has at most.
 pub const MOST_PIECES: usize = 10;
 
-// The fields of a message, in their order, how many are used, and the number of its type.
-#[derive(Clone, Copy)]
+// The fields of a message, in their order, and the number of its type.
+#[derive(Drop)]
 pub struct Fields {
-    pub at: [Slot; MOST_PIECES],
-    pub used: usize,
+    pub pieces: Few<Piece, MOST_PIECES>,
     pub number: u64,
+}
+
+impl Fields {
+    // The number of a type, and the fields of a message of it.
+    pub fn of<const N: usize>(number: u64, pieces: [Piece; N]) -> Self
+        ensures { result ≡ placed (record { type = number; pieces = take most_pieces pieces.entry }) }
+    {
+        Fields {
+            pieces: Few::of(pieces),
+            number,
+        }
+    }
 }
 
 // What stands between the numbers of a header: nothing, a byte, a part of the bytes after its length, or both.

@@ -18,7 +18,8 @@ use Rattle.layout.specs.Inside.{Inside}
 use Rattle.layout.specs.Typed.{Typed}
 use Rattle.layout.specs.Same.{Same}
 use Rattle.encode.specs.Writing.{told_writing}
-use Rattle.encode.specs.declared.Writing.{Writing}
+use Rattle.std.specs.Prelude.{Result}
+use Rattle.encode.specs.declared.Refusal.{Refusal}
 use Rattle.types.specs.Table.{known, layout_of}
 use Rattle.message.specs.Types.{typed_of}
 use Rattle.types.specs.Limits.{longest_body}
@@ -183,7 +184,7 @@ pub name-once : {s a b : Bor (List ℕ)} {p : Span} → PartOf s a p → PartOf 
 name-once = places.part-once
 
 -- and that of `write` one possible answer and one possible content of the buffer, refusals too.
-pub write-once : (s : List ℕ) (m : Message) (before : List ℕ) (a b : Writing) {x y : List ℕ}
+pub write-once : (s : List ℕ) (m : Message) (before : List ℕ) (a b : Result ℕ Refusal) {x y : List ℕ}
     → Leaves (write_of s m before) (told_writing a) x → Leaves (write_of s m before) (told_writing b) y → (a ≡ b) × (x ≡ y)
 write-once = writing.write-once
 

@@ -22,7 +22,7 @@ module _ (s : List ℕ) (m : Message) (before : List ℕ) {a : Bool} (judged : a
 
   -- or none is, and its fields are written
   pub is_framed : (f : Fields) {said : Answer Nothing} {after : List ℕ} → not a ≡ false → f ≡ placed (typed_of m) → Leaves (framed_of longest_body s f.number (fields_of f) before) said after → Leaves (write_of s m before) said after
-  unfolding write_up_to framed_of placed
+  unfolding write_up_to framed_of
   is_framed f h e l =
       let g : allowed_of m ≡ true = sym judged ∙ not-false a h in
       rw g (rw (e, fields-placed (typed_of m)) at l)

@@ -8,8 +8,5 @@ use message::Message;
 pub fn is_sound(m: Message) -> bool
     ensures { result ≡ sound_of m }
 {
-    if !is_allowed(m) {
-        return false;
-    }
-    measure::are_small(fields(m))
+    is_allowed(m) && measure::are_small(&fields(m))
 }

@@ -7,29 +7,19 @@ ghost use Rattle.encode.specs.Writing.{told_writing};
 ghost use Rattle.message.specs.Types.{typed_of};
 ghost use Rattle.message_writer.specs.Writing.{allowed_of, write_of};
 
-use encode::Writing;
+use encode::Refusal;
 use measure::Fields;
 use message::Message;
 use types::LONGEST_BODY;
 
 // bytes is what the parts of the message point into.
-pub fn write(out: &mut [u8], bytes: &[u8], m: Message) -> Writing
+pub fn write(out: &mut [u8], bytes: &[u8], m: Message) -> Result<usize, Refusal>
     ensures { Leaves (write_of bytes.now m out.old) (told_writing result) out.new }
 {
     if !is_allowed(m) {
-        return Writing::Forbidden;
+        return Err(Refusal::Forbidden);
     }
-    match m {
-        Message::Subscription(x) => encode::write_framed(
-            out,
-            bytes,
-            subscription::fields(x),
-            LONGEST_BODY,
-        ),
-        Message::Fetch(x) => encode::write_framed(out, bytes, fetch::fields(x), LONGEST_BODY),
-        Message::Announce(x) => encode::write_framed(out, bytes, announce::fields(x), LONGEST_BODY),
-        Message::Session(x) => encode::write_framed(out, bytes, session::fields(x), LONGEST_BODY),
-    }
+    encode::write_framed(out, bytes, &fields(m), LONGEST_BODY)
 }
 
 // The fields of a message.

@@ -6,8 +6,9 @@ use native.Mathlib.Omega.{arith}
 use lib.ListN.{length, set}
 use Rattle.common.specs.Buffer.{over}
 use Rattle.encode.specs.Writing.{told_writing}
-use Rattle.encode.specs.declared.Writing.{Writing}
-use Rattle.encode.specs.declared.Writing.TheVariants.{Done, Forbidden, Oversize, TooLong, TooShort}
+use Rattle.std.specs.Prelude.{Err}
+use Rattle.encode.specs.declared.Refusal.{Refusal}
+use Rattle.encode.specs.declared.Refusal.TheVariants.{Forbidden, Oversize, TooLong, TooShort}
 use Rattle.rewrite.specs.Ends.{end_number, end_info}
 
 -- ---- values at the front of `info`
@@ -29,10 +30,9 @@ three [] a b c h = absurd (omega (arith, h))
 
 -- ---- nothing was written
 
-pub not_done : (w : Writing) (used type : ℕ) (info : List ℕ) → ((n : ℕ) → w ≡ Done n → ⊥) → (7 ≡ end_number (told_writing w)) × (info ≡ end_info (told_writing w) used type info)
+pub refused_end : (refusal : Refusal) (used type : ℕ) (info : List ℕ) → (7 ≡ end_number (told_writing (Err refusal))) × (info ≡ end_info (told_writing (Err refusal)) used type info)
 unfolding end_number end_info
-not_done (Done n) used type info h = absurd (h n refl)
-not_done Forbidden used type info h = (refl, refl)
-not_done Oversize used type info h = (refl, refl)
-not_done TooLong used type info h = (refl, refl)
-not_done TooShort used type info h = (refl, refl)
+refused_end Forbidden used type info = (refl, refl)
+refused_end Oversize used type info = (refl, refl)
+refused_end TooLong used type info = (refl, refl)
+refused_end TooShort used type info = (refl, refl)

@@ -5,7 +5,7 @@ ghost use Rattle.session.specs.Told.{typed_of};
 
 use crate::SessionMessage;
 use field::{Kind, Piece};
-use measure::{Fields, places};
+use measure::Fields;
 
 // The number of its type.
 pub fn number(m: SessionMessage) -> u64
@@ -23,23 +23,20 @@ pub fn fields(m: SessionMessage) -> Fields
 {
     let number = number(m);
     match m {
-        SessionMessage::ClientSetup(x) => {
-            let versions = x.versions;
-            let parameters = x.parameters;
-            places::of2(
-                number,
-                Piece::List(Kind::Versions, versions),
-                Piece::List(Kind::Parameters, parameters),
-            )
-        }
-        SessionMessage::ServerSetup(x) => {
-            let parameters = x.parameters;
-            places::of2(
-                number,
+        SessionMessage::ClientSetup(x) => Fields::of(
+            number,
+            [
+                Piece::List(Kind::Versions, x.versions),
+                Piece::List(Kind::Parameters, x.parameters),
+            ],
+        ),
+        SessionMessage::ServerSetup(x) => Fields::of(
+            number,
+            [
                 Piece::Number(x.version),
-                Piece::List(Kind::Parameters, parameters),
-            )
-        }
-        SessionMessage::GoAway(uri) => places::of1(number, Piece::Bytes(uri)),
+                Piece::List(Kind::Parameters, x.parameters),
+            ],
+        ),
+        SessionMessage::GoAway(uri) => Fields::of(number, [Piece::Bytes(uri)]),
     }
 }

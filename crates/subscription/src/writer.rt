@@ -8,7 +8,7 @@ ghost use Rattle.subscription.specs.Told.{subscribe_pieces, ok_pieces, update_pi
 
 use crate::{Content, Filter, Subscribe, SubscribeOk, SubscribeUpdate, SubscriptionMessage};
 use field::{Kind, Piece};
-use measure::{Fields, places};
+use measure::Fields;
 use types::ends_after;
 
 // The number of its type.
@@ -35,46 +35,43 @@ pub fn fields(m: SubscriptionMessage) -> Fields
         SubscriptionMessage::SubscribeUpdate(x) => update_fields(number, x),
         SubscriptionMessage::Subscribe(x) => subscribe_fields(number, x),
         SubscriptionMessage::SubscribeOk(x) => ok_fields(number, x),
-        SubscriptionMessage::SubscribeError(x) => {
-            let failure = x.failure;
-            let reason = failure.reason;
-            places::of4(
-                number,
+        SubscriptionMessage::SubscribeError(x) => Fields::of(
+            number,
+            [
                 Piece::Number(x.id),
-                Piece::Number(failure.code),
-                Piece::Bytes(reason),
+                Piece::Number(x.failure.code),
+                Piece::Bytes(x.failure.reason),
                 Piece::Number(x.alias),
-            )
-        }
-        SubscriptionMessage::Unsubscribe(id) => places::of1(number, Piece::Number(id)),
-        SubscriptionMessage::SubscribeDone(x) => {
-            let reason = x.reason;
-            places::of4(
-                number,
+            ],
+        ),
+        SubscriptionMessage::Unsubscribe(id) => Fields::of(number, [Piece::Number(id)]),
+        SubscriptionMessage::SubscribeDone(x) => Fields::of(
+            number,
+            [
                 Piece::Number(x.id),
                 Piece::Number(x.status),
                 Piece::Number(x.streams),
-                Piece::Bytes(reason),
-            )
-        }
-        SubscriptionMessage::MaxSubscribeId(id) => places::of1(number, Piece::Number(id)),
-        SubscriptionMessage::SubscribesBlocked(id) => places::of1(number, Piece::Number(id)),
+                Piece::Bytes(x.reason),
+            ],
+        ),
+        SubscriptionMessage::MaxSubscribeId(id) => Fields::of(number, [Piece::Number(id)]),
+        SubscriptionMessage::SubscribesBlocked(id) => Fields::of(number, [Piece::Number(id)]),
     }
 }
 
 fn update_fields(number: u64, x: SubscribeUpdate) -> Fields
     ensures { result ≡ placed (record { type = number; pieces = update_pieces x }) }
 {
-    let start = x.start;
-    let parameters = x.parameters;
-    places::of6(
+    Fields::of(
         number,
-        Piece::Number(x.id),
-        Piece::Number(start.group),
-        Piece::Number(start.object),
-        Piece::Number(x.end_group),
-        Piece::Byte(x.priority),
-        Piece::List(Kind::Parameters, parameters),
+        [
+            Piece::Number(x.id),
+            Piece::Number(x.start.group),
+            Piece::Number(x.start.object),
+            Piece::Number(x.end_group),
+            Piece::Byte(x.priority),
+            Piece::List(Kind::Parameters, x.parameters),
+        ],
     )
 }
 
@@ -82,38 +79,29 @@ fn update_fields(number: u64, x: SubscribeUpdate) -> Fields
 fn subscribe_fields(number: u64, x: Subscribe) -> Fields
     ensures { result ≡ placed (record { type = number; pieces = subscribe_pieces x }) }
 {
-    let track = x.track;
-    let parameters = x.parameters;
-    let filter = x.filter;
     let a = Piece::Number(x.id);
     let b = Piece::Number(x.alias);
-    let c = Piece::Track(track);
+    let c = Piece::Track(x.track);
     let d = Piece::Byte(x.priority);
     let e = Piece::Byte(x.order);
-    let last = Piece::List(Kind::Parameters, parameters);
-    match filter {
-        Filter::Latest => places::of7(number, a, b, c, d, e, Piece::Number(2), last),
+    let last = Piece::List(Kind::Parameters, x.parameters);
+    match x.filter {
+        Filter::Latest => Fields::of(number, [a, b, c, d, e, Piece::Number(2), last]),
         Filter::From(start) => {
             let group = Piece::Number(start.group);
             let object = Piece::Number(start.object);
-            places::of9(number, a, b, c, d, e, Piece::Number(3), group, object, last)
+            Fields::of(
+                number,
+                [a, b, c, d, e, Piece::Number(3), group, object, last],
+            )
         }
         Filter::Range(start, end_group) => {
             let group = Piece::Number(start.group);
             let object = Piece::Number(start.object);
             let end = Piece::Number(end_group);
-            places::of10(
+            Fields::of(
                 number,
-                a,
-                b,
-                c,
-                d,
-                e,
-                Piece::Number(4),
-                group,
-                object,
-                end,
-                last,
+                [a, b, c, d, e, Piece::Number(4), group, object, end, last],
             )
         }
     }
@@ -125,23 +113,15 @@ fn ok_fields(number: u64, x: SubscribeOk) -> Fields
     let id = Piece::Number(x.id);
     let expires = Piece::Number(x.expires);
     let order = Piece::Byte(x.order);
-    let parameters = x.parameters;
-    let last = Piece::List(Kind::Parameters, parameters);
-    let content = x.content;
-    match content {
-        Content::Nothing => places::of5(number, id, expires, order, Piece::Byte(0), last),
+    let last = Piece::List(Kind::Parameters, x.parameters);
+    match x.content {
+        Content::Nothing => Fields::of(number, [id, expires, order, Piece::Byte(0), last]),
         Content::Largest(largest) => {
             let group = Piece::Number(largest.group);
             let object = Piece::Number(largest.object);
-            places::of7(
+            Fields::of(
                 number,
-                id,
-                expires,
-                order,
-                Piece::Byte(1),
-                group,
-                object,
-                last,
+                [id, expires, order, Piece::Byte(1), group, object, last],
             )
         }
     }
@@ -170,8 +150,7 @@ fn is_subscribe_allowed(x: Subscribe) -> bool
     if !field::is_askable(x.order) {
         return false;
     }
-    let filter = x.filter;
-    match filter {
+    match x.filter {
         Filter::Latest => true,
         Filter::From(_) => true,
         Filter::Range(start, end_group) => ends_after(start.group, end_group),

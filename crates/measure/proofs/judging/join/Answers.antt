@@ -1,55 +1,39 @@
--- `join` meets its contract: each pair of arms is a clause of `joined_of`. Assumes nothing.
-use Rattle.measure.specs.Measuring.{joined_of}
-use Rattle.measure.proofs.Numbers.{forbidden-first, taken-both}
+-- `join` meets its contract. Assumes nothing.
+use mathlib.Core.Path.{◌≡◌, refl, ap, ◌∙◌}
+use Rattle.std.specs.Ordering.{ord_max}
+use Rattle.measure.specs.declared.Unfit.{Unfit}
+use Rattle.measure.specs.declared.Unfit.TheVariants.{TooLong, Oversize, Forbidden}
+use Rattle.measure.specs.contracts.UnfitOrd.TheImpl as order
+use Rattle.std.specs.Prelude.{Err}
+use Rattle.measure.specs.Judging.{joined, graver}
+use Rattle.measure.proofs.Numbers.{told-pair}
 use Rattle.measure.proofs.judging.join.Goals as goal
 
-pub returns-in-Forbidden : goal.returns-in-Forbidden
-returns-in-Forbidden c = rw c.in-Forbidden.is (forbidden-first c.args.b _)
+-- the greater refusal is the graver
+graver-max : (x y : Unfit) → ord_max order.cmp-value.it x y ≡ graver x y
+unfolding graver
+graver-max Forbidden Forbidden = refl
+graver-max Forbidden Oversize = refl
+graver-max Forbidden TooLong = refl
+graver-max Oversize Forbidden = refl
+graver-max Oversize Oversize = refl
+graver-max Oversize TooLong = refl
+graver-max TooLong Forbidden = refl
+graver-max TooLong Oversize = refl
+graver-max TooLong TooLong = refl
 
-pub returns-in-Forbidden-b : goal.returns-in-Forbidden-b
-unfolding joined_of
-returns-in-Forbidden-b c = rw (c.in-Oversize.is, c.in-Forbidden-b.is)
+pub returns-in-Ok-Ok : goal.returns-in-Ok-Ok
+unfolding joined
+returns-in-Ok-Ok c = told-pair _ c.in-Ok-Ok.is-0 c.in-Ok-Ok.is-1 c.add.ensures
 
-pub returns-in-Oversize-b : goal.returns-in-Oversize-b
-unfolding joined_of
-returns-in-Oversize-b c = rw (c.in-Oversize.is, c.in-Oversize-b.is)
+pub returns-in-Err-Err : goal.returns-in-Err-Err
+unfolding joined graver
+returns-in-Err-Err c = told-pair _ c.in-Err-Err.is-0 c.in-Err-Err.is-1 (ap (λ (x : Unfit). Err x) (c.max.ensures ∙ graver-max c.in-Err-Err.x c.in-Err-Err.y))
 
-pub returns-in-TooLong-b : goal.returns-in-TooLong-b
-unfolding joined_of
-returns-in-TooLong-b c = rw (c.in-Oversize.is, c.in-TooLong-b.is)
+pub returns-in-Err-Ok : goal.returns-in-Err-Ok
+unfolding joined
+returns-in-Err-Ok c = told-pair _ c.in-Err-Ok.is-0 c.in-Err-Ok.is-1 refl
 
-pub returns-in-Takes-b : goal.returns-in-Takes-b
-unfolding joined_of
-returns-in-Takes-b c = rw (c.in-Oversize.is, c.in-Takes-b.is)
-
-pub returns-in-Forbidden-b-2 : goal.returns-in-Forbidden-b-2
-unfolding joined_of
-returns-in-Forbidden-b-2 c = rw (c.in-TooLong.is, c.in-Forbidden-b-2.is)
-
-pub returns-in-Oversize-b-2 : goal.returns-in-Oversize-b-2
-unfolding joined_of
-returns-in-Oversize-b-2 c = rw (c.in-TooLong.is, c.in-Oversize-b-2.is)
-
-pub returns-in-TooLong-b-2 : goal.returns-in-TooLong-b-2
-unfolding joined_of
-returns-in-TooLong-b-2 c = rw (c.in-TooLong.is, c.in-TooLong-b-2.is)
-
-pub returns-in-Takes-b-2 : goal.returns-in-Takes-b-2
-unfolding joined_of
-returns-in-Takes-b-2 c = rw (c.in-TooLong.is, c.in-Takes-b-2.is)
-
-pub returns-in-Forbidden-b-3 : goal.returns-in-Forbidden-b-3
-unfolding joined_of
-returns-in-Forbidden-b-3 c = rw (c.in-Takes.is, c.in-Forbidden-b-3.is)
-
-pub returns-in-Oversize-b-3 : goal.returns-in-Oversize-b-3
-unfolding joined_of
-returns-in-Oversize-b-3 c = rw (c.in-Takes.is, c.in-Oversize-b-3.is)
-
-pub returns-in-TooLong-b-3 : goal.returns-in-TooLong-b-3
-unfolding joined_of
-returns-in-TooLong-b-3 c = rw (c.in-Takes.is, c.in-TooLong-b-3.is)
-
-pub returns-in-Takes-b-3 : goal.returns-in-Takes-b-3
-unfolding joined_of
-returns-in-Takes-b-3 c = rw (c.in-Takes.is, c.in-Takes-b-3.is) (taken-both _ _ _ c.add.ensures)
+pub returns-in-Ok-Err : goal.returns-in-Ok-Err
+unfolding joined
+returns-in-Ok-Err c = told-pair _ c.in-Ok-Err.is-0 c.in-Ok-Err.is-1 refl

@@ -4,8 +4,8 @@ use Rattle.measure.proofs.Numbers.{measured, judgement-joined}
 use Rattle.measure.proofs.Pieces.{number-judged, byte_fits, bytes-judged, list-judged, track-backward, track-judged}
 use Rattle.measure.proofs.judging.measure.Goals as goal
 
-pub returns-then-start-end : goal.returns-then-start-end
-returns-then-start-end c = measured _ _ _ (track-backward _ _ c.in-Track.is c.if-start-end.true)
+pub returns-then-t : goal.returns-then-t
+returns-then-t c = measured _ _ _ (track-backward _ _ c.in-Track.is c.if-t.true)
 
 pub returns-in-Number : goal.returns-in-Number
 returns-in-Number c = measured _ _ _ (c.measure_number.ensures ∙ number-judged _ _ c.in-Number.is)
@@ -19,5 +19,5 @@ returns-in-Bytes c = measured _ _ _ (c.measure_span.ensures ∙ bytes-judged _ _
 pub returns-in-List : goal.returns-in-List
 returns-in-List c = measured _ _ _ (c.measure_list.ensures ∙ list-judged _ _ c.in-List.is)
 
-pub returns-else-start-end : goal.returns-else-start-end
-returns-else-start-end c = measured _ _ _ (judgement-joined c.measure_list-fields.result c.measure_span-in-Track.result _ {r = c.join.result} c.join.ensures ∙ rw (c.measure_list-fields.ensures, c.measure_span-in-Track.ensures) (track-judged _ _ c.in-Track.is))
+pub returns-else-t : goal.returns-else-t
+returns-else-t c = measured _ _ _ (judgement-joined c.measure_list-fields.result c.measure_span-in-Track.result _ {r = c.join.result} c.join.ensures ∙ rw (c.measure_list-fields.ensures, c.measure_span-in-Track.ensures) (track-judged _ _ c.in-Track.is))

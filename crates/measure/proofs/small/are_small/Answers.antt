@@ -1,23 +1,12 @@
--- `are_small` meets its contract: the fields that are left tell what all of them tell. Assumes nothing.
-use native.Mathlib.Omega.{arith}
-use Rattle.measure.proofs.FieldsFrom.{count_most}
-use Rattle.measure.proofs.AllSmall.{all_left, one-great, one-small, none-great}
+-- `are_small` meets its contract. Assumes nothing.
+use Rattle.std.proofs.Common.{rules, ◌∙◌}
+use Rattle.std.proofs.lemmas.Iterator.{YieldsList-from_slice}
+use Rattle.std.proofs.lemmas.Iterator.Search.{all_from_yields_List}
+use Rattle.measure.specs.Small.{small_piece}
+use Rattle.measure.specs.Fields.{fields_of}
+use Rattle.measure.proofs.AllSmall.{all-small}
 use Rattle.measure.proofs.small.are_small.Goals as goal
 
-pub offset_bounds-f-i : goal.offset_bounds-f-i
-offset_bounds-f-i c = omega (arith, count_most c.args.f.used)
-
-pub bounds-f-i : goal.bounds-f-i
-bounds-f-i c = omega (arith, count_most c.args.f.used)
-
-pub returns-then-not-is_small : goal.returns-then-not-is_small
-returns-then-not-is_small c = one-great _ _ (omega arith) c.loop-i.invariant _ (omega arith) c.is_small.ensures c.if-not-is_small.true
-
-pub loop-i-preserved : goal.loop-i-preserved
-loop-i-preserved c = one-small _ _ (omega arith) c.loop-i.invariant _ (omega arith) c.is_small.ensures c.if-not-is_small.false
-
 pub returns : goal.returns
-returns c = none-great _ _ (omega arith) c.loop-i.invariant (omega arith)
-
-pub loop-i-init : goal.loop-i-init
-loop-i-init c = search all_left
+unfolding fields_of
+returns c = all_from_yields_List small_piece _ _ _ c.all.ensures.ran (YieldsList-from_slice _ cc) (λ x b q h. search rules) ∙ all-small _

@@ -1,6 +1,11 @@
 -- `is_short` meets its contract. Assumes nothing.
+use mathlib.Core.Path.{refl, ◌∙◌}
+use borrow.Author.Tests.{lt-ltb}
 use Rattle.measure.proofs.AllSmall.{short-backward}
 use Rattle.measure.proofs.small.is_short.Goals as goal
 
-pub returns-then-start-end : goal.returns-then-start-end
-returns-then-start-end c = short-backward _ c.if-start-end.true
+pub returns-then-p : goal.returns-then-p
+returns-then-p c = lt-ltb _ _ c.if-p.true ∙ short-backward _ c.if-p.true
+
+pub returns-else-p : goal.returns-else-p
+returns-else-p c = refl

@@ -1,12 +1,8 @@
 -- `is_small` meets its contract. Assumes nothing.
+use borrow.Author.Tests.{le-leb, lt-leb}
 use Rattle.common.proofs.Telling.{told_of}
 use Rattle.measure.specs.Small.{small_piece}
-use Rattle.measure.proofs.AllSmall.{track-great, track-small}
 use Rattle.measure.proofs.small.is_small.Goals as goal
-
-pub returns-then-namespace-gt-GREATEST : goal.returns-then-namespace-gt-GREATEST
-unfolding small_piece
-returns-then-namespace-gt-GREATEST c = search track-great
 
 pub returns-in-Number : goal.returns-in-Number
 unfolding small_piece
@@ -24,6 +20,10 @@ pub returns-in-List : goal.returns-in-List
 unfolding small_piece
 returns-in-List c = search (told_of small_piece)
 
-pub returns-else-namespace-gt-GREATEST : goal.returns-else-namespace-gt-GREATEST
+pub returns-then-t-le-GREATEST : goal.returns-then-t-le-GREATEST
 unfolding small_piece
-returns-else-namespace-gt-GREATEST c = search track-small
+returns-then-t-le-GREATEST c = rw (c.in-Track.is, le-leb _ _ c.if-t-le-GREATEST.true) c.is_short-then-t-le-GREATEST.ensures
+
+pub returns-else-t-le-GREATEST : goal.returns-else-t-le-GREATEST
+unfolding small_piece
+returns-else-t-le-GREATEST c = rw (c.in-Track.is, lt-leb _ _ c.if-t-le-GREATEST.false)

@@ -2,7 +2,7 @@
 use mathlib.Core.Path.{◌∙◌}
 use Rattle.measure.proofs.Middles.{nothing-fits, one-byte-fits, some-bytes-judged, both-judged}
 use Rattle.measure.proofs.Numbers.{measured-all, judgement-joined}
-use Rattle.measure.proofs.heading.measure_middle.Goals as goal
+use Rattle.measure.proofs.several.measure_middle.Goals as goal
 
 pub returns-in-Nothing : goal.returns-in-Nothing
 returns-in-Nothing c = measured-all _ _ _ (nothing-fits _ _ c.in-Nothing.is)
