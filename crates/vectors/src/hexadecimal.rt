@@ -1,202 +1,108 @@
 // Bytes as text, in hexadecimal, as cases and answers have them: two digits each, and a run of equal bytes as one of
 // them, `*` and how many they are.
-ghost use Rattle.std.specs.Prelude.{◌≡◌, ◌<◌, ◌≤◌, length};
-
-use crate::{ROOM, say, say_number};
+use crate::ROOM;
 use std::io;
 
 // ---- read
 
-// The value of a hexadecimal digit; 16 for any other character.
-fn digit(c: u8) -> u8 {
-    match c {
-        b'0'..=b'9' => c - b'0',
-        b'A'..=b'F' => c - b'A' + 10,
-        b'a'..=b'f' => c - b'a' + 10,
-        _ => 16,
-    }
-}
-
-// What is held of a line: how many bytes, the last of them, and a first digit that waits for its second, 16 for none.
+// What is held of a line: how many bytes, the last of them, and a first digit that waits for its second.
 #[derive(Clone, Copy)]
 struct Held {
-    have: usize,
+    count: usize,
     last: u8,
-    high: u8,
+    high: Option<u8>,
 }
 
-// Adds a byte to those held. Where there is no room for it, more than ROOM are counted from then on.
-fn put(bytes: &mut [u8], have: usize, byte: u8) -> usize
-    ensures { length bytes.new ≡ length bytes.old }
-{
-    if bytes.len() <= have {
-        return ROOM + 1;
+// The value of a hexadecimal digit.
+fn digit(c: u8) -> Option<u8> {
+    match c {
+        b'0'..=b'9' => Some(c - b'0'),
+        b'A'..=b'F' => Some(c - b'A' + 10),
+        b'a'..=b'f' => Some(c - b'a' + 10),
+        _ => None,
     }
-    bytes[have] = byte;
-    have + 1
 }
 
-// Takes one character: a second digit makes a byte with the first, and what is no digit is passed over.
-fn take(bytes: &mut [u8], held: Held, c: u8) -> Held
-    ensures { length bytes.new ≡ length bytes.old }
-{
-    let have = held.have;
-    let high = held.high;
-    let last = held.last;
-    let d = digit(c);
-    if 15 < d {
-        return held;
+impl Held {
+    // Adds a byte, where there is room for it.
+    fn add(self, bytes: &mut [u8], byte: u8) -> Option<Held> {
+        *bytes.get_mut(self.count)? = byte;
+        Some(Held {
+            count: self.count + 1,
+            last: byte,
+            ..self
+        })
     }
-    if 15 < high {
-        return Held {
-            have,
-            last,
-            high: d,
+
+    // Takes one character: a second digit makes a byte with the first, and what is no digit is passed over.
+    fn take(self, bytes: &mut [u8], c: u8) -> Option<Held> {
+        let Some(low) = digit(c) else {
+            return Some(self);
         };
-    }
-    let byte = high * 16 + d;
-    let now = put(&mut *bytes, have, byte);
-    Held {
-        have: now,
-        last: byte,
-        high: 16,
-    }
-}
-
-// Adds the last byte again, so that it stands that many times.
-fn again(bytes: &mut [u8], held: Held, times: usize) -> Held
-    ensures { length bytes.new ≡ length bytes.old }
-{
-    let last = held.last;
-    let high = held.high;
-    let mut have = held.have;
-    let mut i: usize = 1;
-    while i < times {
-        have = put(&mut *bytes, have, last);
-        i += 1;
-    }
-    Held { have, last, high }
-}
-
-fn is_decimal(c: u8) -> bool {
-    digit(c) < 10
-}
-
-// Where decimal digits end that start at an offset.
-fn digits_end(text: &[u8], at: usize) -> usize
-    requires { at ≤ length text.now }
-    ensures { (at ≤ result) × (result ≤ length text.now) }
-{
-    let mut i = at;
-    while i < text.len() {
-        if !is_decimal(text[i]) {
-            return i;
+        match self.high {
+            None => Some(Held {
+                high: Some(low),
+                ..self
+            }),
+            Some(high) => Held { high: None, ..self }.add(bytes, high << 4 | low),
         }
-        i += 1;
     }
-    i
 }
 
-// One more decimal digit. A number over the room doesn't grow any more.
-fn next_decimal(n: usize, d: u8) -> usize {
-    if ROOM < n {
-        return n;
-    }
-    n * 10 + d as usize
-}
-
-// The number that decimal digits spell.
+// The number that decimal digits spell. One over the room doesn't grow any more.
 fn decimal(digits: &[u8]) -> usize {
-    let mut n: usize = 0;
-    let mut i: usize = 0;
-    while i < digits.len() {
-        n = next_decimal(n, digit(digits[i]));
-        i += 1;
-    }
-    n
+    digits.iter().fold(0usize, |n, c| {
+        if ROOM < n {
+            n
+        } else {
+            n * 10 + usize::from(c % 16)
+        }
+    })
 }
 
-// The bytes that digits spell, and how many they are: over ROOM where there is no room for all of them. A byte followed
-// by `*` and a decimal number stands that many times.
-pub fn decode(text: &[u8], bytes: &mut [u8]) -> usize
-    ensures { length bytes.new ≡ length bytes.old }
-{
+// The bytes that digits spell, put at the front of a buffer; none where there is no room for all of them. A byte followed by
+// `*` and a decimal number stands that many times.
+pub fn decode<'a>(text: &[u8], bytes: &'a mut [u8]) -> Option<&'a [u8]> {
     let mut held = Held {
-        have: 0,
+        count: 0,
         last: 0,
-        high: 16,
+        high: None,
     };
-    let mut i: usize = 0;
-    while i < text.len() {
-        if text[i] == b'*' {
-            let end = digits_end(text, i + 1);
-            held = again(&mut *bytes, held, decimal(&text[i + 1..end]));
-            i = end;
-        } else {
-            held = take(&mut *bytes, held, text[i]);
-            i += 1;
+    for (i, part) in text.split(|c| *c == b'*').enumerate() {
+        let end = part
+            .iter()
+            .position(|c| !c.is_ascii_digit())
+            .unwrap_or(part.len());
+        let (digits, rest) = part.split_at(if i == 0 { 0 } else { end });
+        for _ in 1..decimal(digits) {
+            held = held.add(bytes, held.last)?;
+        }
+        for c in rest {
+            held = held.take(bytes, *c)?;
         }
     }
-    held.have
+    bytes.get(..held.count)
 }
 
 // ---- printed
 
-fn say_byte(rt: &impl Print, byte: u8) -> io::Result<()> {
-    print!(rt; "{byte:02x}")
-}
-
-// Where a run of equal bytes ends that starts at an offset.
-fn run_end(out: &[u8], at: usize) -> usize
-    requires { at < length out.now }
-    ensures { (at < result) × (result ≤ length out.now) }
-{
-    let byte = out[at];
-    let mut i = at + 1;
-    while i < out.len() {
-        if out[i] != byte {
-            return i;
-        }
-        i += 1;
-    }
-    i
-}
-
-fn say_digits(rt: &impl Print, bytes: &[u8]) -> io::Result<()> {
-    let mut i: usize = 0;
-    while i < bytes.len() {
-        say_byte(rt, bytes[i])?;
-        i += 1;
-    }
-    Ok(())
-}
-
-fn say_run(rt: &impl Print, byte: u8, count: usize) -> io::Result<()> {
-    say_byte(rt, byte)?;
-    say(rt, b"*")?;
-    say_number(rt, count as u64)
-}
-
 // Bytes in hexadecimal; a run of 16 or more equal ones as the byte, `*` and how many they are, with a space before and
 // after it.
-pub fn say_bytes(rt: &impl Print, out: &[u8]) -> io::Result<()> {
+pub fn say_bytes(rt: &impl Print, bytes: &[u8]) -> io::Result<()> {
     let mut behind_run = false;
-    let mut at: usize = 0;
-    while at < out.len() {
-        let end = run_end(out, at);
-        let is_run = 16 <= end - at;
-        if 0 < at {
-            if is_run || behind_run {
-                say(rt, b" ")?;
-            }
+    for (i, run) in bytes.chunk_by(|a, b| a == b).enumerate() {
+        let is_run = 16 <= run.len();
+        if 0 < i && (is_run || behind_run) {
+            print!(rt; " ")?;
         }
         if is_run {
-            say_run(rt, out[at], end - at)?;
+            print!(rt; "{:02x}*{}", run[0], run.len())?;
         } else {
-            say_digits(rt, &out[at..end])?;
+            for byte in run {
+                print!(rt; "{byte:02x}")?;
+            }
         }
         behind_run = is_run;
-        at = end;
     }
     Ok(())
 }

@@ -1,0 +1,89 @@
+// What the programs share: bytes come into a lent buffer, text goes to standard output a page at a time, and what failed
+// is said.
+#![tactic(auto)]
+
+ghost use Rattle.std.specs.Prelude.{◌≡◌, ◌+◌, ◌≤◌, IfOk, OnOk, length, take};
+
+use std::io::Read;
+use std::{fmt, io};
+
+// What failed, and why.
+#[derive(Drop)]
+pub enum Failed {
+    Input(io::Error),
+    Output(io::Error),
+}
+
+impl fmt::Display for Failed {
+    fn fmt<W: fmt::Write>(&self, f: &mut fmt::Formatter<W>) -> fmt::Result {
+        match self {
+            Failed::Input(e) => write!(f, "standard input: {e}"),
+            Failed::Output(e) => write!(f, "standard output: {e}"),
+        }
+    }
+}
+
+// Says on standard error that a program failed, and why.
+pub fn say_failed(rt: &impl Eprint, program: &str, done: Result<(), Failed>) {
+    if let Err(e) = done {
+        let _ = eprintln!(rt; "{program}: {e}");
+    }
+}
+
+// One read into buffer, after what is left of the bytes before, which stays. It answers how many came.
+pub fn read_behind(rt: &impl Input, buffer: &mut [u8], left: usize) -> Result<usize, Failed>
+    requires { left ≤ length buffer.old }
+    ensures count { IfOk result (λ n. left + n ≤ length buffer.old) }
+    ensures front { take left buffer.new ≡ take left buffer.old }
+{
+    rt.reader().read(&mut buffer[left..]).map_err(Failed::Input)
+}
+
+// Fills buffer from a reader, as far as what is read goes. It answers how many bytes came.
+pub fn read_full(from: &mut impl Read, buffer: &mut [u8]) -> io::Result<usize>
+    ensures { IfOk result (λ n. n ≤ length buffer.old) }
+{
+    let mut filled: usize = 0;
+    while filled < buffer.len() {
+        let n = from.read(&mut buffer[filled..])?;
+        if n == 0 {
+            break;
+        }
+        filled += n;
+    }
+    Ok(filled)
+}
+
+// Text is written.
+pub fn write(rt: &impl Print, text: &[u8]) -> Result<(), Failed> {
+    rt.write_all(text).map_err(Failed::Output)
+}
+
+// Text that waits to be written, at the front of a page.
+pub struct Page {
+    pub bytes: [u8; 65536],
+    pub used: usize,
+    ghost within: { used ≤ 65536 },
+}
+
+impl Page {
+    // Whatever waits is written.
+    pub fn flush(&mut self, rt: &impl Print) -> Result<(), Failed>
+        ensures { OnOk result (self.new.used ≡ 0) }
+    {
+        write(rt, &self.bytes[..self.used])?;
+        self.used = 0;
+        Ok(())
+    }
+
+    // Room for so many bytes more, if a page has so much. Where there is none, what waits is written.
+    pub fn make_room(&mut self, rt: &impl Print, size: usize) -> Result<(), Failed>
+        requires { size ≤ 65536 }
+        ensures { OnOk result (self.new.used + size ≤ 65536) }
+    {
+        if self.bytes.len() - self.used < size {
+            return self.flush(rt);
+        }
+        Ok(())
+    }
+}

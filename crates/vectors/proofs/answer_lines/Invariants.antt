@@ -1,6 +1,0 @@
--- The measure is what is left of the text.
-use Rattle.std.proofs.Common.{◌-◌, length}
-use Rattle.vectors.proofs.answer_lines.Given as goal
-
-abbrev pub decreases-loop-at : goal.decreases-loop-at
-decreases-loop-at g l = length l.text - l.at
