@@ -1,4 +1,6 @@
 // What stands at a place, by what is laid out.
+#![tactic(auto, unfolding(types::specs::Table::layout_of, types::specs::Table::type_row_of, types::specs::Table::messages, types::specs::Table::type_row_in, header::specs::Layouts::datagrams, header::specs::Layouts::streams, crate::specs::Places::laid_out, crate::specs::Places::ahead_at))]
+
 ghost use Rattle.std.specs.Prelude.{◌≡◌};
 ghost use Rattle.types.specs.Table.{layout_of};
 ghost use Rattle.header.specs.Layouts.{layout_of as layout_in, datagrams, streams};

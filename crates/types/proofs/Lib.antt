@@ -1,5 +1,4 @@
 pub mod Gaps
 pub mod TypedAs
 pub mod KindRows
-pub mod KnownNumbers
 pub mod OneAnswer

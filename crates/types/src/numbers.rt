@@ -7,6 +7,7 @@ use crate::kinds::{
 };
 
 // Which message a number is the type of.
+#[tactic(auto, unfolding(crate::specs::Kinds::type_of, crate::specs::Kinds::number_of, crate::specs::SubscriptionKinds::type_row, crate::specs::FetchKinds::type_row, crate::specs::AnnounceKinds::type_row, crate::specs::SessionKinds::type_row, crate::specs::Table::known, crate::specs::Table::type_row_of, crate::specs::Table::messages, crate::specs::Table::type_row_in))]
 pub fn type_of(number: u64) -> Option<Kind>
     ensures { told_type result ≡ type_of number }
 {

@@ -1,4 +1,6 @@
 // Which values of a field are permitted: "Forbidden field values (5)".
+#![tactic(auto, unfolding(crate::specs::Rules::ends_after, crate::specs::Rules::is_track_status, crate::specs::Rules::may_hold))]
+
 ghost use Rattle.std.specs.Prelude.{◌≡◌};
 ghost use Rattle.types.specs.Rules.{ends_after, is_track_status, may_hold};
 

@@ -1,17 +1,9 @@
--- `datagram` meets its contract. Assumes nothing.
+-- `datagram` meets its contract: another number is no type. Assumes nothing.
 use native.Mathlib.Omega.{arith}
 use borrow.Author.Tests.{ne_eqb}
 use Rattle.header.specs.Layouts.{datagrams}
 use Rattle.outline.proofs.OneByOne.{forbidden-ahead}
 use Rattle.outline.proofs.laid.datagram.Goals as goal
-
-pub returns-in-1 : goal.returns-in-1
-unfolding datagrams
-returns-in-1 c = rw c.in-1.is c.object_datagram.ensures
-
-pub returns-in-2 : goal.returns-in-2
-unfolding datagrams
-returns-in-2 c = rw c.in-2.is c.datagram_status.ensures
 
 pub returns-in_default : goal.returns-in_default
 unfolding datagrams

