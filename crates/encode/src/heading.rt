@@ -10,7 +10,7 @@ ghost use Rattle.encode.specs.Writing.{bare_of, told_writing};
 use crate::Refusal;
 use crate::putting::put_text;
 use crate::several::put_all;
-use measure::{Middle, Unfit, join, measure_all, measure_middle};
+use measure::{Judge, Middle, Unfit};
 
 // What stands between them, judged to be right and to fit.
 fn put_middle(out: &mut [u8], bytes: &[u8], m: Middle) -> usize
@@ -45,13 +45,12 @@ pub fn write_header(
     ensures { Leaves (bare_of bytes.now (headed front.now middle back.now)
         out.old) (told_writing result) out.new }
 {
-    let room = out.len();
-    let behind = join(
-        measure_middle(bytes, middle, room),
-        measure_all(bytes, back, room),
-        room,
-    );
-    match join(measure_all(bytes, front, room), behind, room) {
+    let judge = Judge {
+        bytes,
+        room: out.len(),
+    };
+    let behind = judge.join(judge.measure_middle(middle), judge.measure_all(back));
+    match judge.join(judge.measure_all(front), behind) {
         Err(Unfit::Forbidden) => Err(Refusal::Forbidden),
         Err(Unfit::Oversize) => Err(Refusal::Oversize),
         Err(Unfit::TooLong) => Err(Refusal::TooShort),

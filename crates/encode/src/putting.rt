@@ -11,7 +11,7 @@ ghost use Rattle.encode.specs.Entries.{enc_head};
 ghost use Rattle.encode.specs.Writing.{put_field};
 
 use field::{Entries, EntryRead, Kind, Piece, Span};
-use measure::Unfit;
+use measure::{Judge, Unfit};
 
 // An integer.
 pub fn put_number(out: &mut [u8], n: u64) -> usize
@@ -127,7 +127,11 @@ pub fn put_piece(out: &mut [u8], bytes: &[u8], p: Piece) -> usize
 pub fn put(out: &mut [u8], bytes: &[u8], p: Piece) -> Result<usize, Unfit>
     ensures { Leaves (put_field bytes.now p out.old) (told_measured result) out.new }
 {
-    let n = measure::measure(bytes, p, out.len())?;
+    let judge = Judge {
+        bytes,
+        room: out.len(),
+    };
+    let n = judge.measure(p)?;
     put_piece(out, bytes, p);
     Ok(n)
 }

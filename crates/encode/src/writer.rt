@@ -10,7 +10,7 @@ ghost use Rattle.encode.specs.Writing.{framed_of, told_writing};
 use crate::Refusal;
 use crate::putting::put_two;
 use crate::several::put_all;
-use measure::{Fields, Unfit, measure_all};
+use measure::{Fields, Judge, Unfit};
 
 // What is answered of a message of this number whose body was judged so, before a byte is written: the bytes that its
 // body takes, where the whole fits into the room there is.
@@ -41,7 +41,7 @@ pub fn write_framed(
         (told_writing result) out.new }
 {
     let room = longest as usize;
-    let found = measure_all(bytes, f.pieces.as_slice(), room);
+    let found = Judge { bytes, room }.measure_all(f.pieces.as_slice());
     let n = framing(found, f.number, out.len())?;
     // The part after Type and Length is lent to the body.
     let at = put_two(out, f.number, n as u64);

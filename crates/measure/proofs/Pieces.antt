@@ -35,9 +35,7 @@ module _ (s : List ℕ) {p : Piece} (room : ℕ) where
   unfolding measure_of right sized mean enc_field
   number_fits {n} e h f = rw e (judged-fit {is_sized = true} _ (le-leb n greatest h) refl (omega (arith, length-enc n)))
 
-  -- which is judged the same over any bytes
-  pub number-judged : {n : ℕ} → p ≡ Number n → measure_of [] (Number n) room ≡ measure_of s p room
-  unfolding measure_of right sized mean enc_field
+  pub number-judged : {n : ℕ} → p ≡ Number n → measure_of s (Number n) room ≡ measure_of s p room
   number-judged e = rw e
 
   -- a byte

@@ -11,8 +11,8 @@ mod small;
 
 use common::Few;
 use field::{Piece, Span};
-pub use judging::{join, measure};
-pub use several::{AsPiece, measure_all, measure_middle};
+pub use judging::Judge;
+pub use several::AsPiece;
 pub use small::are_small;
 
 // Why a field, or several, can't take the bytes that it may: it takes more; it is over a size; it holds what can't be

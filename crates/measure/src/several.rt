@@ -6,7 +6,7 @@ ghost use Rattle.field.specs.declared.Piece.TheVariants.{Number};
 ghost use Rattle.measure.specs.Fields.{middle_pieces};
 ghost use Rattle.measure.specs.Measuring.{measured_of, measured_all, told_measured};
 
-use crate::judging::{add, join, measure, measure_number, measure_span};
+use crate::judging::Judge;
 use crate::{Middle, Unfit};
 use field::Piece;
 
@@ -15,46 +15,47 @@ use field::Piece;
 pub trait AsPiece: Copy {
     ghost piece: { Self → Piece };
 
-    // How many bytes its shortest form takes, which may be room at most.
-    fn measure_in(self, bytes: &[u8], room: usize) -> Result<usize, Unfit>
-        ensures { told_measured result ≡ measured_of bytes.now (piece self) room };
+    fn measure_by(self, judge: &Judge) -> Result<usize, Unfit>
+        ensures { told_measured result ≡ measured_of judge.now.bytes.now (piece self) judge.now.room };
 }
 
 impl AsPiece for Piece {
     ghost piece = { λ p. p };
 
-    fn measure_in(self, bytes: &[u8], room: usize) -> Result<usize, Unfit> {
-        measure(bytes, self, room)
+    fn measure_by(self, judge: &Judge) -> Result<usize, Unfit> {
+        judge.measure(self)
     }
 }
 
 impl AsPiece for u64 {
     ghost piece = { λ n. Number n };
 
-    fn measure_in(self, bytes: &[u8], room: usize) -> Result<usize, Unfit> {
-        measure_number(self, room)
+    fn measure_by(self, judge: &Judge) -> Result<usize, Unfit> {
+        judge.number(self)
     }
 }
 
-// How many bytes several take. bytes is what their parts point into.
-pub fn measure_all<P: AsPiece>(bytes: &[u8], parts: &[P], room: usize) -> Result<usize, Unfit>
-    ensures { told_measured result ≡ measured_all bytes.now (map P.piece parts.now) room }
-{
-    let mut found = Ok(0);
-    for part in parts {
-        found = join(found, part.measure_in(bytes, room), room);
+impl Judge<'_> {
+    // Several, one after the other.
+    pub fn measure_all<P: AsPiece>(&self, parts: &[P]) -> Result<usize, Unfit>
+        ensures { told_measured result ≡ measured_all self.now.bytes.now (map P.piece parts.now) self.now.room }
+    {
+        let mut found = Ok(0);
+        for part in parts {
+            found = self.join(found, part.measure_by(self));
+        }
+        found
     }
-    found
-}
 
-// How many bytes what stands between the numbers of a header takes.
-pub fn measure_middle(bytes: &[u8], m: Middle, room: usize) -> Result<usize, Unfit>
-    ensures { told_measured result ≡ measured_all bytes.now (middle_pieces m) room }
-{
-    match m {
-        Middle::Nothing => Ok(0),
-        Middle::Byte(_) => add(1, 0, room),
-        Middle::Bytes(p) => measure_span(bytes, p, room),
-        Middle::Both(_, p) => join(add(1, 0, room), measure_span(bytes, p, room), room),
+    // What stands between the numbers of a header.
+    pub fn measure_middle(&self, m: Middle) -> Result<usize, Unfit>
+        ensures { told_measured result ≡ measured_all self.now.bytes.now (middle_pieces m) self.now.room }
+    {
+        match m {
+            Middle::Nothing => Ok(0),
+            Middle::Byte(_) => self.add(1, 0),
+            Middle::Bytes(p) => self.span(p),
+            Middle::Both(_, p) => self.join(self.add(1, 0), self.span(p)),
+        }
     }
 }

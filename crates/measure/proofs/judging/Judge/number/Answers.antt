@@ -1,7 +1,7 @@
--- `measure_number` meets its contract. Assumes nothing.
+-- `number` meets its contract. Assumes nothing.
 use mathlib.Core.Path.{refl, ◌∙◌}
 use Rattle.measure.proofs.Pieces.{number-great, number_fits}
-use Rattle.measure.proofs.judging.measure_number.Goals as goal
+use Rattle.measure.proofs.judging.Judge.number.Goals as goal
 
 pub returns-then-n-gt-GREATEST : goal.returns-then-n-gt-GREATEST
 returns-then-n-gt-GREATEST c = number-great _ _ refl c.if-n-gt-GREATEST.true

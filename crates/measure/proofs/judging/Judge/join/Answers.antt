@@ -7,7 +7,7 @@ use Rattle.measure.specs.contracts.UnfitOrd.TheImpl as order
 use Rattle.std.specs.Prelude.{Err}
 use Rattle.measure.specs.Judging.{joined, graver}
 use Rattle.measure.proofs.Numbers.{told-pair}
-use Rattle.measure.proofs.judging.join.Goals as goal
+use Rattle.measure.proofs.judging.Judge.join.Goals as goal
 
 -- the greater refusal is the graver
 graver-max : (x y : Unfit) → ord_max order.cmp-value.it x y ≡ graver x y
