@@ -18,3 +18,7 @@ pick-le P m n f g = pick-by P (leb m n) (λ e. f (leb-true m n e)) (λ e. g (leb
 -- what is whole was not refused
 pub apart : {A : Type 0} {a : A} {used n : ℕ} → refused n ≡ whole a used → ⊥
 apart h = let z : ◌≡◌ {A = ℕ} 0 1 = cc in omega arith
+
+-- pairs of the same parts are the same
+pub both : {A B : Type 0} {p q : A × B} → p.0 ≡ q.0 → p.1 ≡ q.1 → p ≡ q
+both {p = (a, b)} {q = (c, d)} e f = cc

@@ -6,3 +6,4 @@ pub mod Places
 pub mod Parts
 pub mod Puts
 pub mod PutLoop
+pub mod Exits

@@ -1,27 +1,23 @@
 -- What a caller has from the answers of `read_at`, `numbered` and `entry_at`: a law for each answer that it gives in turn.
 -- Assumes nothing.
 use Prim.Native.Nat.{ℕ, ◌+◌, ◌-◌, ◌*◌, ◌^◌, ◌<◌, ◌≤◌}
-use mathlib.Core.Path.{◌≡◌, sym, ap, ◌∙◌}
+use mathlib.Core.Path.{◌≡◌, sym}
 use mathlib.Core.Bool.{true, false}
 use mathlib.Core.List.{List}
 use native.Mathlib.Omega.{arith}
 use lib.ListN.{length, drop}
 use mir.Syntax.{w64}
 use mir.Val.{Fits}
+use Rattle.common.specs.Answer.{whole as read, refused}
 use Rattle.common.specs.Choice.{pick}
-use Rattle.integer.specs.Integer.{read_of, told, greatest}
-use Rattle.integer.specs.declared.Reading.{Reading}
-use Rattle.integer.specs.declared.Reading.TheVariants.{Whole, More}
+use Rattle.integer.specs.Integer.{read_of, greatest}
 use Rattle.field.specs.Outcome.{Outcome, whole, no, and_then}
 use Rattle.field.specs.Entries.{size, number_at, text_at, numbered_at, has_number, has_bytes, entry_at}
 use Rattle.field.specs.Fields.{field_at, integer, bytes}
-use Rattle.field.specs.Told.{told_entry}
 use Rattle.field.specs.declared.Fault.{Fault}
 use Rattle.field.specs.declared.Fault.TheVariants.{Cut, Oversize}
 use Rattle.field.specs.declared.Span.{Span}
 use Rattle.field.specs.declared.Entry.{Entry}
-use Rattle.field.specs.declared.EntryRead.{EntryRead}
-use Rattle.field.specs.declared.EntryRead.TheVariants.{Whole as WholeEntry, No as NoEntry}
 use Rattle.field.specs.declared.Kind.{Kind}
 use Rattle.field.specs.declared.Kind.TheVariants.{Namespace, Parameters, Versions}
 use Rattle.field.specs.declared.Piece.TheVariants.{Number, Bytes}
@@ -38,10 +34,10 @@ lead_at kind s at = pick (has_number kind) (number_at s at) (whole 0 at)
 
 -- ---- no integer was read: what should have started there is cut
 
-module _ (s : List ℕ) (at : ℕ) {r : Reading} (read : r ≡ More) (said : told r ≡ read_of (drop at s)) where
+module _ (s : List ℕ) (at : ℕ) (said : refused 1 ≡ read_of (drop at s)) where
   -- an integer,
   pub read_more : number_at s at ≡ no Cut
-  read_more = number_cut s at (sym said ∙ ap told read)
+  read_more = number_cut s at (sym said)
 
   -- as a field,
   pub number-field-cut : no Cut ≡ field_at integer s at
@@ -62,10 +58,10 @@ module _ (s : List ℕ) (at : ℕ) {r : Reading} (read : r ≡ More) (said : tol
 
 -- ---- an integer was read
 
-module _ (s : List ℕ) (at : ℕ) {r : Reading} {n used : ℕ} (read : r ≡ Whole n used) (said : told r ≡ read_of (drop at s)) where
+module _ (s : List ℕ) (at : ℕ) {n used : ℕ} (said : read n used ≡ read_of (drop at s)) where
   -- it ends where its bytes do,
   pub read_whole : number_at s at ≡ whole n (at + used)
-  read_whole = number_read s at (sym said ∙ ap told read)
+  read_whole = number_read s at (sym said)
 
   -- also as a field,
   pub number-field : whole (Number n) (at + used) ≡ field_at integer s at
@@ -147,34 +143,30 @@ numbered-fault number most s at {fault} = go (text_at most s at)
 
 -- a field of bytes is such a text, of any length
 
-module _ (s : List ℕ) (at : ℕ) {r : EntryRead} (said : told_entry r ≡ entry_at Namespace greatest s at) where
+module _ (s : List ℕ) (at : ℕ) where
   -- it is there,
-  pub bytes_whole : {e : Entry} → r ≡ WholeEntry e → whole (Bytes e.bytes) e.bytes.end ≡ field_at bytes s at
+  pub bytes_whole : {e : Entry} → whole e e.bytes.end ≡ entry_at Namespace greatest s at → whole (Bytes e.bytes) e.bytes.end ≡ field_at bytes s at
   unfolding field_at entry_at
-  bytes_whole f = rw (numbered-text 0 greatest s at (sym said ∙ ap told_entry f))
+  bytes_whole said = rw (numbered-text 0 greatest s at (sym said))
 
   -- or it is cut
-  pub bytes-no : {fault : Fault} → r ≡ NoEntry fault → no Cut ≡ field_at bytes s at
+  pub bytes-no : {fault : Fault} → no fault ≡ entry_at Namespace greatest s at → no Cut ≡ field_at bytes s at
   unfolding field_at entry_at
-  bytes-no f =
-      let h = numbered-fault 0 greatest s at (sym said ∙ ap told_entry f) in
+  bytes-no said =
+      let h = numbered-fault 0 greatest s at (sym said) in
       rw (h, text-refused s at h)
 
 -- ---- an entry was found
 
-module _ (kind : Kind) (most : ℕ) (s : List ℕ) (at : ℕ) {r : EntryRead} {e : Entry} (read : r ≡ WholeEntry e) (said : told_entry r ≡ entry_at kind most s at) where
-  -- it ends where its bytes do,
-  pub entry_whole : entry_at kind most s at ≡ whole e e.bytes.end
-  entry_whole = sym said ∙ ap told_entry read
-
-  -- which is not before they start;
+module _ (kind : Kind) (most : ℕ) (s : List ℕ) (at : ℕ) {e : Entry} (said : whole e e.bytes.end ≡ entry_at kind most s at) where
+  -- its bytes end no earlier than they start,
   pub entry-ordered : e.bytes.start ≤ e.bytes.end
-  entry-ordered = (entry-at kind most s at entry_whole).ordered
+  entry-ordered = (entry-at kind most s at (sym said)).ordered
 
   -- its number can be written,
   pub entry-small : e.number ≤ greatest
-  entry-small = (entry-at kind most s at entry_whole).small
+  entry-small = (entry-at kind most s at (sym said)).small
 
   -- and so can its length
   pub entry-little : size e.bytes ≤ greatest
-  entry-little = (entry-at kind most s at entry_whole).little
+  entry-little = (entry-at kind most s at (sym said)).little

@@ -1,86 +1,67 @@
 -- One possible answer: what an answer says in the terms of the definitions loses nothing of it. Assumes nothing.
-use mathlib.Core.Path.{◌≡◌, refl, sym}
-use Rattle.field.specs.Told.{told_number, told_byte, told_place, told_failure, told_bytes, told_list, told_track, told_entry, told_walk}
+use mathlib.Core.Path.{◌≡◌, refl, sym, ap}
+use Rattle.std.specs.Prelude.{ℕ, Result, Ok, Err}
+use Rattle.common.proofs.Cases.{both}
+use Rattle.integer.specs.declared.Cut.{Cut as Ended}
+use Rattle.field.specs.Outcome.{Outcome, no}
+use Rattle.field.specs.Told.{told_cut, told_fault, told_number, told_byte, told_place, told_failure, told_bytes, told_list, told_track, told_entry, told_walk}
+use Rattle.field.specs.declared.Entries.{Entries}
+use Rattle.field.specs.declared.Entry.{Entry}
+use Rattle.field.specs.declared.Failure.{Failure}
+use Rattle.field.specs.declared.Fault.{Fault}
 use Rattle.field.specs.declared.Kind.{Kind}
-use Rattle.field.specs.declared.NumberRead.{NumberRead}
-use Rattle.field.specs.declared.NumberRead.TheVariants.{Whole as WholeNumber, Cut as CutNumber}
-use Rattle.field.specs.declared.PlaceRead.{PlaceRead}
-use Rattle.field.specs.declared.PlaceRead.TheVariants.{Whole as WholePlace, Cut as CutPlace}
-use Rattle.field.specs.declared.FailureRead.{FailureRead}
-use Rattle.field.specs.declared.FailureRead.TheVariants.{Whole as WholeFailure, Cut as CutFailure}
-use Rattle.field.specs.declared.ByteRead.{ByteRead}
-use Rattle.field.specs.declared.ByteRead.TheVariants.{Whole as WholeByte, Cut as CutByte}
-use Rattle.field.specs.declared.BytesRead.{BytesRead}
-use Rattle.field.specs.declared.BytesRead.TheVariants.{Whole as WholeBytes, Cut as CutBytes}
-use Rattle.field.specs.declared.ListRead.{ListRead}
-use Rattle.field.specs.declared.ListRead.TheVariants.{Whole as WholeList, No as NoList}
-use Rattle.field.specs.declared.TrackRead.{TrackRead}
-use Rattle.field.specs.declared.TrackRead.TheVariants.{Whole as WholeTrack, No as NoTrack}
-use Rattle.field.specs.declared.EntryRead.{EntryRead}
-use Rattle.field.specs.declared.EntryRead.TheVariants.{Whole as WholeEntry, No as NoEntry}
-use Rattle.field.specs.declared.Walked.{Walked}
-use Rattle.field.specs.declared.Walked.TheVariants.{Whole as WholeWalk, No as NoWalk}
+use Rattle.field.specs.declared.Place.{Place}
+use Rattle.field.specs.declared.Span.{Span}
+use Rattle.field.specs.declared.Sums.{Sums}
+use Rattle.field.specs.declared.Track.{Track}
 use Rattle.field.proofs.Unjudged.{apart}
 
--- of `read_number`,
-pub number-once : (a b : NumberRead) → told_number a ≡ told_number b → a ≡ b
-number-once (WholeNumber n e) (WholeNumber m f) h = cc
-number-once (WholeNumber n e) CutNumber h = absurd (apart h)
-number-once CutNumber (WholeNumber m f) h = absurd (apart (sym h))
-number-once CutNumber CutNumber h = refl
+-- ---- once for all of them: what is told of something read is no fault, and loses nothing of it
+
+pub cut-once : {A B : Type 0} (told : A → Outcome B) → ((a : A) (fault : Fault) → told a ≡ no fault → ⊥) → ((a b : A) → told a ≡ told b → a ≡ b) → (r q : Result A Ended) → told_cut told r ≡ told_cut told q → r ≡ q
+cut-once told whole once (Ok a) (Ok b) e = ap Ok (once a b e)
+cut-once told whole once (Ok a) (Err ended) e = absurd (whole a _ e)
+cut-once told whole once (Err ended) (Ok b) e = absurd (whole b _ (sym e))
+cut-once told whole once (Err ended) (Err other) e = refl
+
+pub fault-once : {A B : Type 0} (told : A → Outcome B) → ((a : A) (fault : Fault) → told a ≡ no fault → ⊥) → ((a b : A) → told a ≡ told b → a ≡ b) → (r q : Result A Fault) → told_fault told r ≡ told_fault told q → r ≡ q
+fault-once told whole once (Ok a) (Ok b) e = ap Ok (once a b e)
+fault-once told whole once (Ok a) (Err fault) e = absurd (whole a _ e)
+fault-once told whole once (Err fault) (Ok b) e = absurd (whole b _ (sym e))
+fault-once told whole once (Err fault) (Err other) e = cc
+
+-- ---- of `read_number`,
+pub number-once : (a b : Result (ℕ × ℕ) Ended) → told_number a ≡ told_number b → a ≡ b
+number-once = cut-once _ (λ a fault e. apart e) λ a b e. both (cc) (cc)
 
 -- of `read_byte`,
-pub byte-once : (a b : ByteRead) → told_byte a ≡ told_byte b → a ≡ b
-byte-once (WholeByte x e) (WholeByte y f) h = cc
-byte-once (WholeByte x e) CutByte h = absurd (apart h)
-byte-once CutByte (WholeByte y f) h = absurd (apart (sym h))
-byte-once CutByte CutByte h = refl
+pub byte-once : (a b : Result (ℕ × ℕ) Ended) → told_byte a ≡ told_byte b → a ≡ b
+byte-once = cut-once _ (λ a fault e. apart e) λ a b e. both (cc) (cc)
 
 -- of `read_place`,
-pub place-once : (a b : PlaceRead) → told_place a ≡ told_place b → a ≡ b
-place-once (WholePlace p e) (WholePlace q f) h = cc
-place-once (WholePlace p e) CutPlace h = absurd (apart h)
-place-once CutPlace (WholePlace q f) h = absurd (apart (sym h))
-place-once CutPlace CutPlace h = refl
+pub place-once : (a b : Result (Place × ℕ) Ended) → told_place a ≡ told_place b → a ≡ b
+place-once = cut-once _ (λ a fault e. apart e) λ a b e. both (cc) (cc)
 
 -- of `read_failure`,
-pub failure-once : (a b : FailureRead) → told_failure a ≡ told_failure b → a ≡ b
-failure-once (WholeFailure p) (WholeFailure q) h = cc
-failure-once (WholeFailure p) CutFailure h = absurd (apart h)
-failure-once CutFailure (WholeFailure q) h = absurd (apart (sym h))
-failure-once CutFailure CutFailure h = refl
+pub failure-once : (a b : Result Failure Ended) → told_failure a ≡ told_failure b → a ≡ b
+failure-once = cut-once _ (λ a fault e. apart e) λ a b e. cc
 
 -- of `read_bytes`,
-pub bytes-once : (a b : BytesRead) → told_bytes a ≡ told_bytes b → a ≡ b
-bytes-once (WholeBytes p) (WholeBytes q) e = cc
-bytes-once (WholeBytes p) CutBytes e = absurd (apart e)
-bytes-once CutBytes (WholeBytes q) e = absurd (apart (sym e))
-bytes-once CutBytes CutBytes e = refl
+pub bytes-once : (a b : Result Span Ended) → told_bytes a ≡ told_bytes b → a ≡ b
+bytes-once = cut-once _ (λ a fault e. apart e) λ a b e. cc
 
 -- of `read_list`,
-pub list-once : (kind : Kind) (a b : ListRead) → told_list kind a ≡ told_list kind b → a ≡ b
-list-once kind (WholeList l) (WholeList m) e = cc
-list-once kind (WholeList l) (NoList f) e = absurd (apart e)
-list-once kind (NoList f) (WholeList l) e = absurd (apart (sym e))
-list-once kind (NoList f) (NoList g) e = cc
+pub list-once : (kind : Kind) (a b : Result Entries Fault) → told_list kind a ≡ told_list kind b → a ≡ b
+list-once kind = fault-once _ (λ a fault e. apart e) λ a b e. cc
 
 -- of `read_track`,
-pub track-once : (a b : TrackRead) → told_track a ≡ told_track b → a ≡ b
-track-once (WholeTrack t) (WholeTrack u) e = cc
-track-once (WholeTrack t) (NoTrack f) e = absurd (apart e)
-track-once (NoTrack f) (WholeTrack t) e = absurd (apart (sym e))
-track-once (NoTrack f) (NoTrack g) e = cc
+pub track-once : (a b : Result Track Fault) → told_track a ≡ told_track b → a ≡ b
+track-once = fault-once _ (λ a fault e. apart e) λ a b e. cc
 
 -- of `entry_at`,
-pub entry-once : (a b : EntryRead) → told_entry a ≡ told_entry b → a ≡ b
-entry-once (WholeEntry x) (WholeEntry y) e = cc
-entry-once (WholeEntry x) (NoEntry f) e = absurd (apart e)
-entry-once (NoEntry f) (WholeEntry x) e = absurd (apart (sym e))
-entry-once (NoEntry f) (NoEntry g) e = cc
+pub entry-once : (a b : Result Entry Fault) → told_entry a ≡ told_entry b → a ≡ b
+entry-once = fault-once _ (λ a fault e. apart e) λ a b e. cc
 
--- and of `walk`
-pub walk-once : (a b : Walked) → told_walk a ≡ told_walk b → a ≡ b
-walk-once (WholeWalk x) (WholeWalk y) e = cc
-walk-once (WholeWalk x) (NoWalk f) e = absurd (apart e)
-walk-once (NoWalk f) (WholeWalk x) e = absurd (apart (sym e))
-walk-once (NoWalk f) (NoWalk g) e = cc
+-- of `walk`
+pub walk-once : (a b : Result Sums Fault) → told_walk a ≡ told_walk b → a ≡ b
+walk-once = fault-once _ (λ a fault e. apart e) λ a b e. cc

@@ -1,29 +1,25 @@
 -- What a caller has from the answers of `read_number` and `read_bytes`, one after the other. Assumes nothing.
 use Prim.Native.Nat.{ℕ}
-use mathlib.Core.Path.{◌≡◌, sym, ap, ◌∙◌}
+use mathlib.Core.Path.{◌≡◌, sym}
 use mathlib.Core.List.{List}
 use Rattle.integer.specs.Integer.{greatest}
 use Rattle.field.specs.Outcome.{Outcome, whole, no, and_then}
 use Rattle.field.specs.Entries.{number_at, text_at}
 use Rattle.field.specs.Fields.{field_at, integer, bytes, place_at, failure_at}
-use Rattle.field.specs.Told.{told_number, told_bytes}
 use Rattle.field.specs.declared.Fault.TheVariants.{Cut}
+use Rattle.field.specs.declared.Piece.TheVariants.{Number, Bytes}
 use Rattle.field.specs.declared.Span.{Span}
 use Rattle.field.specs.declared.Place.{Place}
 use Rattle.field.specs.declared.Failure.{Failure}
-use Rattle.field.specs.declared.NumberRead.{NumberRead}
-use Rattle.field.specs.declared.NumberRead.TheVariants.{Whole as WholeNumber, Cut as CutNumber}
-use Rattle.field.specs.declared.BytesRead.{BytesRead}
-use Rattle.field.specs.declared.BytesRead.TheVariants.{Whole as WholeBytes, Cut as CutBytes}
 use Rattle.field.proofs.Found.{steps, StopsIn, at_first, at_next, stops-in}
 use Rattle.field.proofs.Pieces.{as-told}
 use Rattle.field.proofs.Unjudged.{apart, found_number, cut-number, found-text, cut-text}
 
 -- ---- the first is cut
 
-module _ (s : List ℕ) (at : ℕ) {r : NumberRead} (read : r ≡ CutNumber) (said : told_number r ≡ field_at integer s at) where
+module _ (s : List ℕ) (at : ℕ) (said : no Cut ≡ field_at integer s at) where
   pub number-missing : number_at s at ≡ no Cut
-  number-missing = cut-number s at (sym said ∙ ap told_number read)
+  number-missing = cut-number s at (sym said)
 
   pub place-cut : no Cut ≡ place_at s at
   unfolding place_at
@@ -35,29 +31,27 @@ module _ (s : List ℕ) (at : ℕ) {r : NumberRead} (read : r ≡ CutNumber) (sa
 
 -- ---- the first is there
 
-module _ (s : List ℕ) (at : ℕ) {r : NumberRead} {n next : ℕ} (read : r ≡ WholeNumber n next) (said : told_number r ≡ field_at integer s at) where
+module _ (s : List ℕ) (at : ℕ) {n next : ℕ} (said : whole (Number n) next ≡ field_at integer s at) where
   pub number-there : number_at s at ≡ whole n next
-  number-there = found_number s at (sym said ∙ ap told_number read)
+  number-there = found_number s at (sym said)
 
   -- a place,
-  module _ {q : NumberRead} (then : told_number q ≡ field_at integer s next) where
-    pub place-half : q ≡ CutNumber → no Cut ≡ place_at s at
-    unfolding place_at
-    place-half h = rw (number-there, number-missing s next h then)
+  pub place-half : no Cut ≡ field_at integer s next → no Cut ≡ place_at s at
+  unfolding place_at
+  place-half then = rw (number-there, number-missing s next then)
 
-    pub place-whole : {m end : ℕ} → q ≡ WholeNumber m end → whole (record { group = n; object = m }) end ≡ place_at s at
-    unfolding place_at
-    place-whole h = rw (number-there, found_number s next (sym then ∙ ap told_number h))
+  pub place-whole : {m end : ℕ} → whole (Number m) end ≡ field_at integer s next → whole (record { group = n; object = m }) end ≡ place_at s at
+  unfolding place_at
+  place-whole then = rw (number-there, found_number s next (sym then))
 
   -- a failure
-  module _ {q : BytesRead} (then : told_bytes q ≡ field_at bytes s next) where
-    pub failure-half : q ≡ CutBytes → no Cut ≡ failure_at s at
-    unfolding failure_at
-    failure-half h = rw (number-there, cut-text s next (sym then ∙ ap told_bytes h))
+  pub failure-half : no Cut ≡ field_at bytes s next → no Cut ≡ failure_at s at
+  unfolding failure_at
+  failure-half then = rw (number-there, cut-text s next (sym then))
 
-    pub failure-whole : {p : Span} → q ≡ WholeBytes p → whole (record { code = n; reason = p }) p.end ≡ failure_at s at
-    unfolding failure_at
-    failure-whole h = rw (number-there, found-text s next (sym then ∙ ap told_bytes h))
+  pub failure-whole : {p : Span} → whole (Bytes p) p.end ≡ field_at bytes s next → whole (record { code = n; reason = p }) p.end ≡ failure_at s at
+  unfolding failure_at
+  failure-whole then = rw (number-there, found-text s next (sym then))
 
 -- ---- the two of a pair, from the pair
 

@@ -1,7 +1,7 @@
 -- Runs of entries, from some entry on: what is held and what the shortest form takes are counted on from what came before.
 -- Assumes nothing.
 use Prim.Native.Nat.{ℕ, zero, suc, ◌+◌, ◌-◌, ◌≤◌, ◌<◌}
-use mathlib.Core.Path.{◌≡◌, sym, ap, ◌∙◌}
+use mathlib.Core.Path.{◌≡◌, sym, ◌∙◌}
 use mathlib.Core.List.{List}
 use mathlib.Core.Bool.{Bool}
 use native.Mathlib.Nat.{add-zero, zero-add, add_assoc, not-suc-le-zero}
@@ -13,17 +13,14 @@ use mir.Val.{Fits}
 use Rattle.field.specs.Outcome.{Outcome, whole, no, and_then}
 use Rattle.field.specs.Entries.{size, entry_at, entries_at, most_of}
 use Rattle.field.specs.Value.{entry_values, enc_items, item_size, walk_of}
-use Rattle.field.specs.Told.{told_entry}
 use Rattle.field.specs.declared.Fault.{Fault}
 use Rattle.field.specs.declared.Entry.{Entry}
 use Rattle.field.specs.declared.Kind.{Kind}
 use Rattle.field.specs.declared.Sums.{Sums}
-use Rattle.field.specs.declared.EntryRead.{EntryRead}
-use Rattle.field.specs.declared.EntryRead.TheVariants.{Whole as WholeEntry, No as NoEntry}
 use Rattle.field.proofs.Found.{entry-at}
 use Rattle.field.proofs.Unjudged.{entry-any}
 use Rattle.field.proofs.Lengths.{length-entry}
-use Rattle.field.proofs.Answers.{Lent, entry_whole}
+use Rattle.field.proofs.Answers.{Lent}
 
 -- ---- what is left of a run
 
@@ -77,29 +74,29 @@ module _ {sized : Bool} {kind : Kind} {count : ℕ} {s : List ℕ} {start left h
       let z : left ≡ 0 = omega arith in
       walk_none sized kind held taken s here ∙ rw (← z) w.same
 
-  module _ {r : EntryRead} {most : ℕ} (more : 0 < left) (said : told_entry r ≡ entry_at kind most s here) (judged : most ≡ most_of sized kind held) where
+  module _ {most : ℕ} (more : 0 < left) (judged : most ≡ most_of sized kind held) where
     -- or the next one is refused,
-    pub walking-stop : {fault : Fault} → r ≡ NoEntry fault → no fault ≡ walk_of sized kind count s start
-    walking-stop f = walk-stop sized kind left held taken s here more (rw judged at (sym said ∙ ap told_entry f)) ∙ w.same
+    pub walking-stop : {fault : Fault} → no fault ≡ entry_at kind most s here → no fault ≡ walk_of sized kind count s start
+    walking-stop said = walk-stop sized kind left held taken s here more (rw judged at (sym said)) ∙ w.same
 
-    -- or it is counted,
-    pub walking-step : {e : Entry} {k : ℕ} → r ≡ WholeEntry e → k ≡ item_size kind e.number (size e.bytes) → Walking sized kind count s start (left - 1) e.bytes.end (held + size e.bytes) (taken + k)
-    walking-step f z =
-        let g = entry_whole kind most s here f said in
-        let i = entry-at kind most s here g in
-        record {
-          same = rw z (walk_step sized kind left held taken s here more (rw judged at g)) ∙ w.same;
-          holds = omega (arith, w.holds, i.held);
-          takes = omega (arith, w.takes, i.fits);
-        }
+    module _ {e : Entry} (said : whole e e.bytes.end ≡ entry_at kind most s here) where
+      -- or it is counted,
+      pub walking-step : {k : ℕ} → k ≡ item_size kind e.number (size e.bytes) → Walking sized kind count s start (left - 1) e.bytes.end (held + size e.bytes) (taken + k)
+      walking-step z =
+          let i = entry-at kind most s here (sym said) in
+          record {
+            same = rw z (walk_step sized kind left held taken s here more (rw judged at (sym said))) ∙ w.same;
+            holds = omega (arith, w.holds, i.held);
+            takes = omega (arith, w.takes, i.fits);
+          }
 
-    -- and neither sum wraps
-    pub walking-held : {e : Entry} → r ≡ WholeEntry e → Lent s → Fits w64 (held + size e.bytes)
-    walking-held f h =
-        let i = entry-at kind most s here (entry_whole kind most s here f said) in
-        omega (arith, w.holds, i.held, i.within)
+      -- and neither sum wraps
+      pub walking-held : Lent s → Fits w64 (held + size e.bytes)
+      walking-held h =
+          let i = entry-at kind most s here (sym said) in
+          omega (arith, w.holds, i.held, i.within)
 
-    pub walking-size : {e : Entry} {k : ℕ} → r ≡ WholeEntry e → k ≡ item_size kind e.number (size e.bytes) → Lent s → Fits w64 (taken + k)
-    walking-size f z h =
-        let i = entry-at kind most s here (entry_whole kind most s here f said) in
-        omega (arith, w.takes, i.fits, i.within)
+      pub walking-size : {k : ℕ} → k ≡ item_size kind e.number (size e.bytes) → Lent s → Fits w64 (taken + k)
+      walking-size z h =
+          let i = entry-at kind most s here (sym said) in
+          omega (arith, w.takes, i.fits, i.within)

@@ -3,6 +3,7 @@
 #![tactic(auto)]
 
 ghost use Rattle.std.specs.Prelude.{◌≡◌};
+ghost use Rattle.field.specs.declared.Fault.TheVariants.{Cut as CutShort};
 ghost use Rattle.field.specs.declared.Piece.TheVariants.{Number};
 
 mod pairs;
@@ -10,6 +11,7 @@ mod reader;
 mod rules;
 mod walking;
 
+pub use integer::Cut;
 pub use pairs::{read_failure, read_place};
 pub use reader::{is_few, read_byte, read_bytes, read_list, read_number, read_track};
 pub use rules::{is_askable, is_givable};
@@ -101,55 +103,12 @@ pub enum Fault {
     Oversize,
 }
 
-// An integer, and where it ends.
-#[derive(Clone, Copy)]
-pub enum NumberRead {
-    Whole(u64, usize),
-    Cut,
-}
+impl From<Cut> for Fault {
+    ghost from_gives = { λ _ fault. fault ≡ CutShort };
 
-// A byte, and where it ends.
-#[derive(Clone, Copy)]
-pub enum ByteRead {
-    Whole(u8, usize),
-    Cut,
-}
-
-#[derive(Clone, Copy)]
-pub enum PlaceRead {
-    Whole(Place, usize),
-    Cut,
-}
-
-#[derive(Clone, Copy)]
-pub enum FailureRead {
-    Whole(Failure),
-    Cut,
-}
-
-#[derive(Clone, Copy)]
-pub enum BytesRead {
-    Whole(Span),
-    Cut,
-}
-
-// A list, and how many bytes its entries hold.
-#[derive(Clone, Copy)]
-enum Counted {
-    Whole(Entries, usize),
-    No(Fault),
-}
-
-#[derive(Clone, Copy)]
-pub enum ListRead {
-    Whole(Entries),
-    No(Fault),
-}
-
-#[derive(Clone, Copy)]
-pub enum TrackRead {
-    Whole(Track),
-    No(Fault),
+    fn from(_cut: Cut) -> Fault {
+        Fault::Cut
+    }
 }
 
 // One entry: its number, 0 where it has none, and its bytes, none where it has none.
@@ -159,22 +118,10 @@ pub struct Entry {
     pub bytes: Span,
 }
 
-#[derive(Clone, Copy)]
-pub enum EntryRead {
-    Whole(Entry),
-    No(Fault),
-}
-
 // What entries come to: where they end, how many bytes they hold, and how many their shortest form takes.
 #[derive(Clone, Copy)]
 pub struct Sums {
     pub end: usize,
     pub held: usize,
     pub size: usize,
-}
-
-#[derive(Clone, Copy)]
-pub enum Walked {
-    Whole(Sums),
-    No(Fault),
 }

@@ -4,30 +4,22 @@ ghost use Rattle.field.specs.Fields.{place_at, failure_at};
 ghost use Rattle.field.specs.Told.{told_place, told_failure};
 
 use crate::reader::{read_bytes, read_number};
-use crate::{BytesRead, Failure, FailureRead, NumberRead, Place, PlaceRead};
+use crate::{Cut, Failure, Place};
 
 // A group and an object.
-pub fn read_place(s: &[u8], at: usize) -> PlaceRead
+pub fn read_place(s: &[u8], at: usize) -> Result<(Place, usize), Cut>
     ensures { told_place result ≡ place_at s.now at }
 {
-    let NumberRead::Whole(group, next) = read_number(s, at) else {
-        return PlaceRead::Cut;
-    };
-    let NumberRead::Whole(object, end) = read_number(s, next) else {
-        return PlaceRead::Cut;
-    };
-    PlaceRead::Whole(Place { group, object }, end)
+    let (group, next) = read_number(s, at)?;
+    let (object, end) = read_number(s, next)?;
+    Ok((Place { group, object }, end))
 }
 
 // A code and a reason.
-pub fn read_failure(s: &[u8], at: usize) -> FailureRead
+pub fn read_failure(s: &[u8], at: usize) -> Result<Failure, Cut>
     ensures { told_failure result ≡ failure_at s.now at }
 {
-    let NumberRead::Whole(code, next) = read_number(s, at) else {
-        return FailureRead::Cut;
-    };
-    let BytesRead::Whole(reason) = read_bytes(s, next) else {
-        return FailureRead::Cut;
-    };
-    FailureRead::Whole(Failure { code, reason })
+    let (code, next) = read_number(s, at)?;
+    let reason = read_bytes(s, next)?;
+    Ok(Failure { code, reason })
 }

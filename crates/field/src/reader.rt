@@ -5,39 +5,32 @@ ghost use Rattle.field.specs.Fields.{field_at, integer, byte, bytes, list, track
 ghost use Rattle.field.specs.Told.{told_number, told_byte, told_bytes, told_counted, told_list, told_track};
 
 use crate::walking::{entry_at, most, walk};
-use crate::{
-    ByteRead, BytesRead, Counted, Entries, EntryRead, Fault, Kind, ListRead, MOST_FIELDS,
-    MOST_PARAMETERS, NumberRead, Track, TrackRead, Walked,
-};
-use integer::Reading;
+use crate::{Cut, Entries, Fault, Kind, MOST_FIELDS, MOST_PARAMETERS, Span, Track};
 
-pub fn read_number(s: &[u8], at: usize) -> NumberRead
+pub fn read_number(s: &[u8], at: usize) -> Result<(u64, usize), Cut>
     ensures { told_number result ≡ field_at integer s.now at }
 {
-    let Reading::Whole(n, used) = integer::read_at(s, at) else {
-        return NumberRead::Cut;
-    };
-    NumberRead::Whole(n, at + used)
+    let (n, used) = integer::read_at(s, at)?;
+    Ok((n, at + used))
 }
 
-pub fn read_byte(s: &[u8], at: usize) -> ByteRead
+pub fn read_byte(s: &[u8], at: usize) -> Result<(u8, usize), Cut>
     ensures { told_byte result ≡ field_at byte s.now at }
 {
     if at < s.len() {
-        return ByteRead::Whole(s[at], at + 1);
+        return Ok((s[at], at + 1));
     }
-    ByteRead::Cut
+    Err(Cut)
 }
 
 // A length and as many bytes: a reason, a URI, extension headers.
-pub fn read_bytes(s: &[u8], at: usize) -> BytesRead
+pub fn read_bytes(s: &[u8], at: usize) -> Result<Span, Cut>
     ensures { told_bytes result ≡ field_at bytes s.now at }
 {
-    let EntryRead::Whole(e) = entry_at(s, Kind::Namespace, integer::GREATEST, at) else {
-        return BytesRead::Cut;
-    };
-    let bytes = e.bytes;
-    BytesRead::Whole(bytes)
+    match entry_at(s, Kind::Namespace, integer::GREATEST, at) {
+        Ok(e) => Ok(e.bytes),
+        Err(_) => Err(Cut),
+    }
 }
 
 // Whether 01's sizes let a list have that many entries.
@@ -56,51 +49,34 @@ pub fn is_few(kind: Kind, count: u64) -> bool
     }
 }
 
-// A count and as many entries. The count is judged before an entry is looked for.
-fn counted(s: &[u8], kind: Kind, at: usize) -> Counted
+// A count and as many entries, and how many bytes they hold. The count is judged before an entry is looked for.
+fn counted(s: &[u8], kind: Kind, at: usize) -> Result<(Entries, usize), Fault>
     ensures { told_counted result ≡ list_at kind s.now at }
 {
-    let Reading::Whole(count, used) = integer::read_at(s, at) else {
-        return Counted::No(Fault::Cut);
-    };
+    let (count, used) = integer::read_at(s, at)?;
     if !is_few(kind, count) {
-        return Counted::No(Fault::Oversize);
+        return Err(Fault::Oversize);
     }
     let start = at + used;
-    match walk(s, true, kind, count, start) {
-        Walked::No(fault) => Counted::No(fault),
-        Walked::Whole(w) => {
-            let end = w.end;
-            Counted::Whole(Entries { start, end, count }, w.held)
-        }
-    }
+    let w = walk(s, true, kind, count, start)?;
+    let end = w.end;
+    Ok((Entries { start, end, count }, w.held))
 }
 
 // Parameters, versions, or a namespace that no name follows.
-pub fn read_list(s: &[u8], kind: Kind, at: usize) -> ListRead
+pub fn read_list(s: &[u8], kind: Kind, at: usize) -> Result<Entries, Fault>
     ensures { told_list kind result ≡ field_at (list kind) s.now at }
 {
-    match counted(s, kind, at) {
-        Counted::No(fault) => ListRead::No(fault),
-        Counted::Whole(entries, _) => ListRead::Whole(entries),
-    }
+    let (entries, _) = counted(s, kind, at)?;
+    Ok(entries)
 }
 
 // A namespace and the name after it, which share 4,096 bytes.
-pub fn read_track(s: &[u8], at: usize) -> TrackRead
+pub fn read_track(s: &[u8], at: usize) -> Result<Track, Fault>
     ensures { told_track result ≡ field_at track s.now at }
 {
-    match counted(s, Kind::Namespace, at) {
-        Counted::No(fault) => TrackRead::No(fault),
-        Counted::Whole(namespace, held) => {
-            let next = namespace.end;
-            match entry_at(s, Kind::Namespace, most(true, Kind::Namespace, held), next) {
-                EntryRead::No(fault) => TrackRead::No(fault),
-                EntryRead::Whole(e) => {
-                    let name = e.bytes;
-                    TrackRead::Whole(Track { namespace, name })
-                }
-            }
-        }
-    }
+    let (namespace, held) = counted(s, Kind::Namespace, at)?;
+    let most = most(true, Kind::Namespace, held);
+    let name = entry_at(s, Kind::Namespace, most, namespace.end)?.bytes;
+    Ok(Track { namespace, name })
 }

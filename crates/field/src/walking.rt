@@ -5,55 +5,45 @@ ghost use Rattle.field.specs.Entries.{numbered_at, entry_at, has_number, has_byt
 ghost use Rattle.field.specs.Value.{walk_of, item_size};
 ghost use Rattle.field.specs.Told.{told_entry, told_walk};
 
-use crate::{Entry, EntryRead, Fault, Kind, LONGEST_TRACK, Span, Sums, Walked};
-use integer::Reading;
+use crate::{Entry, Fault, Kind, LONGEST_TRACK, Span, Sums};
 
 // A length and as many bytes, of an entry that has a number. The length is judged before the bytes are looked for: over
 // most it is a size, though they may be missing.
-fn numbered(s: &[u8], number: u64, most: u64, at: usize) -> EntryRead
+fn numbered(s: &[u8], number: u64, most: u64, at: usize) -> Result<Entry, Fault>
     ensures { told_entry result ≡ numbered_at number most s.now at }
 {
-    let Reading::Whole(n, used) = integer::read_at(s, at) else {
-        return EntryRead::No(Fault::Cut);
-    };
+    let (n, used) = integer::read_at(s, at)?;
     if n > most {
-        return EntryRead::No(Fault::Oversize);
+        return Err(Fault::Oversize);
     }
     let start = at + used;
     let left = s.len() - start;
     if n > left as u64 {
-        return EntryRead::No(Fault::Cut);
+        return Err(Fault::Cut);
     }
     let end = start + n as usize;
     let bytes = Span { start, end };
-    EntryRead::Whole(Entry { number, bytes })
+    Ok(Entry { number, bytes })
 }
 
 // The entry at an offset, which may hold most bytes.
-pub fn entry_at(s: &[u8], kind: Kind, most: u64, at: usize) -> EntryRead
+pub fn entry_at(s: &[u8], kind: Kind, most: u64, at: usize) -> Result<Entry, Fault>
     ensures { told_entry result ≡ entry_at kind most s.now at }
 {
-    let mut number: u64 = 0;
-    let mut next = at;
-    if has_number(kind) {
-        let Reading::Whole(n, used) = integer::read_at(s, at) else {
-            return EntryRead::No(Fault::Cut);
-        };
-        number = n;
-        next = at + used;
-    }
+    let (number, next) = if has_number(kind) {
+        let (n, used) = integer::read_at(s, at)?;
+        (n, at + used)
+    } else {
+        (0, at)
+    };
     if !has_bytes(kind) {
         let bytes = Span {
             start: next,
             end: next,
         };
-        return EntryRead::Whole(Entry { number, bytes });
+        return Ok(Entry { number, bytes });
     }
-    // Taken apart, so that what is answered is made here and not copied.
-    match numbered(s, number, most, next) {
-        EntryRead::Whole(e) => EntryRead::Whole(e),
-        EntryRead::No(fault) => EntryRead::No(fault),
-    }
+    numbered(s, number, most, next)
 }
 
 // Whether entries begin with a number, and whether they hold bytes.
@@ -109,31 +99,20 @@ fn entry_size(kind: Kind, number: u64, held: usize) -> usize
 }
 
 // count entries from start on. Where sizes are judged, they are judged as each length is read.
-pub fn walk(s: &[u8], sized: bool, kind: Kind, count: u64, start: usize) -> Walked
+pub fn walk(s: &[u8], sized: bool, kind: Kind, count: u64, start: usize) -> Result<Sums, Fault>
     ensures { told_walk result ≡ walk_of sized kind count s.now start }
 {
-    let mut left = count;
-    let mut here = start;
-    let mut held: usize = 0;
-    let mut size: usize = 0;
-    while left > 0 {
-        match entry_at(s, kind, most(sized, kind, held), here) {
-            EntryRead::No(fault) => {
-                return Walked::No(fault);
-            }
-            EntryRead::Whole(e) => {
-                let bytes = e.bytes;
-                let n = bytes.end - bytes.start;
-                size = size + entry_size(kind, e.number, n);
-                held = held + n;
-                here = bytes.end;
-            }
-        }
-        left = left - 1;
+    let mut w = Sums {
+        end: start,
+        held: 0,
+        size: 0,
+    };
+    for _ in 0..count {
+        let e = entry_at(s, kind, most(sized, kind, w.held), w.end)?;
+        let n = e.bytes.end - e.bytes.start;
+        w.size += entry_size(kind, e.number, n);
+        w.held += n;
+        w.end = e.bytes.end;
     }
-    Walked::Whole(Sums {
-        end: here,
-        held,
-        size,
-    })
+    Ok(w)
 }

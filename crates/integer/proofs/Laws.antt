@@ -1,6 +1,7 @@
 -- The laws of RFC 9000's integers: those of any edition, at its table. Assumes nothing.
 use Prim.Native.Nat.{ℕ, ◌≤◌, ◌<◌}
 use mathlib.Core.Path.{◌≡◌, refl, sym}
+use Rattle.std.specs.Prelude.{Result, Ok, Err}
 use mathlib.Core.List.{List, ◌++◌}
 use native.Mathlib.Omega.{arith}
 use lib.ListN.{length, take}
@@ -8,10 +9,9 @@ use Rattle.common.specs.Answer.{whole}
 use Rattle.common.proofs.Cases.{apart}
 use Rattle.integer.specs.Edition.{Form, room_of, led_by}
 use Rattle.integer.specs.Integer.{rfc9000, size_of, greatest, bytes_of, read_of, told, told_writing, enc_of}
-use Rattle.integer.specs.declared.Reading.{Reading}
-use Rattle.integer.specs.declared.Reading.TheVariants.{Whole, More}
-use Rattle.integer.specs.declared.Writing.{Writing}
-use Rattle.integer.specs.declared.Writing.TheVariants.{Done, TooGreat, TooShort}
+use Rattle.integer.specs.declared.Cut.{Cut}
+use Rattle.integer.specs.declared.Unwritten.{Unwritten}
+use Rattle.integer.specs.declared.Unwritten.TheVariants.{TooGreat, TooShort}
 use Rattle.integer.proofs.Editions
 use Rattle.integer.proofs.Tables.{In}
 use Rattle.integer.proofs.Widths.{table, size_few}
@@ -87,19 +87,19 @@ enc-apart a b s t h k e = Editions.enc-apart rfc9000 table a b s t h k e
 
 -- ---- one possible answer: 01's number and values lose nothing
 
-pub told-once : (a b : Reading) → told a ≡ told b → a ≡ b
-told-once (Whole n u) (Whole m v) e = cc
-told-once (Whole n u) More e = absurd (apart (sym e))
-told-once More (Whole m v) e = absurd (apart e)
-told-once More More e = refl
+pub told-once : (a b : Result (ℕ × ℕ) Cut) → told a ≡ told b → a ≡ b
+told-once (Ok (n, u)) (Ok (m, v)) e = cc
+told-once (Ok (n, u)) (Err cut) e = absurd (apart (sym e))
+told-once (Err cut) (Ok (m, v)) e = absurd (apart e)
+told-once (Err cut) (Err other) e = refl
 
-pub told-writing-once : (a b : Writing) → told_writing a ≡ told_writing b → a ≡ b
-told-writing-once (Done k) (Done l) e = cc
-told-writing-once (Done k) TooGreat e = absurd (apart (sym e))
-told-writing-once (Done k) TooShort e = absurd (apart (sym e))
-told-writing-once TooGreat (Done l) e = absurd (apart e)
-told-writing-once TooGreat TooGreat e = refl
-told-writing-once TooGreat TooShort e = absurd (let z : ◌≡◌ {A = ℕ} 5 7 = cc in omega arith)
-told-writing-once TooShort (Done l) e = absurd (apart e)
-told-writing-once TooShort TooGreat e = absurd (let z : ◌≡◌ {A = ℕ} 5 7 = cc in omega arith)
-told-writing-once TooShort TooShort e = refl
+pub told-writing-once : (a b : Result ℕ Unwritten) → told_writing a ≡ told_writing b → a ≡ b
+told-writing-once (Ok k) (Ok l) e = cc
+told-writing-once (Ok k) (Err TooGreat) e = absurd (apart (sym e))
+told-writing-once (Ok k) (Err TooShort) e = absurd (apart (sym e))
+told-writing-once (Err TooGreat) (Ok l) e = absurd (apart e)
+told-writing-once (Err TooGreat) (Err TooGreat) e = refl
+told-writing-once (Err TooGreat) (Err TooShort) e = absurd (let z : ◌≡◌ {A = ℕ} 5 7 = cc in omega arith)
+told-writing-once (Err TooShort) (Ok l) e = absurd (apart e)
+told-writing-once (Err TooShort) (Err TooGreat) e = absurd (let z : ◌≡◌ {A = ℕ} 5 7 = cc in omega arith)
+told-writing-once (Err TooShort) (Err TooShort) e = refl

@@ -1,11 +1,10 @@
 -- The integers of RFC 9000, section 16: its table, and what follows from it.
-use Rattle.std.specs.Prelude.{ℕ, List, [], ◌∷◌}
+use Rattle.std.specs.Prelude.{ℕ, List, [], ◌∷◌, Result, Ok, Err}
 use Rattle.common.specs.Answer.{Answer, whole, refused, Nothing, wrote, Written}
 use Rattle.integer.specs.Edition.{Edition, row, room_of, longest_form, begun_by, of_bytes, fewest_for, read_by, enc_by, write_by}
-use Rattle.integer.specs.declared.Reading.{Reading}
-use Rattle.integer.specs.declared.Reading.TheVariants.{Whole, More}
-use Rattle.integer.specs.declared.Writing.{Writing}
-use Rattle.integer.specs.declared.Writing.TheVariants.{Done, TooGreat, TooShort}
+use Rattle.integer.specs.declared.Cut.{Cut}
+use Rattle.integer.specs.declared.Unwritten.{Unwritten}
+use Rattle.integer.specs.declared.Unwritten.TheVariants.{TooGreat, TooShort}
 unfoldable pub use Rattle.integer.specs.Bytes.{spell, bytes_of}
 unfoldable pub use Rattle.integer.specs.Edition.{put_form}
 
@@ -55,9 +54,9 @@ on_read (whole n used) none f = f n used
 on_read (refused number) none f = none
 
 -- 01's number and values of what `read` answers
-abbrev pub told : Reading → Answer ℕ
-told (Whole n used) = whole n used
-told More = refused 1
+abbrev pub told : Result (ℕ × ℕ) Cut → Answer ℕ
+told (Ok (n, used)) = whole n used
+told (Err cut) = refused 1
 
 -- ---- writing
 
@@ -72,7 +71,7 @@ unfolding write_by size_of
 write_of n before = write_by rfc9000 n before
 
 -- 01's number and values of what `write` answers
-abbrev pub told_writing : Writing → Answer Nothing
-told_writing (Done used) = wrote used
-told_writing TooGreat = refused 5
-told_writing TooShort = refused 7
+abbrev pub told_writing : Result ℕ Unwritten → Answer Nothing
+told_writing (Ok used) = wrote used
+told_writing (Err TooGreat) = refused 5
+told_writing (Err TooShort) = refused 7

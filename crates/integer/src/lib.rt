@@ -10,17 +10,13 @@ pub use writer::{size, write};
 // The greatest number that can be written.
 pub const GREATEST: u64 = 4_611_686_018_427_387_903;
 
-// What reading finds at the front of bytes: a number and the bytes it took, or that more bytes are needed.
+// Why nothing was read: the bytes end too soon, and more are needed.
 #[derive(Clone, Copy)]
-pub enum Reading {
-    Whole(u64, usize),
-    More,
-}
+pub struct Cut;
 
-// What writing did: how many bytes it took, or nothing, since the number is too great or the output too short.
+// Why nothing was written: the number is too great, or the output too short.
 #[derive(Clone, Copy)]
-pub enum Writing {
-    Done(usize),
+pub enum Unwritten {
     TooGreat,
     TooShort,
 }

@@ -3,13 +3,13 @@
 ghost use Rattle.std.specs.Prelude.{◌≡◌, ◌-◌, ◌/◌, ◌^◌, ◌≤◌, ◌<◌, length, get_or, drop};
 ghost use Rattle.integer.specs.Integer.{wide, room as room_of, spell, read_of, told};
 
-use crate::Reading;
+use crate::Cut;
 
-pub fn read(s: &[u8]) -> Reading
+pub fn read(s: &[u8]) -> Result<(u64, usize), Cut>
     ensures { told result ≡ read_of s.now }
 {
     if s.len() == 0 {
-        return Reading::More;
+        return Err(Cut);
     }
     let first = s[0];
     // Constants in each arm: the compiler then makes straight code of the loop.
@@ -22,11 +22,11 @@ pub fn read(s: &[u8]) -> Reading
 }
 
 // What stands at an offset. Past the end nothing does, so more bytes are needed.
-pub fn read_at(s: &[u8], at: usize) -> Reading
+pub fn read_at(s: &[u8], at: usize) -> Result<(u64, usize), Cut>
     ensures { told result ≡ read_of (drop at s.now) }
 {
     if s.len() < at {
-        return Reading::More;
+        return Err(Cut);
     }
     read(&s[at..])
 }
@@ -34,18 +34,18 @@ pub fn read_at(s: &[u8], at: usize) -> Reading
 // The number that width bytes spell, less what the first two bits add to it: a form of that many bytes has room for the
 // numbers below room. Each half is spelled by itself, so that the compiler loads its bytes at once, and the first half
 // counts step times.
-fn gather(s: &[u8], width: usize, step: u64, room: u64) -> Reading
+fn gather(s: &[u8], width: usize, step: u64, room: u64) -> Result<(u64, usize), Cut>
     requires { (width ≡ wide (get_or s.now 0 0)) × (step ≡ 256 ^ (width - width / 2)) × (room ≡ room_of width) }
     ensures { told result ≡ read_of s.now }
 {
     if s.len() < width {
-        return Reading::More;
+        return Err(Cut);
     }
     let half = width / 2;
     let high = spelled(&s[..half]);
     let low = spelled(&s[half..width]);
     let number = high * step + low;
-    Reading::Whole(number % room, width)
+    Ok((number % room, width))
 }
 
 // The number that up to eight bytes spell, most significant first.
@@ -54,11 +54,8 @@ fn spelled(s: &[u8]) -> u64
     ensures { (result ≡ spell 0 s.now) × (result < 256 ^ length s.now) }
 {
     let mut number: u64 = 0;
-    let mut i = 0;
-    while i < s.len() {
-        let x = s[i] as u64;
-        number = number * 256 + x;
-        i += 1;
+    for x in s {
+        number = number * 256 + *x as u64;
     }
     number
 }

@@ -3,7 +3,7 @@ ghost use Rattle.std.specs.Prelude.{◌≡◌};
 ghost use Rattle.common.specs.Answer.{Leaves};
 ghost use Rattle.integer.specs.Integer.{size_of, write_of, put_form, told_writing};
 
-use crate::Writing;
+use crate::Unwritten;
 
 // How many bytes n takes: RFC 9000's table, row by row. The first row whose range has n is that of its shortest form;
 // where none has, n is too great to be written.
@@ -21,7 +21,7 @@ pub fn size(n: u64) -> usize
 }
 
 // n in as many bytes as its size; every byte after them stays.
-pub fn write(out: &mut [u8], n: u64) -> Writing
+pub fn write(out: &mut [u8], n: u64) -> Result<usize, Unwritten>
     ensures { Leaves (write_of n out.old) (told_writing result) out.new }
 {
     // The table's other columns, in the row that was chosen: its two bits, and how many are left for n after them. They
@@ -31,23 +31,21 @@ pub fn write(out: &mut [u8], n: u64) -> Writing
         2 => put(out, 2, (0b01 << 14) + n),
         4 => put(out, 4, (0b10 << 30) + n),
         8 => put(out, 8, (0b11 << 62) + n),
-        _ => Writing::TooGreat,
+        _ => Err(Unwritten::TooGreat),
     }
 }
 
 // The low width bytes of m, most significant first, at the front of out.
-fn put(out: &mut [u8], width: usize, m: u64) -> Writing
+fn put(out: &mut [u8], width: usize, m: u64) -> Result<usize, Unwritten>
     ensures { Leaves (put_form width m out.old) (told_writing result) out.new }
 {
     if out.len() < width {
-        return Writing::TooShort;
+        return Err(Unwritten::TooShort);
     }
     let mut left = m;
-    let mut i = width;
-    while 0 < i {
-        i -= 1;
+    for i in (0..width).rev() {
         out[i] = (left % 256) as u8;
-        left = left / 256;
+        left /= 256;
     }
-    Writing::Done(width)
+    Ok(width)
 }

@@ -2,8 +2,8 @@
 use Rattle.field.proofs.Answers.{bytes-no, bytes_whole}
 use Rattle.field.proofs.reader.read_bytes.Goals as goal
 
-pub returns-in_default : goal.returns-in_default
-returns-in_default c = search bytes-no
+pub returns-in-Err : goal.returns-in-Err
+returns-in-Err c = bytes-no _ _ c.in-Err.ensures
 
-pub returns : goal.returns
-returns c = search bytes_whole
+pub returns-in-Ok : goal.returns-in-Ok
+returns-in-Ok c = bytes_whole _ _ c.in-Ok.ensures
