@@ -5,6 +5,7 @@ use mathlib.Core.Bool.{true}
 use mathlib.Core.List.{List, ◌++◌, append_assoc}
 use native.Mathlib.Omega.{arith}
 use lib.ListN.{length}
+use Rattle.std.specs.Prelude.{Result, Ok, Err}
 use Rattle.common.specs.Buffer.{Put}
 use Rattle.common.proofs.Puts.{lent, given}
 use Rattle.common.proofs.PutLoop.{Going, Next, going_start, going-within, going_end, next_fits, going-sum, going_next}
@@ -15,8 +16,6 @@ use Rattle.field.specs.Value.{part, entry_values, contents, enc_items}
 use Rattle.field.specs.Told.{told_entry}
 use Rattle.field.specs.declared.Entries.{Entries}
 use Rattle.field.specs.declared.Entry.{Entry}
-use Rattle.field.specs.declared.EntryRead.{EntryRead}
-use Rattle.field.specs.declared.EntryRead.TheVariants.{Whole, No}
 use Rattle.field.specs.declared.Fault.{Fault}
 use Rattle.field.specs.declared.Kind.{Kind}
 use Rattle.field.proofs.Found.{EntryAt, entry-at}
@@ -50,13 +49,13 @@ module _ {kind : Kind} {s all before out : List ℕ} {at here left : ℕ} (g : E
       let z : left ≡ 0 = omega arith in
       going_end g.going fits (rw z (items-none kind s here))
 
-  module _ {r : EntryRead} (more : 0 < left) (said : told_entry r ≡ entry_at kind greatest s here) where
+  module _ {r : Result Entry Fault} (more : 0 < left) (said : told_entry r ≡ entry_at kind greatest s here) where
     -- there is a next entry
-    pub entry_found : {fault : Fault} → r ≡ No fault → ⊥
+    pub entry_found : {fault : Fault} → r ≡ Err fault → ⊥
     entry_found f = run-first left g.run more (sym said ∙ ap told_entry f)
 
     -- which is then to be put
-    pub turn : {e : Entry} → r ≡ Whole e → Turn kind s all before out at here left e
+    pub turn : {e : Entry} → r ≡ Ok e → Turn kind s all before out at here left e
     turn f = record { entering = g; fits = fits; more = more; found = sym said ∙ ap told_entry f }
 
 -- ---- a turn: the numbers in front of an entry, then its bytes

@@ -10,7 +10,7 @@ ghost use Rattle.measure.specs.Measuring.{told_measured};
 ghost use Rattle.encode.specs.Entries.{enc_head};
 ghost use Rattle.encode.specs.Writing.{put_field};
 
-use field::{Entries, EntryRead, Kind, Piece, Span};
+use field::{Entries, Kind, Piece, Span};
 use measure::{Judge, Unfit};
 
 // An integer.
@@ -18,7 +18,8 @@ pub fn put_number(out: &mut [u8], n: u64) -> usize
     requires { (n ≤ greatest) × (length (enc_of n) ≤ length out.old) }
     ensures { Put (enc_of n) out.old result out.new }
 {
-    integer::write(out, n);
+    // The number is small enough, and there is room: nothing is refused.
+    let _ = integer::write(out, n);
     integer::size(n)
 }
 
@@ -78,7 +79,7 @@ fn put_entries(out: &mut [u8], bytes: &[u8], kind: Kind, l: Entries) -> usize
     let mut at: usize = 0;
     let mut here = l.start;
     for _ in 0..l.count {
-        let EntryRead::Whole(e) = field::entry_at(bytes, kind, integer::GREATEST, here) else {
+        let Ok(e) = field::entry_at(bytes, kind, integer::GREATEST, here) else {
             return at;
         };
         let n = e.bytes.end - e.bytes.start;

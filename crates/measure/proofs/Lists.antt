@@ -7,6 +7,7 @@ use native.Mathlib.Omega.{arith}
 use borrow.Author.Tests.{le-leb, lt-leb, eq-eqb, ne_eqb, leb-true}
 use lib.Dec.{leb}
 use lib.ListN.{length, length-append}
+use Rattle.std.specs.Prelude.{Result, Ok, Err}
 use Rattle.common.specs.Choice.{both}
 use Rattle.common.proofs.Tests.{both_first, both-second}
 use Rattle.integer.specs.Integer.{size_of, greatest, enc_of}
@@ -19,12 +20,9 @@ use Rattle.field.specs.declared.Entries.{Entries}
 use Rattle.field.specs.declared.Fault.{Fault}
 use Rattle.field.specs.declared.Kind.{Kind}
 use Rattle.field.specs.declared.Sums.{Sums}
-use Rattle.field.specs.declared.Walked.{Walked}
-use Rattle.field.specs.declared.Walked.TheVariants.{Whole, No}
 use Rattle.field.proofs.Found.{steps}
 use Rattle.layout.specs.Permitted.{within}
 use Rattle.measure.specs.Judging.{ends_at, right_list, sized_list, fit, measure_list}
-use Rattle.std.specs.Prelude.{Err}
 use Rattle.measure.specs.declared.Unfit.TheVariants.{Oversize, Forbidden}
 use Rattle.measure.proofs.Judges.{judged-forbidden, judged-oversize, judged-fit}
 use Rattle.measure.proofs.EntriesFrom.{Run, items-length, items-held}
@@ -102,15 +100,15 @@ module _ (s : List ℕ) (kind : Kind) (l : Entries) (also room : ℕ) where
     unfolding measure_list right_list
     list-outside h = judged-forbidden _ _ _ (rw (le-leb l.count greatest small, lt-leb l.end (length s) h))
 
-    module _ (inside : l.end ≤ length s) {r : Walked} (said : told_walk r ≡ walk_of false kind l.count s l.start) where
+    module _ (inside : l.end ≤ length s) {r : Result Sums Fault} (said : told_walk r ≡ walk_of false kind l.count s l.start) where
       -- an entry is missing
-      pub list-missing : {fault : Fault} → r ≡ No fault → Err Forbidden ≡ measure_list s kind l also room
+      pub list-missing : {fault : Fault} → r ≡ Err fault → Err Forbidden ≡ measure_list s kind l also room
       unfolding measure_list right_list
       list-missing f =
           judged-forbidden _ _ _
           (rw (le-leb l.count greatest small, le-leb l.end (length s) inside, missing kind l.count s l.start (sym said ∙ ap told_walk f)))
 
-      module _ {w : Sums} (f : r ≡ Whole w) where
+      module _ {w : Sums} (f : r ≡ Ok w) where
         -- what was walked
         walks : Walks kind l.count s l.start w
         walks = walked kind l.count s l.start (sym said ∙ ap told_walk f)

@@ -6,7 +6,7 @@ ghost use Rattle.measure.specs.Judging.{fit, measure_span, measure_list, measure
 ghost use Rattle.measure.specs.Measuring.{measured_of, joined_of, told_measured};
 
 use crate::Unfit;
-use field::{Entries, Kind, Piece, Span, Walked};
+use field::{Entries, Kind, Piece, Span};
 
 // What is judged are parts of these bytes, and may take room bytes at most.
 #[derive(Clone, Copy)]
@@ -73,7 +73,7 @@ impl Judge<'_> {
         if l.end > self.bytes.len() {
             return Err(Unfit::Forbidden);
         }
-        let Walked::Whole(w) = field::walk(self.bytes, false, kind, l.count, l.start) else {
+        let Ok(w) = field::walk(self.bytes, false, kind, l.count, l.start) else {
             return Err(Unfit::Forbidden);
         };
         if w.end != l.end {

@@ -7,7 +7,7 @@ use Rattle.field.specs.Value.{contents, enc_items}
 use Rattle.encode.proofs.Counts.{is-counted}
 use Rattle.encode.proofs.EntriesPut.{Turn, entering-start, entering-end, entry_found, turn, parts, head-asks, head-sum, head-within, bytes_fit, entry-sum, entry_next}
 use Rattle.encode.proofs.putting.put_entries.Goals as goal
-use Rattle.encode.proofs.putting.put_entries.Goals.{In-Whole}
+use Rattle.encode.proofs.putting.put_entries.Goals.{In-Ok}
 
 pub loop-init : goal.loop-init
 loop-init c = (c.args.l.count, omega arith, entering-start _ _ _ _ c.requires.l_value)
@@ -21,38 +21,38 @@ returns-in_default c =
     absurd (entry_found i.2 c.requires.l_in_bounds (omega (arith, i.1, c.loop-test.true)) c.entry_at.ensures c.in_default.is)
 
 -- the next entry was found
-here : (c : In-Whole) → Turn c.args.kind c.args.bytes.now (enc_items c.args.kind (contents c.args.bytes.now c.args.kind c.args.l)) c.args.out.now c.loop.out c.loop.at c.loop.here c.loop.invariant.0 c.in-Whole.e
-here c = let i = c.loop.invariant in turn i.2 c.requires.l_in_bounds (omega (arith, i.1, c.loop-test.true)) c.entry_at.ensures c.in-Whole.is
+here : (c : In-Ok) → Turn c.args.kind c.args.bytes.now (enc_items c.args.kind (contents c.args.bytes.now c.args.kind c.args.l)) c.args.out.now c.loop.out c.loop.at c.loop.here c.loop.invariant.0 c.in-Ok.e
+here c = let i = c.loop.invariant in turn i.2 c.requires.l_in_bounds (omega (arith, i.1, c.loop-test.true)) c.entry_at.ensures c.in-Ok.is
 
 pub overflow_sub-n : goal.overflow_sub-n
-overflow_sub-n c = (parts (here (goal.at.overflow_sub-n c).In-Whole)).ordered
+overflow_sub-n c = (parts (here (goal.at.overflow_sub-n c).In-Ok)).ordered
 
 pub slice_bounds-put_head-count : goal.slice_bounds-put_head-count
 slice_bounds-put_head-count c = going-within c.loop.invariant.2.going c.requires.l_in_bounds
 
 pub put_head-at-requires : goal.put_head-at-requires
 put_head-at-requires c =
-    let h = head-asks (here (goal.at.put_head-at-requires c).In-Whole) in
+    let h = head-asks (here (goal.at.put_head-at-requires c).In-Ok) in
     record { number_le_greatest = h.0; n_in_bounds = h.1 }
 
 pub overflow_add-at : goal.overflow_add-at
-overflow_add-at c = is-counted (head-sum (here (goal.at.overflow_add-at c).In-Whole) c.put_head-at.ensures) (omega arith)
+overflow_add-at c = is-counted (head-sum (here (goal.at.overflow_add-at c).In-Ok) c.put_head-at.ensures) (omega arith)
 
 pub slice_bounds-put_bytes-count : goal.slice_bounds-put_bytes-count
-slice_bounds-put_bytes-count c = omega (arith, head-within (here (goal.at.slice_bounds-put_bytes-count c).In-Whole) c.put_head-at.ensures)
+slice_bounds-put_bytes-count c = omega (arith, head-within (here (goal.at.slice_bounds-put_bytes-count c).In-Ok) c.put_head-at.ensures)
 
 pub put_bytes-at-requires : goal.put_bytes-at-requires
 put_bytes-at-requires c =
-    let w = here (goal.at.put_bytes-at-requires c).In-Whole in
+    let w = here (goal.at.put_bytes-at-requires c).In-Ok in
     record { lies = ((parts w).ordered, omega (arith, parts w)); in_bounds = bytes_fit w c.put_head-at.ensures }
 
 pub overflow_add-at-in-loop : goal.overflow_add-at-in-loop
-overflow_add-at-in-loop c = is-counted (entry-sum (here (goal.at.overflow_add-at-in-loop c).In-Whole) c.put_head-at.ensures c.put_bytes-at.ensures) (omega arith)
+overflow_add-at-in-loop c = is-counted (entry-sum (here (goal.at.overflow_add-at-in-loop c).In-Ok) c.put_head-at.ensures c.put_bytes-at.ensures) (omega arith)
 
 pub loop-preserved : goal.loop-preserved
 loop-preserved c =
     let i = c.loop.invariant in
-    (i.0 - 1, omega (arith, i.1, c.loop-test.true), entry_next (here (goal.at.loop-preserved c).In-Whole) c.put_head-at.ensures c.put_bytes-at.ensures)
+    (i.0 - 1, omega (arith, i.1, c.loop-test.true), entry_next (here (goal.at.loop-preserved c).In-Ok) c.put_head-at.ensures c.put_bytes-at.ensures)
 
 pub shape_of-out : goal.shape_of-out
 shape_of-out c = going-length c.loop.invariant.2.going c.requires.l_in_bounds
