@@ -1,21 +1,19 @@
 -- A header after its type: a law for each of its answers in turn, by what was told of the type and of the fields. Assumes nothing.
 use Prim.Native.Nat.{ℕ}
-use mathlib.Core.Path.{◌≡◌, sym, ap, ◌∙◌}
+use mathlib.Core.Path.{◌≡◌, sym, ap}
 use mathlib.Core.List.{List}
 use borrow.Author.Tests.{ne_eqb}
-use Rattle.common.specs.Answer.{Answer, whole as answered, refused}
-use Rattle.field.specs.Outcome.{Outcome, whole, answer}
+use Rattle.common.specs.Answer.{refused}
+use Rattle.field.specs.Outcome.{Outcome, whole, no, answer}
 use Rattle.field.specs.Entries.{number_at}
 use Rattle.field.specs.Fields.{integer, field_at}
-use Rattle.field.specs.Told.{told_number}
 use Rattle.field.specs.declared.Fault.TheVariants.{Cut}
-use Rattle.field.specs.declared.NumberRead.{NumberRead}
-use Rattle.field.specs.declared.NumberRead.TheVariants.{Whole as WholeNumber, Cut as CutNumber}
 use Rattle.field.specs.declared.Piece.{Piece}
+use Rattle.field.specs.declared.Piece.TheVariants.{Number}
 use Rattle.field.proofs.Unjudged.{found_number, cut-number}
-use Rattle.layout.specs.Layout.{Layout, done, scan}
-use Rattle.layout.specs.Typed.{Typed, typed}
-use Rattle.layout.proofs.Steps.{To, Stops, is_whole, is-no}
+use Rattle.layout.specs.Layout.{Layout, scan}
+use Rattle.layout.specs.Typed.{typed}
+use Rattle.layout.proofs.Steps.{Stops, is-no}
 use Rattle.header.specs.Layouts.{object_datagram_row, object_datagram_status_row, subgroup_header_row, fetch_header_row, InTable, listed, unlisted, datagrams, streams}
 use Rattle.header.specs.Reading.{headed_of}
 
@@ -23,16 +21,16 @@ use Rattle.header.specs.Reading.{headed_of}
 pub cut_short : (cut : ℕ) (l : Layout) {s : List ℕ} {at : ℕ} → Stops s l at Cut → refused cut ≡ answer cut (scan l s at)
 cut_short cut l w = ap (answer cut) (is-no w)
 
-module _ (cut : ℕ) (types : ℕ → InTable) (s : List ℕ) {r : NumberRead} (said : told_number r ≡ field_at integer s 0) where
+module _ (cut : ℕ) (types : ℕ → InTable) (s : List ℕ) where
   -- there is no type,
-  pub headed-cut : r ≡ CutNumber → refused cut ≡ headed_of cut types s
+  pub headed-cut : no Cut ≡ field_at integer s 0 → refused cut ≡ headed_of cut types s
   unfolding headed_of
-  headed-cut e = rw (cut-number s 0 (sym said ∙ ap told_number e))
+  headed-cut e = rw (cut-number s 0 (sym e))
 
-  module _ {n at : ℕ} (read : r ≡ WholeNumber n at) where
+  module _ {n at : ℕ} (read : whole (Number n) at ≡ field_at integer s 0) where
     -- or there is one,
     type-is : number_at s 0 ≡ whole n at
-    type-is = found_number s 0 (sym said ∙ ap told_number read)
+    type-is = found_number s 0 (sym read)
 
     -- and it is unknown,
     pub headed-unknown : types n ≡ unlisted → refused 2 ≡ headed_of cut types s
@@ -44,19 +42,6 @@ module _ (cut : ℕ) (types : ℕ → InTable) (s : List ℕ) {r : NumberRead} (
       pub headed-is : {o : Outcome (List Piece)} → o ≡ scan l s at → answer cut (typed k o) ≡ headed_of cut types s
       unfolding headed_of
       headed-is h = rw (type-is, is, names, h)
-
-      -- field by field,
-      pub headed-fields : {ps : List Piece} {end : ℕ} → To s l at ps done end → answered (record { type = k; pieces = ps }) end ≡ headed_of cut types s
-      headed-fields w = headed-is (is_whole w)
-
-      pub headed-short : Stops s l at Cut → refused cut ≡ headed_of cut types s
-      headed-short w = headed-is (is-no w)
-
--- or by a reader of its own
-pub headed-by : (cut : ℕ) (types : ℕ → InTable) {R : Type 0} (told : R → Outcome (List Piece)) (s : List ℕ) {r : NumberRead} {n at k : ℕ} {l : Layout} {q v : R} {a : Answer Typed}
-    → r ≡ WholeNumber n at → told_number r ≡ field_at integer s 0 → n ≡ k → types k ≡ listed l → q ≡ v → told q ≡ scan l s at
-    → a ≡ answer cut (typed k (told v)) → a ≡ headed_of cut types s
-headed-by cut types told s read said is names e h f = f ∙ headed-is cut types s said read is names (ap told (sym e) ∙ h)
 
 -- ---- the types that are unknown
 

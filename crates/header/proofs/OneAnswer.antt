@@ -4,6 +4,7 @@ use mathlib.Core.Path.{◌≡◌, refl}
 use mathlib.Core.List.{List, [], ◌∷◌}
 use lib.ListN.{drop}
 use lib.Dec.{eqb}
+use Rattle.std.specs.Prelude.{ℕ, Result, Ok, Err}
 use Rattle.common.specs.Choice.{pick}
 use Rattle.common.specs.Answer.{Answer, whole as answered, refused}
 use Rattle.common.proofs.Telling.{once}
@@ -22,14 +23,12 @@ use Rattle.header.specs.declared.Payload.{Payload}
 use Rattle.header.specs.declared.Payload.TheVariants.{Length, Status}
 use Rattle.header.specs.declared.SubgroupObject.{SubgroupObject}
 use Rattle.header.specs.declared.FetchObject.{FetchObject}
-use Rattle.header.specs.declared.DatagramRead.{DatagramRead}
-use Rattle.header.specs.declared.DatagramRead.TheVariants as datagram
-use Rattle.header.specs.declared.StreamRead.{StreamRead}
-use Rattle.header.specs.declared.StreamRead.TheVariants as stream
-use Rattle.header.specs.declared.SubgroupObjectRead.{SubgroupObjectRead}
-use Rattle.header.specs.declared.SubgroupObjectRead.TheVariants as subgroup
-use Rattle.header.specs.declared.FetchObjectRead.{FetchObjectRead}
-use Rattle.header.specs.declared.FetchObjectRead.TheVariants as fetch
+use Rattle.header.specs.declared.DatagramFault.{DatagramFault}
+use Rattle.header.specs.declared.DatagramFault.TheVariants as datagram
+use Rattle.header.specs.declared.StreamFault.{StreamFault}
+use Rattle.header.specs.declared.StreamFault.TheVariants as stream
+use Rattle.header.specs.declared.ObjectFault.{ObjectFault}
+use Rattle.header.specs.declared.ObjectFault.TheVariants as object
 
 -- ---- datagrams
 
@@ -45,16 +44,16 @@ unfolding datagram_in object_in
 datagram-back (Object d) = refl
 datagram-back (WithStatus d n) = refl
 
-datagram_heard : Answer Typed → DatagramRead
-datagram_heard (answered t used) = datagram.Whole (datagram_in t) used
-datagram_heard (refused n) = pick (eqb n 2) datagram.Unknown (pick (eqb n 4) datagram.Cut datagram.Forbidden)
+datagram_heard : Answer Typed → Result (Datagram × ℕ) DatagramFault
+datagram_heard (answered t used) = Ok (datagram_in t, used)
+datagram_heard (refused n) = Err (pick (eqb n 2) datagram.Unknown (pick (eqb n 4) datagram.Cut datagram.Forbidden))
 
-datagram-heard : (a : DatagramRead) → datagram_heard (told_datagram a) ≡ a
+datagram-heard : (a : Result (Datagram × ℕ) DatagramFault) → datagram_heard (told_datagram a) ≡ a
 unfolding datagram_heard
-datagram-heard (datagram.Whole d used) = rw datagram-back
-datagram-heard datagram.Unknown = refl
-datagram-heard datagram.Cut = refl
-datagram-heard datagram.Forbidden = refl
+datagram-heard (Ok (d, used)) = rw datagram-back
+datagram-heard (Err datagram.Unknown) = refl
+datagram-heard (Err datagram.Cut) = refl
+datagram-heard (Err datagram.Forbidden) = refl
 
 -- ---- the headers of streams
 
@@ -70,15 +69,15 @@ unfolding stream_in
 stream-back (Subgroup h) = refl
 stream-back (Fetch id) = refl
 
-stream_heard : Answer Typed → StreamRead
-stream_heard (answered t used) = stream.Whole (stream_in t) used
-stream_heard (refused n) = pick (eqb n 1) stream.More stream.Unknown
+stream_heard : Answer Typed → Result (StreamHeader × ℕ) StreamFault
+stream_heard (answered t used) = Ok (stream_in t, used)
+stream_heard (refused n) = Err (pick (eqb n 1) stream.More stream.Unknown)
 
-stream-heard : (a : StreamRead) → stream_heard (told_stream a) ≡ a
+stream-heard : (a : Result (StreamHeader × ℕ) StreamFault) → stream_heard (told_stream a) ≡ a
 unfolding stream_heard
-stream-heard (stream.Whole h used) = rw stream-back
-stream-heard stream.More = refl
-stream-heard stream.Unknown = refl
+stream-heard (Ok (h, used)) = rw stream-back
+stream-heard (Err stream.More) = refl
+stream-heard (Err stream.Unknown) = refl
 
 -- ---- the headers of objects
 
@@ -115,36 +114,36 @@ fetch-object-back : (o : FetchObject) → fetch_object_in (fetch_object_pieces o
 unfolding fetch_object_in
 fetch-object-back o = rw payload-back
 
-subgroup_heard : Answer (List Piece) → SubgroupObjectRead
-subgroup_heard (answered ps used) = subgroup.Whole (subgroup_object_in ps) used
-subgroup_heard (refused n) = pick (eqb n 1) subgroup.More subgroup.Forbidden
+subgroup_heard : Answer (List Piece) → Result (SubgroupObject × ℕ) ObjectFault
+subgroup_heard (answered ps used) = Ok (subgroup_object_in ps, used)
+subgroup_heard (refused n) = Err (pick (eqb n 1) object.More object.Forbidden)
 
-subgroup-heard : (a : SubgroupObjectRead) → subgroup_heard (told_subgroup_object a) ≡ a
+subgroup-heard : (a : Result (SubgroupObject × ℕ) ObjectFault) → subgroup_heard (told_subgroup_object a) ≡ a
 unfolding subgroup_heard
-subgroup-heard (subgroup.Whole o used) = rw subgroup-object-back
-subgroup-heard subgroup.More = refl
-subgroup-heard subgroup.Forbidden = refl
+subgroup-heard (Ok (o, used)) = rw subgroup-object-back
+subgroup-heard (Err object.More) = refl
+subgroup-heard (Err object.Forbidden) = refl
 
-fetch_heard : Answer (List Piece) → FetchObjectRead
-fetch_heard (answered ps used) = fetch.Whole (fetch_object_in ps) used
-fetch_heard (refused n) = pick (eqb n 1) fetch.More fetch.Forbidden
+fetch_heard : Answer (List Piece) → Result (FetchObject × ℕ) ObjectFault
+fetch_heard (answered ps used) = Ok (fetch_object_in ps, used)
+fetch_heard (refused n) = Err (pick (eqb n 1) object.More object.Forbidden)
 
-fetch-heard : (a : FetchObjectRead) → fetch_heard (told_fetch_object a) ≡ a
+fetch-heard : (a : Result (FetchObject × ℕ) ObjectFault) → fetch_heard (told_fetch_object a) ≡ a
 unfolding fetch_heard
-fetch-heard (fetch.Whole o used) = rw fetch-object-back
-fetch-heard fetch.More = refl
-fetch-heard fetch.Forbidden = refl
+fetch-heard (Ok (o, used)) = rw fetch-object-back
+fetch-heard (Err object.More) = refl
+fetch-heard (Err object.Forbidden) = refl
 
 -- ---- so nothing is lost: what is answered is answered in one way
 
-pub datagram-once : (a b : DatagramRead) → told_datagram a ≡ told_datagram b → a ≡ b
+pub datagram-once : (a b : Result (Datagram × ℕ) DatagramFault) → told_datagram a ≡ told_datagram b → a ≡ b
 datagram-once = once told_datagram datagram_heard datagram-heard
 
-pub stream-once : (a b : StreamRead) → told_stream a ≡ told_stream b → a ≡ b
+pub stream-once : (a b : Result (StreamHeader × ℕ) StreamFault) → told_stream a ≡ told_stream b → a ≡ b
 stream-once = once told_stream stream_heard stream-heard
 
-pub subgroup-object-once : (a b : SubgroupObjectRead) → told_subgroup_object a ≡ told_subgroup_object b → a ≡ b
+pub subgroup-object-once : (a b : Result (SubgroupObject × ℕ) ObjectFault) → told_subgroup_object a ≡ told_subgroup_object b → a ≡ b
 subgroup-object-once = once told_subgroup_object subgroup_heard subgroup-heard
 
-pub fetch-object-once : (a b : FetchObjectRead) → told_fetch_object a ≡ told_fetch_object b → a ≡ b
+pub fetch-object-once : (a b : Result (FetchObject × ℕ) ObjectFault) → told_fetch_object a ≡ told_fetch_object b → a ≡ b
 fetch-object-once = once told_fetch_object fetch_heard fetch-heard

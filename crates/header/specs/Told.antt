@@ -1,8 +1,11 @@
 -- Each header as its fields, in the order of its layout, with the number of its type where it has one; and what a
 -- reader answers.
-use Rattle.std.specs.Prelude.{List, [], ◌∷◌, ◌++◌}
+use Rattle.std.specs.Prelude.{ℕ, List, [], ◌∷◌, ◌++◌, Result, Ok, Err}
 use Rattle.common.specs.Answer.{Answer, whole as answered, refused}
+use Rattle.integer.specs.declared.Cut.{Cut as Ended}
 use Rattle.field.specs.Outcome.{Outcome, whole, no}
+use Rattle.field.specs.Told.{told_cut}
+use Rattle.field.specs.declared.Fault.{Fault}
 use Rattle.field.specs.declared.Fault.TheVariants.{Cut, Forbidden}
 use Rattle.field.specs.declared.Piece.{Piece}
 use Rattle.field.specs.declared.Piece.TheVariants.{Number, Byte, Bytes}
@@ -18,21 +21,12 @@ use Rattle.header.specs.declared.Payload.{Payload}
 use Rattle.header.specs.declared.Payload.TheVariants.{Length, Status}
 use Rattle.header.specs.declared.SubgroupObject.{SubgroupObject}
 use Rattle.header.specs.declared.FetchObject.{FetchObject}
-use Rattle.header.specs.declared.DatagramRead.{DatagramRead}
-use Rattle.header.specs.declared.DatagramRead.TheVariants.{Whole as WholeDatagram, Unknown as UnknownDatagram, Cut as CutDatagram, Forbidden as ForbiddenDatagram}
-use Rattle.header.specs.declared.StreamRead.{StreamRead}
-use Rattle.header.specs.declared.StreamRead.TheVariants.{Whole as WholeStream, More as MoreStream, Unknown as UnknownStream}
-use Rattle.header.specs.declared.SubgroupObjectRead.{SubgroupObjectRead}
-use Rattle.header.specs.declared.SubgroupObjectRead.TheVariants.{Whole as WholeSubgroupObject, More as MoreSubgroupObject, Forbidden as ForbiddenSubgroupObject}
-use Rattle.header.specs.declared.FetchObjectRead.{FetchObjectRead}
-use Rattle.header.specs.declared.FetchObjectRead.TheVariants.{Whole as WholeFetchObject, More as MoreFetchObject, Forbidden as ForbiddenFetchObject}
-use Rattle.header.specs.declared.ObjectRead.{ObjectRead}
-use Rattle.header.specs.declared.ObjectRead.TheVariants.{Whole as WholeObject, Cut as CutObject}
-use Rattle.header.specs.declared.Lead.{Lead}
-use Rattle.header.specs.declared.LeadRead.{LeadRead}
-use Rattle.header.specs.declared.LeadRead.TheVariants.{Whole as WholeLead, Cut as CutLead}
-use Rattle.header.specs.declared.PayloadRead.{PayloadRead}
-use Rattle.header.specs.declared.PayloadRead.TheVariants.{Whole as WholePayload, Cut as CutPayload, Forbidden as ForbiddenPayload}
+use Rattle.header.specs.declared.DatagramFault.{DatagramFault}
+use Rattle.header.specs.declared.DatagramFault.TheVariants.{Unknown as UnknownDatagram, Cut as CutDatagram, Forbidden as ForbiddenDatagram}
+use Rattle.header.specs.declared.StreamFault.{StreamFault}
+use Rattle.header.specs.declared.StreamFault.TheVariants.{More as MoreStream, Unknown as UnknownStream}
+use Rattle.header.specs.declared.ObjectFault.{ObjectFault}
+use Rattle.header.specs.declared.ObjectFault.TheVariants.{More as MoreObject, Forbidden as ForbiddenObject}
 
 abbrev pub object_pieces : ObjectDatagram → List Piece
 object_pieces d =
@@ -66,42 +60,41 @@ fetch_object_pieces o =
 -- ---- 01's number and values of what is answered
 
 -- "in a datagram, which is always whole, it answers 4"
-abbrev pub told_datagram : DatagramRead → Answer Typed
-told_datagram (WholeDatagram d used) = answered (datagram_typed d) used
-told_datagram UnknownDatagram = refused 2
-told_datagram CutDatagram = refused 4
-told_datagram ForbiddenDatagram = refused 5
+abbrev pub told_datagram : Result (Datagram × ℕ) DatagramFault → Answer Typed
+told_datagram (Ok (d, used)) = answered (datagram_typed d) used
+told_datagram (Err UnknownDatagram) = refused 2
+told_datagram (Err CutDatagram) = refused 4
+told_datagram (Err ForbiddenDatagram) = refused 5
 
 -- "On a stream, a cut header answers 1"
-abbrev pub told_stream : StreamRead → Answer Typed
-told_stream (WholeStream h used) = answered (stream_typed h) used
-told_stream MoreStream = refused 1
-told_stream UnknownStream = refused 2
+abbrev pub told_stream : Result (StreamHeader × ℕ) StreamFault → Answer Typed
+told_stream (Ok (h, used)) = answered (stream_typed h) used
+told_stream (Err MoreStream) = refused 1
+told_stream (Err UnknownStream) = refused 2
 
-abbrev pub told_subgroup_object : SubgroupObjectRead → Answer (List Piece)
-told_subgroup_object (WholeSubgroupObject o used) = answered (subgroup_object_pieces o) used
-told_subgroup_object MoreSubgroupObject = refused 1
-told_subgroup_object ForbiddenSubgroupObject = refused 5
+abbrev pub told_subgroup_object : Result (SubgroupObject × ℕ) ObjectFault → Answer (List Piece)
+told_subgroup_object (Ok (o, used)) = answered (subgroup_object_pieces o) used
+told_subgroup_object (Err MoreObject) = refused 1
+told_subgroup_object (Err ForbiddenObject) = refused 5
 
-abbrev pub told_fetch_object : FetchObjectRead → Answer (List Piece)
-told_fetch_object (WholeFetchObject o used) = answered (fetch_object_pieces o) used
-told_fetch_object MoreFetchObject = refused 1
-told_fetch_object ForbiddenFetchObject = refused 5
+abbrev pub told_fetch_object : Result (FetchObject × ℕ) ObjectFault → Answer (List Piece)
+told_fetch_object (Ok (o, used)) = answered (fetch_object_pieces o) used
+told_fetch_object (Err MoreObject) = refused 1
+told_fetch_object (Err ForbiddenObject) = refused 5
 
 -- ---- what the readers of their parts answer
 
-abbrev pub told_object : ObjectRead → Outcome (List Piece)
-told_object (WholeObject d) = whole (object_pieces d) d.extensions.end
-told_object CutObject = no Cut
+abbrev pub told_object : Result ObjectDatagram Ended → Outcome (List Piece)
+told_object = told_cut λ d. whole (object_pieces d) d.extensions.end
 
-abbrev pub lead_pieces : Lead → List Piece
-lead_pieces l = Number l.first ∷ Number l.second ∷ Number l.third ∷ Byte l.priority ∷ []
+abbrev pub told_subgroup : Result (SubgroupHeader × ℕ) Ended → Outcome (List Piece)
+told_subgroup = told_cut λ (h, end). whole (subgroup_pieces h) end
 
-abbrev pub told_lead : LeadRead → Outcome (List Piece)
-told_lead (WholeLead l end) = whole (lead_pieces l) end
-told_lead CutLead = no Cut
+-- more is needed where a field is cut
+abbrev pub fault_of : ObjectFault → Fault
+fault_of MoreObject = Cut
+fault_of ForbiddenObject = Forbidden
 
-abbrev pub told_payload : PayloadRead → Outcome (List Piece)
-told_payload (WholePayload p end) = whole (payload_pieces p) end
-told_payload CutPayload = no Cut
-told_payload ForbiddenPayload = no Forbidden
+abbrev pub told_payload : Result (Payload × ℕ) ObjectFault → Outcome (List Piece)
+told_payload (Ok (p, end)) = whole (payload_pieces p) end
+told_payload (Err fault) = no (fault_of fault)

@@ -23,19 +23,9 @@ pub fn datagram_arrival(d: Datagram) -> Arrival
     ensures { result ≡ datagram_arrival d }
 {
     match d {
-        Datagram::Object(x) => {
-            let place = x.place;
-            Arrival {
-                alias: x.alias,
-                place,
-            }
-        }
-        Datagram::Status(x, _) => {
-            let place = x.place;
-            Arrival {
-                alias: x.alias,
-                place,
-            }
-        }
+        Datagram::Object(x) | Datagram::Status(x, _) => Arrival {
+            alias: x.alias,
+            place: x.place,
+        },
     }
 }

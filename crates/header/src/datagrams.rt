@@ -9,48 +9,32 @@ ghost use Rattle.header.specs.Told.{told_object, told_datagram};
 ghost use Rattle.header.specs.Reading.{ended_datagram, datagram_of};
 
 use crate::rules::is_status;
-use crate::{
-    Datagram, DatagramRead, OBJECT_DATAGRAM, OBJECT_DATAGRAM_STATUS, ObjectDatagram, ObjectRead,
-};
-use field::{ByteRead, BytesRead, NumberRead, PlaceRead};
+use crate::{Datagram, DatagramFault, OBJECT_DATAGRAM, OBJECT_DATAGRAM_STATUS, ObjectDatagram};
+use field::Cut;
 
-pub fn read_datagram(s: &[u8]) -> DatagramRead
+pub fn read_datagram(s: &[u8]) -> Result<(Datagram, usize), DatagramFault>
     ensures { told_datagram result ≡ datagram_of s.now }
 {
-    let NumberRead::Whole(number, at) = field::read_number(s, 0) else {
-        return DatagramRead::Cut;
-    };
+    let (number, at) = field::read_number(s, 0)?;
     match number {
-        OBJECT_DATAGRAM => match read_object(s, at) {
-            ObjectRead::Whole(d) => {
-                let extensions = d.extensions;
-                let end = extensions.end;
-                return DatagramRead::Whole(Datagram::Object(d), end);
-            }
-            ObjectRead::Cut => return DatagramRead::Cut,
-        },
-        OBJECT_DATAGRAM_STATUS => return read_status(s, at),
-        _ => return DatagramRead::Unknown,
+        OBJECT_DATAGRAM => {
+            let d = read_object(s, at)?;
+            Ok((Datagram::Object(d), d.extensions.end))
+        }
+        OBJECT_DATAGRAM_STATUS => read_status(s, at),
+        _ => Err(DatagramFault::Unknown),
     }
 }
 
-// What stands before the payload or the status.
-fn read_object(s: &[u8], at: usize) -> ObjectRead
+// What stands before the payload or the status; it ends where its extension headers do.
+fn read_object(s: &[u8], at: usize) -> Result<ObjectDatagram, Cut>
     ensures { told_object result ≡ scan object_datagram s.now at }
 {
-    let NumberRead::Whole(alias, a) = field::read_number(s, at) else {
-        return ObjectRead::Cut;
-    };
-    let PlaceRead::Whole(place, b) = field::read_place(s, a) else {
-        return ObjectRead::Cut;
-    };
-    let ByteRead::Whole(priority, c) = field::read_byte(s, b) else {
-        return ObjectRead::Cut;
-    };
-    let BytesRead::Whole(extensions) = field::read_bytes(s, c) else {
-        return ObjectRead::Cut;
-    };
-    ObjectRead::Whole(ObjectDatagram {
+    let (alias, next) = field::read_number(s, at)?;
+    let (place, next) = field::read_place(s, next)?;
+    let (priority, next) = field::read_byte(s, next)?;
+    let extensions = field::read_bytes(s, next)?;
+    Ok(ObjectDatagram {
         alias,
         place,
         priority,
@@ -59,22 +43,17 @@ fn read_object(s: &[u8], at: usize) -> ObjectRead
 }
 
 // A datagram that has a status, and nothing after it.
-fn read_status(s: &[u8], at: usize) -> DatagramRead
+fn read_status(s: &[u8], at: usize) -> Result<(Datagram, usize), DatagramFault>
     ensures { told_datagram result ≡ ended_datagram (length s.now)
         (answer 4 (typed object_datagram_status_row.number (scan datagram_status s.now at))) }
 {
-    let ObjectRead::Whole(d) = read_object(s, at) else {
-        return DatagramRead::Cut;
-    };
-    let extensions = d.extensions;
-    let NumberRead::Whole(status, end) = field::read_number(s, extensions.end) else {
-        return DatagramRead::Cut;
-    };
+    let d = read_object(s, at)?;
+    let (status, end) = field::read_number(s, d.extensions.end)?;
     if !is_status(status) {
-        return DatagramRead::Forbidden;
+        return Err(DatagramFault::Forbidden);
     }
     if end < s.len() {
-        return DatagramRead::Cut;
+        return Err(DatagramFault::Cut);
     }
-    DatagramRead::Whole(Datagram::Status(d, status), end)
+    Ok((Datagram::Status(d, status), end))
 }

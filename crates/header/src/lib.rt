@@ -2,15 +2,19 @@
 // header and its own. They are read here, and written by `header_writer`.
 #![tactic(auto)]
 
+ghost use Rattle.std.specs.Prelude.{◌≡◌};
+ghost use Rattle.header.specs.declared.DatagramFault.TheVariants.{Cut as DatagramCut};
+ghost use Rattle.header.specs.declared.StreamFault.TheVariants.{More as MoreOfStream};
+ghost use Rattle.header.specs.declared.ObjectFault.TheVariants.{More as MoreOfObject};
+
 pub mod arrivals;
 mod datagrams;
-mod leading;
 mod objects;
 mod rules;
 mod streams;
 
 pub use datagrams::read_datagram;
-use field::{Place, Span};
+use field::{Cut, Place, Span};
 pub use objects::{read_fetch_object, read_subgroup_object};
 pub use rules::is_status;
 pub use streams::read_stream;
@@ -81,67 +85,50 @@ pub struct FetchObject {
     pub payload: Payload,
 }
 
-// What reading a datagram answers: its header and the bytes it took; or that its type is unknown; that it is cut, or
-// goes on after its status; that a value is forbidden.
+// Why a datagram is refused: its type is unknown; it is cut, or goes on after its status; a value is forbidden.
 #[derive(Clone, Copy)]
-pub enum DatagramRead {
-    Whole(Datagram, usize),
+pub enum DatagramFault {
     Unknown,
     Cut,
     Forbidden,
 }
 
-// What reading a stream's first bytes answers: its header and the bytes it took; or that more bytes are needed; that
-// its type is unknown.
+// A datagram is always whole: where it is cut, nothing more will come.
+impl From<Cut> for DatagramFault {
+    ghost from_gives = { λ _ fault. fault ≡ DatagramCut };
+
+    fn from(_cut: Cut) -> DatagramFault {
+        DatagramFault::Cut
+    }
+}
+
+// Why the first bytes of a stream are no header: more bytes are needed; its type is unknown.
 #[derive(Clone, Copy)]
-pub enum StreamRead {
-    Whole(StreamHeader, usize),
+pub enum StreamFault {
     More,
     Unknown,
 }
 
-// What reading an object's header on a stream answers: the header and the bytes it took; or that more bytes are needed;
-// that a value is forbidden.
+// On a stream more can come after a cut.
+impl From<Cut> for StreamFault {
+    ghost from_gives = { λ _ fault. fault ≡ MoreOfStream };
+
+    fn from(_cut: Cut) -> StreamFault {
+        StreamFault::More
+    }
+}
+
+// Why bytes on a stream are no header of an object: more are needed; a value is forbidden.
 #[derive(Clone, Copy)]
-pub enum SubgroupObjectRead {
-    Whole(SubgroupObject, usize),
+pub enum ObjectFault {
     More,
     Forbidden,
 }
 
-#[derive(Clone, Copy)]
-pub enum FetchObjectRead {
-    Whole(FetchObject, usize),
-    More,
-    Forbidden,
-}
+impl From<Cut> for ObjectFault {
+    ghost from_gives = { λ _ fault. fault ≡ MoreOfObject };
 
-// What datagrams have in common; it ends where its extension headers do.
-#[derive(Clone, Copy)]
-enum ObjectRead {
-    Whole(ObjectDatagram),
-    Cut,
-}
-
-// Three numbers and a priority: the header of a subgroup's stream, and what the header of an object on a fetch's stream
-// begins with.
-#[derive(Clone, Copy)]
-struct Lead {
-    first: u64,
-    second: u64,
-    third: u64,
-    priority: u8,
-}
-
-#[derive(Clone, Copy)]
-enum LeadRead {
-    Whole(Lead, usize),
-    Cut,
-}
-
-#[derive(Clone, Copy)]
-enum PayloadRead {
-    Whole(Payload, usize),
-    Cut,
-    Forbidden,
+    fn from(_cut: Cut) -> ObjectFault {
+        ObjectFault::More
+    }
 }

@@ -5,80 +5,56 @@ ghost use Rattle.header.specs.Layouts.{payload};
 ghost use Rattle.header.specs.Told.{told_payload, told_subgroup_object, told_fetch_object};
 ghost use Rattle.header.specs.Reading.{subgroup_object_of, fetch_object_of};
 
-use crate::leading::read_lead;
 use crate::rules::is_status;
-use crate::{
-    FetchObject, FetchObjectRead, LeadRead, Payload, PayloadRead, SubgroupObject,
-    SubgroupObjectRead,
-};
-use field::{BytesRead, NumberRead};
+use crate::{FetchObject, ObjectFault, Payload, SubgroupObject};
 
 // On a subgroup's stream.
-pub fn read_subgroup_object(s: &[u8]) -> SubgroupObjectRead
+pub fn read_subgroup_object(s: &[u8]) -> Result<(SubgroupObject, usize), ObjectFault>
     ensures { told_subgroup_object result ≡ subgroup_object_of s.now }
 {
-    let NumberRead::Whole(object, a) = field::read_number(s, 0) else {
-        return SubgroupObjectRead::More;
+    let (object, next) = field::read_number(s, 0)?;
+    let extensions = field::read_bytes(s, next)?;
+    let (payload, end) = read_payload(s, extensions.end)?;
+    let header = SubgroupObject {
+        object,
+        extensions,
+        payload,
     };
-    let BytesRead::Whole(extensions) = field::read_bytes(s, a) else {
-        return SubgroupObjectRead::More;
-    };
-    match read_payload(s, extensions.end) {
-        PayloadRead::Whole(payload, end) => SubgroupObjectRead::Whole(
-            SubgroupObject {
-                object,
-                extensions,
-                payload,
-            },
-            end,
-        ),
-        PayloadRead::Cut => SubgroupObjectRead::More,
-        PayloadRead::Forbidden => SubgroupObjectRead::Forbidden,
-    }
+    Ok((header, end))
 }
 
 // On a fetch's stream.
-pub fn read_fetch_object(s: &[u8]) -> FetchObjectRead
+pub fn read_fetch_object(s: &[u8]) -> Result<(FetchObject, usize), ObjectFault>
     ensures { told_fetch_object result ≡ fetch_object_of s.now }
 {
-    let LeadRead::Whole(l, a) = read_lead(s, 0) else {
-        return FetchObjectRead::More;
+    let (group, next) = field::read_number(s, 0)?;
+    let (subgroup, next) = field::read_number(s, next)?;
+    let (object, next) = field::read_number(s, next)?;
+    let (priority, next) = field::read_byte(s, next)?;
+    let extensions = field::read_bytes(s, next)?;
+    let (payload, end) = read_payload(s, extensions.end)?;
+    let header = FetchObject {
+        group,
+        subgroup,
+        object,
+        priority,
+        extensions,
+        payload,
     };
-    let BytesRead::Whole(extensions) = field::read_bytes(s, a) else {
-        return FetchObjectRead::More;
-    };
-    match read_payload(s, extensions.end) {
-        PayloadRead::Whole(payload, end) => FetchObjectRead::Whole(
-            FetchObject {
-                group: l.first,
-                subgroup: l.second,
-                object: l.third,
-                priority: l.priority,
-                extensions,
-                payload,
-            },
-            end,
-        ),
-        PayloadRead::Cut => FetchObjectRead::More,
-        PayloadRead::Forbidden => FetchObjectRead::Forbidden,
-    }
+    Ok((header, end))
 }
 
 // The length of the payload, and where it is 0 the status.
-fn read_payload(s: &[u8], at: usize) -> PayloadRead
+fn read_payload(s: &[u8], at: usize) -> Result<(Payload, usize), ObjectFault>
     ensures { told_payload result ≡ scan payload s.now at }
 {
-    let NumberRead::Whole(length, a) = field::read_number(s, at) else {
-        return PayloadRead::Cut;
-    };
+    let (length, next) = field::read_number(s, at)?;
     if length != 0 {
-        return PayloadRead::Whole(Payload::Length(length), a);
+        return Ok((Payload::Length(length), next));
     }
-    let NumberRead::Whole(status, end) = field::read_number(s, a) else {
-        return PayloadRead::Cut;
-    };
+    let (status, end) = field::read_number(s, next)?;
     if !is_status(status) {
-        return PayloadRead::Forbidden;
+        return Err(ObjectFault::Forbidden);
     }
-    PayloadRead::Whole(Payload::Status(status), end)
+    Ok((Payload::Status(status), end))
 }

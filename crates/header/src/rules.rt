@@ -6,9 +6,5 @@ ghost use Rattle.header.specs.Rules.{is_object_status};
 pub fn is_status(status: u64) -> bool
     ensures { result ≡ is_object_status status }
 {
-    match status {
-        0..=1 => true,
-        3..=4 => true,
-        _ => false,
-    }
+    matches!(status, 0..=1 | 3..=4)
 }

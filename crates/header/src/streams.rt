@@ -1,35 +1,42 @@
 // The first bytes of a unidirectional stream: its type, and the header that the type names.
 ghost use Rattle.std.specs.Prelude.{◌≡◌};
-ghost use Rattle.header.specs.Told.{told_stream};
+ghost use Rattle.layout.specs.Layout.{scan};
+ghost use Rattle.header.specs.Layouts.{subgroup_header};
+ghost use Rattle.header.specs.Told.{told_subgroup, told_stream};
 ghost use Rattle.header.specs.Reading.{stream_of};
 
-use crate::leading::read_lead;
-use crate::{FETCH_HEADER, LeadRead, SUBGROUP_HEADER, StreamHeader, StreamRead, SubgroupHeader};
-use field::NumberRead;
+use crate::{FETCH_HEADER, SUBGROUP_HEADER, StreamFault, StreamHeader, SubgroupHeader};
+use field::Cut;
 
-pub fn read_stream(s: &[u8]) -> StreamRead
+pub fn read_stream(s: &[u8]) -> Result<(StreamHeader, usize), StreamFault>
     ensures { told_stream result ≡ stream_of s.now }
 {
-    let NumberRead::Whole(number, at) = field::read_number(s, 0) else {
-        return StreamRead::More;
-    };
+    let (number, at) = field::read_number(s, 0)?;
     match number {
-        SUBGROUP_HEADER => match read_lead(s, at) {
-            LeadRead::Whole(l, end) => return StreamRead::Whole(
-                StreamHeader::Subgroup(SubgroupHeader {
-                    alias: l.first,
-                    group: l.second,
-                    subgroup: l.third,
-                    priority: l.priority,
-                }),
-                end,
-            ),
-            LeadRead::Cut => return StreamRead::More,
-        },
-        FETCH_HEADER => match field::read_number(s, at) {
-            NumberRead::Whole(id, end) => return StreamRead::Whole(StreamHeader::Fetch(id), end),
-            NumberRead::Cut => return StreamRead::More,
-        },
-        _ => return StreamRead::Unknown,
+        SUBGROUP_HEADER => {
+            let (header, end) = read_subgroup(s, at)?;
+            Ok((StreamHeader::Subgroup(header), end))
+        }
+        FETCH_HEADER => {
+            let (id, end) = field::read_number(s, at)?;
+            Ok((StreamHeader::Fetch(id), end))
+        }
+        _ => Err(StreamFault::Unknown),
     }
+}
+
+fn read_subgroup(s: &[u8], at: usize) -> Result<(SubgroupHeader, usize), Cut>
+    ensures { told_subgroup result ≡ scan subgroup_header s.now at }
+{
+    let (alias, next) = field::read_number(s, at)?;
+    let (group, next) = field::read_number(s, next)?;
+    let (subgroup, next) = field::read_number(s, next)?;
+    let (priority, end) = field::read_byte(s, next)?;
+    let header = SubgroupHeader {
+        alias,
+        group,
+        subgroup,
+        priority,
+    };
+    Ok((header, end))
 }

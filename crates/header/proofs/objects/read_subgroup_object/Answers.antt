@@ -1,27 +1,29 @@
 -- `read_subgroup_object` meets its contract. Assumes nothing.
-use Rattle.layout.proofs.Steps.{stopping}
+use Rattle.common.proofs.Exits.{handed}
+use Rattle.layout.proofs.Steps.{there, then, stopping}
 use Rattle.header.specs.Layouts.{subgroup_object}
 use Rattle.header.specs.Reading.{subgroup_object_of}
 use Rattle.header.proofs.Headed.{cut_short}
-use Rattle.header.proofs.ObjectHeaders.{subgroup-cut, subgroup-ends}
+use Rattle.header.proofs.ObjectHeaders.{subgroup-stops, payload-ends}
 use Rattle.header.proofs.objects.read_subgroup_object.Goals as goal
 
-pub returns-in_default : goal.returns-in_default
+pub returns-in_err-object : goal.returns-in_err-object
 unfolding subgroup_object_of subgroup_object
-returns-in_default c = cut_short 1 _ (search stopping depth 20)
+returns-in_err-object c =
+    rw (handed c.from_residual.ensures.1) (cut_short 1 _ (search (stopping, c.in_err-object.ensures) depth 20))
 
-pub returns-in_default-read_bytes : goal.returns-in_default-read_bytes
+pub returns-in_err-extensions : goal.returns-in_err-extensions
 unfolding subgroup_object_of subgroup_object
-returns-in_default-read_bytes c = search subgroup-cut
+returns-in_err-extensions c =
+    rw (handed c.from_residual-in_err-extensions.ensures.1) (cut_short 1 _ (search (stopping, c.in_ok-object.ensures, c.in_err-extensions.ensures) depth 20))
 
-pub returns-in-Whole-read_payload : goal.returns-in-Whole-read_payload
+pub returns-in_err-payload : goal.returns-in_err-payload
 unfolding subgroup_object_of subgroup_object
-returns-in-Whole-read_payload c = search subgroup-ends
+returns-in_err-payload c =
+    rw (handed c.from_residual-in_err-payload.ensures.1)
+    (subgroup-stops (then c.in_ok-object.ensures (then c.in_ok-extensions.ensures there)) _ c.in_err-payload.ensures)
 
-pub returns-in-Cut : goal.returns-in-Cut
+pub returns : goal.returns
 unfolding subgroup_object_of subgroup_object
-returns-in-Cut c = search subgroup-ends
-
-pub returns-in-Forbidden : goal.returns-in-Forbidden
-unfolding subgroup_object_of subgroup_object
-returns-in-Forbidden c = search subgroup-ends
+returns c =
+    payload-ends (then c.in_ok-object.ensures (then c.in_ok-extensions.ensures there)) _ c.in_ok-payload.ensures

@@ -8,9 +8,9 @@ pub returns-in-0-to-1 : goal.returns-in-0-to-1
 unfolding is_object_status
 returns-in-0-to-1 c = rw (le-leb c.args.status 1 (omega arith))
 
-pub returns-in-3-to-4 : goal.returns-in-3-to-4
+pub returns-in-0-to-1-2 : goal.returns-in-0-to-1-2
 unfolding is_object_status
-returns-in-3-to-4 c =
+returns-in-0-to-1-2 c =
     let n = c.args.status in
     rw (lt-leb n 1 (omega arith), le-leb 3 n (omega arith), le-leb n 4 (omega arith))
 

@@ -1,45 +1,37 @@
 -- `read_stream` meets its contract: the type, and the header that it names. Assumes nothing.
 use mathlib.Core.Path.{refl}
-use Rattle.layout.proofs.Steps.{stopping, going}
+use Rattle.common.proofs.Exits.{handed}
+use Rattle.field.specs.declared.Fault.TheVariants.{Cut}
+use Rattle.layout.proofs.Steps.{is-no, is_whole, stopping, going}
 use Rattle.header.specs.Layouts.{fetch_header, streams}
-use Rattle.header.specs.Told.{told_lead}
 use Rattle.header.specs.Reading.{stream_of}
-use Rattle.header.proofs.Headed.{headed-cut, headed-unknown, headed-by, headed-fields, headed-short, no_stream}
+use Rattle.header.proofs.Headed.{headed-cut, headed-unknown, headed-is, no_stream}
 use Rattle.header.proofs.streams.read_stream.Goals as goal
 
-pub read_number-requires : goal.read_number-requires
+pub returns-in_err-number : goal.returns-in_err-number
+unfolding stream_of
+returns-in_err-number c = rw (handed c.from_residual.ensures.1) (headed-cut 1 streams _ c.in_err-number.ensures)
+
+pub returns-in_err-header-in-4 : goal.returns-in_err-header-in-4
+unfolding stream_of streams
+returns-in_err-header-in-4 c =
+    rw (handed c.from_residual-in_err-header-in-4.ensures.1) (headed-is 1 streams _ c.in_ok-number.ensures c.in-4.is refl c.in_err-header-in-4.ensures)
+
+pub returns-in_ok-header-in-4 : goal.returns-in_ok-header-in-4
+unfolding stream_of streams
+returns-in_ok-header-in-4 c = headed-is 1 streams _ c.in_ok-number.ensures c.in-4.is refl c.in_ok-header-in-4.ensures
+
+pub returns-in_err-id-in-5 : goal.returns-in_err-id-in-5
 unfolding stream_of streams fetch_header
-read_number-requires c = tt
+returns-in_err-id-in-5 c =
+    rw (handed c.from_residual-in_err-id-in-5.ensures.1)
+    (headed-is 1 streams _ c.in_ok-number.ensures c.in-5.is refl (is-no {fault = Cut} (search (stopping, c.in_err-id-in-5.ensures) depth 10)))
+
+pub returns-in_ok-id-in-5 : goal.returns-in_ok-id-in-5
+unfolding stream_of streams fetch_header
+returns-in_ok-id-in-5 c =
+    headed-is 1 streams _ c.in_ok-number.ensures c.in-5.is refl (is_whole (search (going, c.in_ok-id-in-5.ensures) depth 10))
 
 pub returns-in_default : goal.returns-in_default
-unfolding stream_of streams fetch_header
-returns-in_default c = search (headed-cut 1 streams)
-
-pub read_lead-requires : goal.read_lead-requires
-unfolding stream_of streams fetch_header
-read_lead-requires c = tt
-
-pub returns-in-Whole-read_lead : goal.returns-in-Whole-read_lead
-unfolding stream_of streams fetch_header
-returns-in-Whole-read_lead c = search (headed-by 1 streams told_lead)
-
-pub returns-in-Cut : goal.returns-in-Cut
-unfolding stream_of streams fetch_header
-returns-in-Cut c = search (headed-by 1 streams told_lead)
-
-pub read_number-requires-in-5 : goal.read_number-requires-in-5
-unfolding stream_of streams fetch_header
-read_number-requires-in-5 c = tt
-
-pub returns-in-Whole-read_number : goal.returns-in-Whole-read_number
-unfolding stream_of streams fetch_header
-returns-in-Whole-read_number c = headed-fields 1 streams _ c.read_number.ensures c.in-Whole.is c.in-5.is refl (search going depth 10)
-
-pub returns-in-Cut-read_number : goal.returns-in-Cut-read_number
-unfolding stream_of streams fetch_header
-returns-in-Cut-read_number c =
-    headed-short 1 streams _ c.read_number.ensures c.in-Whole.is c.in-5.is refl (search stopping depth 10)
-
-pub returns-in_default-number : goal.returns-in_default-number
-unfolding stream_of streams fetch_header
-returns-in_default-number c = search (headed-unknown 1 streams, no_stream)
+unfolding stream_of streams
+returns-in_default c = headed-unknown 1 streams _ c.in_ok-number.ensures (search no_stream)
