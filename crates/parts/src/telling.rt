@@ -6,7 +6,6 @@ ghost use Rattle.parts.specs.Advancing.{advanced};
 ghost use Rattle.parts.specs.Telling.{cut_by, cut_in, must_fill, ended_at, going, tell_number, tell_byte, tell_bytes, tell_in, next_of};
 
 use crate::{Cursor, Expected, NextPart, Part, Stage, Step, What};
-use field::NumberRead;
 use header::OBJECT_DATAGRAM_STATUS;
 use layout::FieldName;
 use outline::Outline;
@@ -65,7 +64,7 @@ impl Cursor {
     {
         let start = self.at;
         match field::read_number(s, start) {
-            NumberRead::Whole(value, end) => self.told(
+            Ok((value, end)) => self.told(
                 Part {
                     name,
                     what,
@@ -75,7 +74,7 @@ impl Cursor {
                 },
                 s.len(),
             ),
-            NumberRead::Cut => self.cut(s.len(), name, what),
+            Err(_) => self.cut(s.len(), name, what),
         }
     }
 
