@@ -9,7 +9,6 @@ ghost use Rattle.explanation_lines.specs.Lines.{part_line, cut_lines, number_lin
 use crate::clamping::{first_byte, put_margin};
 use crate::lines::{put_faulty_line, put_left_line, put_mark, put_part_line};
 use columns::{put_byte, put_bytes, put_item};
-use field::NumberRead;
 use layout::FieldName;
 use parts::{Part, What};
 use text::Item;
@@ -60,7 +59,7 @@ pub fn put_arrival(out: &mut [u8], at: usize, offset: u64, s: &[u8]) -> usize
     ensures { filling out.new result ≡ pour (filling out.old at)
         (arrival_lines offset s.now) }
 {
-    let NumberRead::Whole(alias, group_at) = field::read_number(s, 0) else {
+    let Ok((alias, group_at)) = field::read_number(s, 0) else {
         return put_cut(out, at, offset, s, FieldName::TrackAlias, 0);
     };
     let first = put_number_line(
@@ -73,7 +72,7 @@ pub fn put_arrival(out: &mut [u8], at: usize, offset: u64, s: &[u8]) -> usize
         0,
         group_at,
     );
-    let NumberRead::Whole(group, object_at) = field::read_number(s, group_at) else {
+    let Ok((group, object_at)) = field::read_number(s, group_at) else {
         return put_cut(out, first, offset, s, FieldName::GroupId, group_at);
     };
     let second = put_number_line(
@@ -101,7 +100,7 @@ fn put_last(
     ensures { filling out.new result ≡ pour (filling out.old at)
         (number_lines (name ∷ []) offset s.now start) }
 {
-    let NumberRead::Whole(n, end) = field::read_number(s, start) else {
+    let Ok((n, end)) = field::read_number(s, start) else {
         return put_cut(out, at, offset, s, name, start);
     };
     let next = put_number_line(out, at, offset, s, name, n, start, end);

@@ -41,7 +41,7 @@ fn put_shortest(out: &mut [u8], at: usize, used: usize, n: u64) -> usize
     }
     let next = put_bytes(out, at, b", shortest form ");
     let mut form = [0u8; 8];
-    integer::write(&mut form, n);
+    let _ = integer::write(&mut form, n);
     columns::put_hex(out, next, &form[..size])
 }
 

@@ -6,9 +6,8 @@ use Rattle.explanation_lines.proofs.numbers.put_last.Goals as goal
 
 pub returns-in_default : goal.returns-in_default
 unfolding number_lines
-returns-in_default c = search number_cut
+returns-in_default c = number_cut [] _ _ _ _ _ c.in_default.ensures c.put_cut.ensures
 
 pub returns : goal.returns
 unfolding number_lines
-returns c =
-    number-poured [] _ _ _ _ c.read_number.ensures _ c.in-Whole.is c.put_number_line-next.ensures c.put_left_line.ensures
+returns c = number-poured [] _ _ _ _ _ c.in-Ok.ensures c.put_number_line-next.ensures c.put_left_line.ensures
