@@ -45,6 +45,8 @@ pub data To (s : List ℕ) : Layout → ℕ → List Piece → Layout → ℕ �
   then : {name : FieldName} {form : FieldForm} {next : ℕ → Layout} {at : ℕ} {p : Piece} {mid : ℕ} {ps : List Piece} {l : Layout} {end : ℕ} → whole p mid ≡ field_at form s at → To s (next (control p)) mid ps l end → To s (field name form next) at (p ∷ ps) l end
   yes : {t : Bool} {k m : Layout} {at : ℕ} {ps : List Piece} {l : Layout} {end : ℕ} → t ≡ true → To s k at ps l end → To s (when t k m) at ps l end
   else : {t : Bool} {k m : Layout} {at : ℕ} {ps : List Piece} {l : Layout} {end : ℕ} → t ≡ false → To s m at ps l end → To s (when t k m) at ps l end
+  -- fields that another reader read, and a layout that is left of this one
+  past : {k m : Layout} {at mid : ℕ} (ps qs : List Piece) {l : Layout} {end : ℕ} → led ps (scan m s mid) ≡ scan k s at → To s m mid qs l end → To s k at (ps ++ qs) l end
 
 -- what is read after them is read after them
 pub is-on : {s : List ℕ} {k : Layout} {at : ℕ} {ps : List Piece} {l : Layout} {end : ℕ} → To s k at ps l end → led ps (scan l s end) ≡ scan k s at
@@ -53,6 +55,7 @@ is-on {s} {l} {end} there = led-none (scan l s end)
 is-on {s} {l} {end} (then {p = p} {ps = ps} e w) = rw (← e, ← is-on w) (led-one p ps (scan l s end))
 is-on (yes e w) = rw (e, ← is-on w)
 is-on (else e w) = rw (e, ← is-on w)
+is-on {s} {l} {end} (past ps qs e w) = led-led ps qs (scan l s end) ∙ ap (led ps) (is-on w) ∙ e
 
 -- and where nothing is left to be read, the reading is whole
 pub is_whole : {s : List ℕ} {k : Layout} {at : ℕ} {ps : List Piece} {end : ℕ} → To s k at ps done end → whole ps end ≡ scan k s at
@@ -67,6 +70,9 @@ pub data Stops (s : List ℕ) : Layout → ℕ → Fault → Type 0 where
   refused : {at : ℕ} → Stops s forbidden at Forbidden
   yes : {t : Bool} {l m : Layout} {at : ℕ} {fault : Fault} → t ≡ true → Stops s l at fault → Stops s (when t l m) at fault
   else : {t : Bool} {l m : Layout} {at : ℕ} {fault : Fault} → t ≡ false → Stops s m at fault → Stops s (when t l m) at fault
+  -- where another reader stopped, and after what it read
+  ends : {l : Layout} {at : ℕ} {fault : Fault} → no fault ≡ scan l s at → Stops s l at fault
+  past : {l m : Layout} {at mid : ℕ} (ps : List Piece) {fault : Fault} → led ps (scan m s mid) ≡ scan l s at → Stops s m mid fault → Stops s l at fault
 
 pub is-no : {s : List ℕ} {l : Layout} {at : ℕ} {fault : Fault} → Stops s l at fault → no fault ≡ scan l s at
 unfolding scan
@@ -75,6 +81,8 @@ is-no (later e w) = rw (← e, ← is-no w)
 is-no refused = refl
 is-no (yes e w) = rw (e, ← is-no w)
 is-no (else e w) = rw (e, ← is-no w)
+is-no (ends e) = e
+is-no (past ps e w) = ap (led ps) (is-no w) ∙ e
 
 -- ---- a reader that goes on where another came to, with the fields before
 
@@ -88,13 +96,9 @@ module _ {s : List ℕ} {k : Layout} {at : ℕ} where
     pub passed_on : {o : Outcome (List Piece)} (ps : List Piece) {l : Layout} {end : ℕ} → o ≡ led (first ++ ps) (scan l s end) → To s k at ps l end → o ≡ led first (scan k s at)
     passed_on ps {l} {end} h w = h ∙ led-led first ps (scan l s end) ∙ ap (led first) (is-on w)
 
-    -- one that stops,
+    -- and one that stops
     pub led-no : {fault : Fault} → Stops s k at fault → no fault ≡ led first (scan k s at)
     led-no w = rw (← is-no w)
-
-    -- and one that comes to the end
-    pub led-whole : (ps : List Piece) {end : ℕ} → To s k at ps done end → whole (first ++ ps) end ≡ led first (scan k s at)
-    led-whole ps w = rw (← is_whole w)
 
 -- ---- an integer, or a byte, that is known to be so much
 
