@@ -1,6 +1,9 @@
 -- One possible answer: 01's number and values of a message, and of what was read, lose nothing. Assumes nothing.
 use mathlib.Core.Path.{◌≡◌, refl}
+use Rattle.std.specs.Prelude.{ℕ, Result}
 use Rattle.common.proofs.Telling.{once}
+use Rattle.field.specs.declared.Fault.{Fault}
+use Rattle.layout.proofs.Family.{told_once}
 use Rattle.types.specs.AnnounceKinds.{type_row, number_of}
 use Rattle.announce.specs.Told.{typed_of, told}
 use Rattle.announce.proofs.Made.{kind_of, message_of}
@@ -11,8 +14,6 @@ use Rattle.types.specs.declared.kinds.AnnounceKind.{AnnounceKind}
 use Rattle.types.specs.declared.kinds.AnnounceKind.TheVariants.{Named, Asked, Refused}
 use Rattle.announce.specs.declared.AnnounceMessage.{AnnounceMessage}
 use Rattle.announce.specs.declared.AnnounceMessage.TheVariants.{Named as ANamed, Asked as AnAsked, Refused as ARefused}
-use Rattle.announce.specs.declared.AnnounceRead.{AnnounceRead}
-use Rattle.announce.specs.declared.AnnounceRead.TheVariants.{Whole, No}
 
 kind-back : (k : AnnounceKind) → kind_of (number_of k) ≡ k
 unfolding kind_of type_row
@@ -38,8 +39,5 @@ pub typed-once : (m n : AnnounceMessage) → typed_of m ≡ typed_of n → m ≡
 typed-once = once typed_of message_of message-back
 
 -- and what is told is told of one answer
-pub told-once : (a b : AnnounceRead) → told a ≡ told b → a ≡ b
-told-once (Whole m end) (Whole n last) e = cc (message-back m, message-back n)
-told-once (Whole m end) (No fault) e = cc
-told-once (No fault) (Whole n last) e = cc
-told-once (No fault) (No other) e = cc
+pub told-once : (a b : Result (AnnounceMessage × ℕ) Fault) → told a ≡ told b → a ≡ b
+told-once = told_once typed_of typed-once

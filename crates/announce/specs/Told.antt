@@ -1,11 +1,12 @@
 -- Each message as the number of its type and its fields, in the order of its layout; and what a reader answers.
-use Rattle.std.specs.Prelude.{List, [], ◌∷◌}
-use Rattle.field.specs.Outcome.{Outcome, whole, no}
+use Rattle.std.specs.Prelude.{ℕ, List, [], ◌∷◌, Result}
+use Rattle.field.specs.Outcome.{Outcome}
+use Rattle.field.specs.declared.Fault.{Fault}
 use Rattle.field.specs.declared.Kind.TheVariants.{Namespace, Parameters}
 use Rattle.field.specs.declared.Entries.{Entries}
 use Rattle.field.specs.declared.Piece.{Piece}
 use Rattle.field.specs.declared.Piece.TheVariants.{Number, Bytes, List as Listing}
-use Rattle.layout.specs.Typed.{Typed}
+use Rattle.layout.specs.Typed.{Typed, told_typed}
 use Rattle.types.specs.Table.{typed_as}
 use Rattle.types.specs.AnnounceKinds.{type_row}
 use Rattle.announce.specs.declared.Announce.{Announce}
@@ -13,8 +14,6 @@ use Rattle.announce.specs.declared.Refusal.{Refusal}
 use Rattle.types.specs.declared.kinds.AnnounceKind.TheVariants.{Named, Asked, Refused}
 use Rattle.announce.specs.declared.AnnounceMessage.{AnnounceMessage}
 use Rattle.announce.specs.declared.AnnounceMessage.TheVariants.{Named as ANamed, Asked as AnAsked, Refused as ARefused}
-use Rattle.announce.specs.declared.AnnounceRead.{AnnounceRead}
-use Rattle.announce.specs.declared.AnnounceRead.TheVariants.{Whole, No}
 
 abbrev pub named_pieces : Entries → List Piece
 named_pieces namespace = Listing Namespace namespace ∷ []
@@ -30,6 +29,5 @@ typed_of (ANamed k n) = typed_as (type_row (Named k)) (named_pieces n)
 typed_of (AnAsked k m) = typed_as (type_row (Asked k)) (asked_pieces m)
 typed_of (ARefused k m) = typed_as (type_row (Refused k)) (refused_pieces m)
 
-abbrev pub told : AnnounceRead → Outcome Typed
-told (Whole m end) = whole (typed_of m) end
-told (No fault) = no fault
+abbrev pub told : Result (AnnounceMessage × ℕ) Fault → Outcome Typed
+told = told_typed typed_of

@@ -5,7 +5,7 @@
 mod reader;
 mod writer;
 
-use field::{Entries, Failure, Fault};
+use field::{Entries, Failure};
 pub use reader::read;
 use types::kinds::{Asking, Naming, Refusing};
 pub use writer::{fields, number};
@@ -27,11 +27,4 @@ pub enum AnnounceMessage {
     Named(Naming, Entries),
     Asked(Asking, Announce),
     Refused(Refusing, Refusal),
-}
-
-// A message and where it ends, or why it is refused.
-#[derive(Clone, Copy)]
-pub enum AnnounceRead {
-    Whole(AnnounceMessage, usize),
-    No(Fault),
 }

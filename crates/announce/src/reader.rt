@@ -1,50 +1,34 @@
 // Each body is read field by field, left to right; the first fault decides.
 ghost use Rattle.std.specs.Prelude.{◌≡◌};
 ghost use Rattle.layout.specs.Layout.{scan};
-ghost use Rattle.layout.specs.Typed.{led, typed};
+ghost use Rattle.layout.specs.Typed.{typed};
 ghost use Rattle.types.specs.AnnounceKinds.{number_of, layout_of};
-ghost use Rattle.announce.specs.AfterNamespace.{rest};
-ghost use Rattle.announce.specs.Told.{named_pieces, told};
+ghost use Rattle.announce.specs.Told.{told};
 
-use crate::{Announce, AnnounceMessage, AnnounceRead, Refusal};
-use field::{Entries, FailureRead, Fault, Kind, ListRead};
+use crate::{Announce, AnnounceMessage, Refusal};
+use field::{Fault, Kind};
 use types::kinds::AnnounceKind;
 
-// The body of a message of this family, from an offset on: a namespace, and what follows it.
-pub fn read(kind: AnnounceKind, s: &[u8], at: usize) -> AnnounceRead
+// The body of a message of this family, from an offset on: a namespace, and what follows it, which is nothing,
+// parameters, or an error code and a reason.
+pub fn read(kind: AnnounceKind, s: &[u8], at: usize) -> Result<(AnnounceMessage, usize), Fault>
     ensures { told result ≡ typed (number_of kind) (scan (layout_of kind) s.now at) }
 {
-    match field::read_list(s, Kind::Namespace, at) {
-        ListRead::No(fault) => AnnounceRead::No(fault),
-        ListRead::Whole(namespace) => read_rest(kind, s, namespace),
-    }
-}
-
-// What follows a namespace: nothing, parameters, or an error code and a reason.
-fn read_rest(kind: AnnounceKind, s: &[u8], namespace: Entries) -> AnnounceRead
-    ensures { told result ≡ typed (number_of kind) (led (named_pieces namespace)
-        (scan (rest kind) s.now namespace.end)) }
-{
-    let at = namespace.end;
+    let namespace = field::read_list(s, Kind::Namespace, at)?;
     match kind {
-        AnnounceKind::Named(k) => AnnounceRead::Whole(AnnounceMessage::Named(k, namespace), at),
-        AnnounceKind::Asked(k) => match field::read_list(s, Kind::Parameters, at) {
-            ListRead::No(fault) => AnnounceRead::No(fault),
-            ListRead::Whole(parameters) => {
-                let m = Announce {
-                    namespace,
-                    parameters,
-                };
-                AnnounceRead::Whole(AnnounceMessage::Asked(k, m), parameters.end)
-            }
-        },
-        AnnounceKind::Refused(k) => {
-            let FailureRead::Whole(failure) = field::read_failure(s, at) else {
-                return AnnounceRead::No(Fault::Cut);
+        AnnounceKind::Named(k) => Ok((AnnounceMessage::Named(k, namespace), namespace.end)),
+        AnnounceKind::Asked(k) => {
+            let parameters = field::read_list(s, Kind::Parameters, namespace.end)?;
+            let m = Announce {
+                namespace,
+                parameters,
             };
-            let reason = failure.reason;
+            Ok((AnnounceMessage::Asked(k, m), parameters.end))
+        }
+        AnnounceKind::Refused(k) => {
+            let failure = field::read_failure(s, namespace.end)?;
             let m = Refusal { namespace, failure };
-            AnnounceRead::Whole(AnnounceMessage::Refused(k, m), reason.end)
+            Ok((AnnounceMessage::Refused(k, m), failure.reason.end))
         }
     }
 }

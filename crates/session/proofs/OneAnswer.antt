@@ -1,12 +1,13 @@
 -- One possible answer: 01's number and values of a message, and of what was read, lose nothing. Assumes nothing.
 use mathlib.Core.Path.{◌≡◌, refl}
+use Rattle.std.specs.Prelude.{ℕ, Result}
 use Rattle.common.proofs.Telling.{once}
+use Rattle.field.specs.declared.Fault.{Fault}
+use Rattle.layout.proofs.Family.{told_once}
 use Rattle.session.specs.Told.{typed_of, told}
 use Rattle.session.proofs.Made.{message_of}
 use Rattle.session.specs.declared.SessionMessage.{SessionMessage}
 use Rattle.session.specs.declared.SessionMessage.TheVariants.{ClientSetup, ServerSetup, GoAway}
-use Rattle.session.specs.declared.SessionRead.{SessionRead}
-use Rattle.session.specs.declared.SessionRead.TheVariants.{Whole, No}
 
 -- the message that is made of what was said is the one that said it,
 pub message-back : (m : SessionMessage) → message_of (typed_of m) ≡ m
@@ -20,8 +21,5 @@ pub typed-once : (m n : SessionMessage) → typed_of m ≡ typed_of n → m ≡ 
 typed-once = once typed_of message_of message-back
 
 -- and what is told is told of one answer
-pub told-once : (a b : SessionRead) → told a ≡ told b → a ≡ b
-told-once (Whole m end) (Whole n last) e = cc (message-back m, message-back n)
-told-once (Whole m end) (No fault) e = cc
-told-once (No fault) (Whole n last) e = cc
-told-once (No fault) (No other) e = cc
+pub told-once : (a b : Result (SessionMessage × ℕ) Fault) → told a ≡ told b → a ≡ b
+told-once = told_once typed_of typed-once

@@ -4,7 +4,7 @@
 mod reader;
 mod writer;
 
-use field::{Entries, Fault, Span};
+use field::{Entries, Span};
 pub use reader::read;
 pub use writer::{fields, number};
 
@@ -26,11 +26,4 @@ pub enum SessionMessage {
     ClientSetup(ClientSetup),
     ServerSetup(ServerSetup),
     GoAway(Span),
-}
-
-// A message and where it ends, or why it is refused.
-#[derive(Clone, Copy)]
-pub enum SessionRead {
-    Whole(SessionMessage, usize),
-    No(Fault),
 }
