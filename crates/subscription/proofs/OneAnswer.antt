@@ -1,8 +1,10 @@
 -- One possible answer: a message is put together again from what it says, so what it says, and what an answer says, loses nothing.
 -- Assumes nothing.
-use mathlib.Core.Path.{◌≡◌, refl, sym}
+use mathlib.Core.Path.{◌≡◌, refl}
+use Rattle.std.specs.Prelude.{ℕ, Result}
 use Rattle.common.proofs.Telling.{once}
-use Rattle.field.proofs.Unjudged.{apart}
+use Rattle.field.specs.declared.Fault.{Fault}
+use Rattle.layout.proofs.Family.{told_once}
 use Rattle.subscription.specs.Told.{typed_of, told}
 use Rattle.subscription.proofs.Made.{message_of}
 use Rattle.subscription.specs.declared.Filter.{Filter}
@@ -13,8 +15,6 @@ use Rattle.subscription.specs.declared.Subscribe.{Subscribe}
 use Rattle.subscription.specs.declared.SubscribeOk.{SubscribeOk}
 use Rattle.subscription.specs.declared.SubscriptionMessage.{SubscriptionMessage}
 use Rattle.subscription.specs.declared.SubscriptionMessage.TheVariants.{SubscribeUpdate as ASubscribeUpdate, Subscribe as ASubscribe, SubscribeOk as ASubscribeOk, SubscribeError as ASubscribeError, Unsubscribe as AUnsubscribe, SubscribeDone as ASubscribeDone, MaxSubscribeId as AMaxSubscribeId, SubscribesBlocked as ASubscribesBlocked}
-use Rattle.subscription.specs.declared.SubscriptionRead.{SubscriptionRead}
-use Rattle.subscription.specs.declared.SubscriptionRead.TheVariants.{Whole, No}
 
 -- ---- a message that is made of its fields is the one that has them
 
@@ -47,8 +47,5 @@ pub typed-once : (m n : SubscriptionMessage) → typed_of m ≡ typed_of n → m
 typed-once = once typed_of message_of message-back
 
 -- and what is told is told of one answer
-pub told-once : (a b : SubscriptionRead) → told a ≡ told b → a ≡ b
-told-once (Whole m e) (Whole n f) h = let same = typed-once m n (cc) in cc
-told-once (Whole m e) (No f) h = absurd (apart h)
-told-once (No f) (Whole n e) h = absurd (apart (sym h))
-told-once (No f) (No g) h = cc
+pub told-once : (a b : Result (SubscriptionMessage × ℕ) Fault) → told a ≡ told b → a ≡ b
+told-once = told_once typed_of typed-once

@@ -1,15 +1,12 @@
 -- Each message as the number of its type and its fields, in the order of its layout; and what a reader answers.
-use Rattle.std.specs.Prelude.{List, [], ◌∷◌, ◌++◌}
-use Rattle.field.specs.Outcome.{Outcome, whole, no}
+use Rattle.std.specs.Prelude.{ℕ, List, [], ◌∷◌, ◌++◌, Result}
+use Rattle.field.specs.Outcome.{Outcome}
+use Rattle.field.specs.declared.Fault.{Fault}
 use Rattle.field.specs.declared.Kind.TheVariants.{Parameters}
 use Rattle.field.specs.declared.Piece.{Piece}
 use Rattle.field.specs.declared.Piece.TheVariants.{Number, Byte, Bytes, List as Listing, Track as Tracked}
-use Rattle.layout.specs.Typed.{Typed}
+use Rattle.layout.specs.Typed.{Typed, told_typed}
 use Rattle.types.specs.Table.{typed_as, max_subscribe_id_row, subscribes_blocked_row, subscribe_row, subscribe_ok_row, subscribe_error_row, unsubscribe_row, subscribe_update_row, subscribe_done_row}
-use Rattle.subscription.specs.declared.parameters.Head.{Head}
-use Rattle.subscription.specs.declared.parameters.Granted.{Granted}
-use Rattle.subscription.specs.declared.parameters.Front.{Front}
-use Rattle.subscription.specs.declared.parameters.Front.TheVariants.{SubscribeUpdate as FrontOfUpdate, Subscribe as FrontOfSubscribe, SubscribeOk as FrontOfOk}
 use Rattle.subscription.specs.declared.Filter.{Filter}
 use Rattle.subscription.specs.declared.Filter.TheVariants.{Latest, From, Range}
 use Rattle.subscription.specs.declared.Content.{Content}
@@ -21,13 +18,8 @@ use Rattle.subscription.specs.declared.SubscribeUpdate.{SubscribeUpdate}
 use Rattle.subscription.specs.declared.SubscribeDone.{SubscribeDone}
 use Rattle.subscription.specs.declared.SubscriptionMessage.{SubscriptionMessage}
 use Rattle.subscription.specs.declared.SubscriptionMessage.TheVariants.{SubscribeUpdate as ASubscribeUpdate, Subscribe as ASubscribe, SubscribeOk as ASubscribeOk, SubscribeError as ASubscribeError, Unsubscribe as AUnsubscribe, SubscribeDone as ASubscribeDone, MaxSubscribeId as AMaxSubscribeId, SubscribesBlocked as ASubscribesBlocked}
-use Rattle.subscription.specs.declared.SubscriptionRead.{SubscriptionRead}
-use Rattle.subscription.specs.declared.SubscriptionRead.TheVariants.{Whole, No}
 
 -- ---- SUBSCRIBE
-
-abbrev pub head_pieces : Head → List Piece
-head_pieces h = Number h.id ∷ Number h.alias ∷ Tracked h.track ∷ Byte h.priority ∷ Byte h.order ∷ []
 
 abbrev pub filter_pieces : Filter → List Piece
 filter_pieces Latest = Number 2 ∷ []
@@ -40,9 +32,6 @@ subscribe_pieces m =
     ∷ (filter_pieces m.filter ++ Listing Parameters m.parameters ∷ [])
 
 -- ---- SUBSCRIBE_OK
-
-abbrev pub granted_pieces : Granted → List Piece
-granted_pieces g = Number g.id ∷ Number g.expires ∷ Byte g.order ∷ []
 
 abbrev pub content_pieces : Content → List Piece
 content_pieces Nothing = Byte 0 ∷ []
@@ -76,15 +65,5 @@ typed_of (ASubscribeDone m) = typed_as subscribe_done_row (done_pieces m)
 typed_of (AMaxSubscribeId id) = typed_as max_subscribe_id_row (Number id ∷ [])
 typed_of (ASubscribesBlocked id) = typed_as subscribes_blocked_row (Number id ∷ [])
 
-abbrev pub told : SubscriptionRead → Outcome Typed
-told (Whole m end) = whole (typed_of m) end
-told (No fault) = no fault
-
--- ---- what a reader hands on: what stands before the parameters
-
-abbrev pub front_of : Front → Typed
-front_of (FrontOfUpdate id start end_group priority) =
-    typed_as subscribe_update_row
-    (Number id ∷ Number start.group ∷ Number start.object ∷ Number end_group ∷ Byte priority ∷ [])
-front_of (FrontOfSubscribe head filter) = typed_as subscribe_row (head_pieces head ++ filter_pieces filter)
-front_of (FrontOfOk granted content) = typed_as subscribe_ok_row (granted_pieces granted ++ content_pieces content)
+abbrev pub told : Result (SubscriptionMessage × ℕ) Fault → Outcome Typed
+told = told_typed typed_of

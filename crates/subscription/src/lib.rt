@@ -2,11 +2,10 @@
 #![tactic(auto)]
 
 mod name;
-mod parameters;
 mod reader;
 mod writer;
 
-use field::{Entries, Failure, Fault, Place, Span, Track};
+use field::{Entries, Failure, Place, Span, Track};
 pub use name::name_of;
 pub use reader::read;
 pub use writer::{fields, is_allowed, number};
@@ -82,11 +81,4 @@ pub enum SubscriptionMessage {
     SubscribeDone(SubscribeDone),
     MaxSubscribeId(u64),
     SubscribesBlocked(u64),
-}
-
-// A message and where it ends, or why it is refused.
-#[derive(Clone, Copy)]
-pub enum SubscriptionRead {
-    Whole(SubscriptionMessage, usize),
-    No(Fault),
 }

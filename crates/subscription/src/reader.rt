@@ -1,26 +1,22 @@
 // Each body is read field by field, left to right; the first fault decides.
-ghost use Rattle.std.specs.Prelude.{◌≡◌, [], ◌∷◌, ◌++◌};
-ghost use Rattle.field.specs.declared.Piece.TheVariants.{Number, Track as Tracked};
+ghost use Rattle.std.specs.Prelude.{◌≡◌};
 ghost use Rattle.layout.specs.Layout.{scan};
-ghost use Rattle.layout.specs.Typed.{led, typed};
-ghost use Rattle.types.specs.Subscriptions.{subscribe, delivery, filter, ending, subscribe_ok, content, subscribe_error, subscribe_update, subscribe_done};
+ghost use Rattle.layout.specs.Typed.{before_parameters, typed};
+ghost use Rattle.types.specs.Subscriptions.{subscribe, filter, subscribe_ok, content, subscribe_error, subscribe_update, subscribe_done};
 ghost use Rattle.types.specs.Table.{subscribe_row, subscribe_ok_row, subscribe_error_row, subscribe_update_row, subscribe_done_row};
 ghost use Rattle.types.specs.SubscriptionKinds.{number_of, layout_of};
-ghost use Rattle.subscription.specs.Told.{head_pieces, granted_pieces, told};
+ghost use Rattle.subscription.specs.Told.{filter_pieces, content_pieces, told};
 
-use crate::parameters::{Front, Granted, Head, read_parameters};
 use crate::{
-    Content, Filter, SubscribeDone, SubscribeError, SubscriptionMessage as Message,
-    SubscriptionRead as Answer,
+    Content, Filter, Subscribe, SubscribeDone, SubscribeError, SubscribeOk, SubscribeUpdate,
+    SubscriptionMessage as Message,
 };
-use field::{
-    ByteRead, BytesRead, FailureRead, Fault, NumberRead, Place, PlaceRead, Track, TrackRead,
-};
+use field::{Fault, Kind};
 use types::ends_after;
 use types::kinds::SubscriptionKind;
 
 // The body of a message of this family, from an offset on.
-pub fn read(kind: SubscriptionKind, s: &[u8], at: usize) -> Answer
+pub fn read(kind: SubscriptionKind, s: &[u8], at: usize) -> Result<(Message, usize), Fault>
     ensures { told result ≡ typed (number_of kind) (scan (layout_of kind) s.now at) }
 {
     match kind {
@@ -28,211 +24,153 @@ pub fn read(kind: SubscriptionKind, s: &[u8], at: usize) -> Answer
         SubscriptionKind::Subscribe => read_subscribe(s, at),
         SubscriptionKind::SubscribeOk => read_ok(s, at),
         SubscriptionKind::SubscribeError => read_error(s, at),
-        SubscriptionKind::Unsubscribe => match field::read_number(s, at) {
-            NumberRead::Whole(id, end) => Answer::Whole(Message::Unsubscribe(id), end),
-            NumberRead::Cut => Answer::No(Fault::Cut),
-        },
+        SubscriptionKind::Unsubscribe => {
+            let (id, end) = field::read_number(s, at)?;
+            Ok((Message::Unsubscribe(id), end))
+        }
         SubscriptionKind::SubscribeDone => read_done(s, at),
-        SubscriptionKind::MaxSubscribeId => match field::read_number(s, at) {
-            NumberRead::Whole(id, end) => Answer::Whole(Message::MaxSubscribeId(id), end),
-            NumberRead::Cut => Answer::No(Fault::Cut),
-        },
-        SubscriptionKind::SubscribesBlocked => match field::read_number(s, at) {
-            NumberRead::Whole(id, end) => Answer::Whole(Message::SubscribesBlocked(id), end),
-            NumberRead::Cut => Answer::No(Fault::Cut),
-        },
+        SubscriptionKind::MaxSubscribeId => {
+            let (maximum, end) = field::read_number(s, at)?;
+            Ok((Message::MaxSubscribeId(maximum), end))
+        }
+        SubscriptionKind::SubscribesBlocked => {
+            let (maximum, end) = field::read_number(s, at)?;
+            Ok((Message::SubscribesBlocked(maximum), end))
+        }
     }
 }
 
 // SUBSCRIBE_UPDATE.
-fn read_update(s: &[u8], at: usize) -> Answer
+fn read_update(s: &[u8], at: usize) -> Result<(Message, usize), Fault>
     ensures { told result ≡ typed subscribe_update_row.number (scan subscribe_update s.now at) }
 {
-    let NumberRead::Whole(id, a) = field::read_number(s, at) else {
-        return Answer::No(Fault::Cut);
+    let (id, a) = field::read_number(s, at)?;
+    let (start, b) = field::read_place(s, a)?;
+    let (end_group, c) = field::read_number(s, b)?;
+    let (priority, d) = field::read_byte(s, c)?;
+    let parameters = field::read_list(s, Kind::Parameters, d)?;
+    let m = SubscribeUpdate {
+        id,
+        start,
+        end_group,
+        priority,
+        parameters,
     };
-    let PlaceRead::Whole(start, b) = field::read_place(s, a) else {
-        return Answer::No(Fault::Cut);
-    };
-    let NumberRead::Whole(end_group, c) = field::read_number(s, b) else {
-        return Answer::No(Fault::Cut);
-    };
-    let ByteRead::Whole(priority, d) = field::read_byte(s, c) else {
-        return Answer::No(Fault::Cut);
-    };
-    read_parameters(s, d, Front::SubscribeUpdate(id, start, end_group, priority))
+    Ok((Message::SubscribeUpdate(m), parameters.end))
 }
 
-// SUBSCRIBE: the names that it goes by, then how it is to be delivered and what it asks for.
-fn read_subscribe(s: &[u8], at: usize) -> Answer
+// SUBSCRIBE.
+fn read_subscribe(s: &[u8], at: usize) -> Result<(Message, usize), Fault>
     ensures { told result ≡ typed subscribe_row.number (scan subscribe s.now at) }
 {
-    let NumberRead::Whole(id, a) = field::read_number(s, at) else {
-        return Answer::No(Fault::Cut);
-    };
-    let NumberRead::Whole(alias, b) = field::read_number(s, a) else {
-        return Answer::No(Fault::Cut);
-    };
-    match field::read_track(s, b) {
-        TrackRead::No(fault) => Answer::No(fault),
-        TrackRead::Whole(track) => {
-            let name = track.name;
-            let c = name.end;
-            read_delivery(s, c, id, alias, track)
-        }
-    }
-}
-
-// The priority and the group order, after the names.
-fn read_delivery(s: &[u8], at: usize, id: u64, alias: u64, track: Track) -> Answer
-    ensures { told result ≡ typed subscribe_row.number (led (Number id ∷ Number alias ∷ Tracked track ∷ [])
-        (scan delivery s.now at)) }
-{
-    let ByteRead::Whole(priority, a) = field::read_byte(s, at) else {
-        return Answer::No(Fault::Cut);
-    };
-    let ByteRead::Whole(order, b) = field::read_byte(s, a) else {
-        return Answer::No(Fault::Cut);
-    };
+    let (id, a) = field::read_number(s, at)?;
+    let (alias, b) = field::read_number(s, a)?;
+    let track = field::read_track(s, b)?;
+    let (priority, c) = field::read_byte(s, track.name.end)?;
+    let (order, d) = field::read_byte(s, c)?;
     if !field::is_askable(order) {
-        return Answer::No(Fault::Forbidden);
+        return Err(Fault::Forbidden);
     }
-    read_filter(
-        s,
-        b,
-        Head {
-            id,
-            alias,
-            track,
-            priority,
-            order,
-        },
-    )
+    let (filter, e) = read_filter(s, d)?;
+    let parameters = field::read_list(s, Kind::Parameters, e)?;
+    let m = Subscribe {
+        id,
+        alias,
+        track,
+        priority,
+        order,
+        filter,
+        parameters,
+    };
+    Ok((Message::Subscribe(m), parameters.end))
 }
 
-// What the filter type says is asked for.
-fn read_filter(s: &[u8], at: usize, head: Head) -> Answer
-    ensures { told result ≡ typed subscribe_row.number (led (head_pieces head) (scan filter s.now at)) }
+// The filter type, and what it says is asked for. An end group is judged by the start.
+fn read_filter(s: &[u8], at: usize) -> Result<(Filter, usize), Fault>
+    ensures { before_parameters filter_pieces s.now result ≡ scan filter s.now at }
 {
-    let NumberRead::Whole(kind, a) = field::read_number(s, at) else {
-        return Answer::No(Fault::Cut);
-    };
+    let (kind, a) = field::read_number(s, at)?;
     match kind {
-        2 => read_parameters(s, a, Front::Subscribe(head, Filter::Latest)),
+        2 => Ok((Filter::Latest, a)),
         3 => {
-            let PlaceRead::Whole(start, b) = field::read_place(s, a) else {
-                return Answer::No(Fault::Cut);
-            };
-            read_parameters(s, b, Front::Subscribe(head, Filter::From(start)))
+            let (start, b) = field::read_place(s, a)?;
+            Ok((Filter::From(start), b))
         }
         4 => {
-            let PlaceRead::Whole(start, b) = field::read_place(s, a) else {
-                return Answer::No(Fault::Cut);
-            };
-            read_ending(s, b, head, start)
+            let (start, b) = field::read_place(s, a)?;
+            let (end_group, c) = field::read_number(s, b)?;
+            if !ends_after(start.group, end_group) {
+                return Err(Fault::Forbidden);
+            }
+            Ok((Filter::Range(start, end_group), c))
         }
-        _ => Answer::No(Fault::Forbidden),
+        _ => Err(Fault::Forbidden),
     }
 }
 
-// The end group, judged by the start.
-fn read_ending(s: &[u8], at: usize, head: Head, start: Place) -> Answer
-    ensures { told result ≡ typed subscribe_row.number
-        (led (head_pieces head ++ Number 4 ∷ Number start.group ∷ Number start.object ∷ [])
-        (scan (ending start.group) s.now at)) }
-{
-    let NumberRead::Whole(end_group, a) = field::read_number(s, at) else {
-        return Answer::No(Fault::Cut);
-    };
-    if !ends_after(start.group, end_group) {
-        return Answer::No(Fault::Forbidden);
-    }
-    read_parameters(
-        s,
-        a,
-        Front::Subscribe(head, Filter::Range(start, end_group)),
-    )
-}
-
-// SUBSCRIBE_OK: what stands before the content, then whether there is some.
-fn read_ok(s: &[u8], at: usize) -> Answer
+// SUBSCRIBE_OK.
+fn read_ok(s: &[u8], at: usize) -> Result<(Message, usize), Fault>
     ensures { told result ≡ typed subscribe_ok_row.number (scan subscribe_ok s.now at) }
 {
-    let NumberRead::Whole(id, a) = field::read_number(s, at) else {
-        return Answer::No(Fault::Cut);
-    };
-    let NumberRead::Whole(expires, b) = field::read_number(s, a) else {
-        return Answer::No(Fault::Cut);
-    };
-    let ByteRead::Whole(order, c) = field::read_byte(s, b) else {
-        return Answer::No(Fault::Cut);
-    };
+    let (id, a) = field::read_number(s, at)?;
+    let (expires, b) = field::read_number(s, a)?;
+    let (order, c) = field::read_byte(s, b)?;
     if !field::is_givable(order) {
-        return Answer::No(Fault::Forbidden);
+        return Err(Fault::Forbidden);
     }
-    read_content(s, c, Granted { id, expires, order })
+    let (content, d) = read_content(s, c)?;
+    let parameters = field::read_list(s, Kind::Parameters, d)?;
+    let m = SubscribeOk {
+        id,
+        expires,
+        order,
+        content,
+        parameters,
+    };
+    Ok((Message::SubscribeOk(m), parameters.end))
 }
 
 // Whether content exists, and then the largest place.
-fn read_content(s: &[u8], at: usize, granted: Granted) -> Answer
-    ensures { told result ≡ typed subscribe_ok_row.number
-        (led (granted_pieces granted) (scan content s.now at)) }
+fn read_content(s: &[u8], at: usize) -> Result<(Content, usize), Fault>
+    ensures { before_parameters content_pieces s.now result ≡ scan content s.now at }
 {
-    let ByteRead::Whole(exists, a) = field::read_byte(s, at) else {
-        return Answer::No(Fault::Cut);
-    };
+    let (exists, a) = field::read_byte(s, at)?;
     match exists {
-        0 => read_parameters(s, a, Front::SubscribeOk(granted, Content::Nothing)),
+        0 => Ok((Content::Nothing, a)),
         1 => {
-            let PlaceRead::Whole(largest, b) = field::read_place(s, a) else {
-                return Answer::No(Fault::Cut);
-            };
-            read_parameters(s, b, Front::SubscribeOk(granted, Content::Largest(largest)))
+            let (largest, b) = field::read_place(s, a)?;
+            Ok((Content::Largest(largest), b))
         }
-        _ => Answer::No(Fault::Forbidden),
+        _ => Err(Fault::Forbidden),
     }
 }
 
 // SUBSCRIBE_ERROR.
-fn read_error(s: &[u8], at: usize) -> Answer
+fn read_error(s: &[u8], at: usize) -> Result<(Message, usize), Fault>
     ensures { told result ≡ typed subscribe_error_row.number (scan subscribe_error s.now at) }
 {
-    let NumberRead::Whole(id, a) = field::read_number(s, at) else {
-        return Answer::No(Fault::Cut);
-    };
-    let FailureRead::Whole(failure) = field::read_failure(s, a) else {
-        return Answer::No(Fault::Cut);
-    };
-    let reason = failure.reason;
-    let b = reason.end;
-    let NumberRead::Whole(alias, end) = field::read_number(s, b) else {
-        return Answer::No(Fault::Cut);
-    };
-    let m = SubscribeError { id, failure, alias };
-    Answer::Whole(Message::SubscribeError(m), end)
+    let (id, a) = field::read_number(s, at)?;
+    let failure = field::read_failure(s, a)?;
+    let (alias, end) = field::read_number(s, failure.reason.end)?;
+    Ok((
+        Message::SubscribeError(SubscribeError { id, failure, alias }),
+        end,
+    ))
 }
 
 // SUBSCRIBE_DONE.
-fn read_done(s: &[u8], at: usize) -> Answer
+fn read_done(s: &[u8], at: usize) -> Result<(Message, usize), Fault>
     ensures { told result ≡ typed subscribe_done_row.number (scan subscribe_done s.now at) }
 {
-    let NumberRead::Whole(id, a) = field::read_number(s, at) else {
-        return Answer::No(Fault::Cut);
-    };
-    let NumberRead::Whole(status, b) = field::read_number(s, a) else {
-        return Answer::No(Fault::Cut);
-    };
-    let NumberRead::Whole(streams, c) = field::read_number(s, b) else {
-        return Answer::No(Fault::Cut);
-    };
-    let BytesRead::Whole(reason) = field::read_bytes(s, c) else {
-        return Answer::No(Fault::Cut);
-    };
+    let (id, a) = field::read_number(s, at)?;
+    let (status, b) = field::read_number(s, a)?;
+    let (streams, c) = field::read_number(s, b)?;
+    let reason = field::read_bytes(s, c)?;
     let m = SubscribeDone {
         id,
         status,
         streams,
         reason,
     };
-    Answer::Whole(Message::SubscribeDone(m), reason.end)
+    Ok((Message::SubscribeDone(m), reason.end))
 }

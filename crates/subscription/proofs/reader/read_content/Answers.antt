@@ -1,25 +1,25 @@
 -- `read_content` meets its contract. Assumes nothing.
-use Rattle.layout.proofs.Family.{behind-no, behind-on}
-use Rattle.layout.proofs.Steps.{byte-as, byte-past-as, stopping, going}
+use Rattle.common.proofs.Exits.{handed}
+use Rattle.layout.proofs.Steps.{is-on, is-no, byte-as, byte-past-as, stopping, going}
 use Rattle.types.specs.Subscriptions.{content}
 use Rattle.subscription.proofs.reader.read_content.Goals as goal
 
-pub returns-in_default : goal.returns-in_default
+pub returns-in_err-exists : goal.returns-in_err-exists
 unfolding content
-returns-in_default c = search (behind-no, stopping) depth 20
+returns-in_err-exists c = rw (handed c.from_residual.ensures.1) (is-no (search (stopping, c.in_err-exists.ensures) depth 20))
 
-pub returns-in_default-read_place : goal.returns-in_default-read_place
+pub returns-in_err-largest-in-1 : goal.returns-in_err-largest-in-1
 unfolding content
-returns-in_default-read_place c = search (behind-no, byte-past-as, stopping) depth 20
+returns-in_err-largest-in-1 c = rw (handed c.from_residual-in_err-largest-in-1.ensures.1) (is-no (search (byte-past-as, stopping, c.in_ok-exists.ensures, c.in_err-largest-in-1.ensures) depth 20))
 
 pub returns-in-0 : goal.returns-in-0
 unfolding content
-returns-in-0 c = search (behind-on, byte-as, going) depth 20
+returns-in-0 c = search (is-on, byte-as, going, c.in_ok-exists.ensures) depth 20
 
-pub returns-in-Whole-read_place : goal.returns-in-Whole-read_place
+pub returns-in_ok-largest-in-1 : goal.returns-in_ok-largest-in-1
 unfolding content
-returns-in-Whole-read_place c = search (behind-on, byte-as, going) depth 20
+returns-in_ok-largest-in-1 c = search (is-on, byte-as, going, c.in_ok-exists.ensures, c.in_ok-largest-in-1.ensures) depth 20
 
-pub returns-in_default-exists : goal.returns-in_default-exists
+pub returns-in_default : goal.returns-in_default
 unfolding content
-returns-in_default-exists c = search (behind-no, stopping) depth 20
+returns-in_default c = is-no (search (stopping, c.in_ok-exists.ensures) depth 20)

@@ -1,25 +1,35 @@
 -- `read_ok` meets its contract. Assumes nothing.
-use Rattle.layout.proofs.Family.{typed_no, typed-on}
-use Rattle.layout.proofs.Steps.{stopping, going}
+use Rattle.common.proofs.Exits.{handed}
+use Rattle.layout.specs.Layout.{parameters}
+use Rattle.layout.proofs.Family.{typed_no, typed-whole}
+use Rattle.layout.proofs.Steps.{To, Stops, ends, stopping, going}
 use Rattle.types.specs.Subscriptions.{subscribe_ok}
 use Rattle.subscription.proofs.reader.read_ok.Goals as goal
 
-pub returns-in_default : goal.returns-in_default
-unfolding subscribe_ok
-returns-in_default c = typed_no _ (search stopping depth 20)
+pub returns-in_err-id : goal.returns-in_err-id
+unfolding subscribe_ok parameters
+returns-in_err-id c = rw (handed c.from_residual.ensures.1) (typed_no _ (search (stopping, c.in_err-id.ensures) depth 20))
 
-pub returns-in_default-read_number : goal.returns-in_default-read_number
-unfolding subscribe_ok
-returns-in_default-read_number c = typed_no _ (search stopping depth 20)
+pub returns-in_err-expires : goal.returns-in_err-expires
+unfolding subscribe_ok parameters
+returns-in_err-expires c = rw (handed c.from_residual-in_err-expires.ensures.1) (typed_no _ (search (stopping, c.in_ok-id.ensures, c.in_err-expires.ensures) depth 20))
 
-pub returns-in_default-read_byte : goal.returns-in_default-read_byte
-unfolding subscribe_ok
-returns-in_default-read_byte c = typed_no _ (search stopping depth 20)
+pub returns-in_err-order : goal.returns-in_err-order
+unfolding subscribe_ok parameters
+returns-in_err-order c = rw (handed c.from_residual-in_err-order.ensures.1) (typed_no _ (search (stopping, c.in_ok-id.ensures, c.in_ok-expires.ensures, c.in_err-order.ensures) depth 20))
 
 pub returns-then-not-is_givable : goal.returns-then-not-is_givable
-unfolding subscribe_ok
-returns-then-not-is_givable c = typed_no _ (search stopping depth 20)
+unfolding subscribe_ok parameters
+returns-then-not-is_givable c = typed_no _ (search (stopping, c.in_ok-id.ensures, c.in_ok-expires.ensures, c.in_ok-order.ensures) depth 20)
+
+pub returns-in_err-content : goal.returns-in_err-content
+unfolding subscribe_ok parameters
+returns-in_err-content c = rw (handed c.from_residual-in_err-content.ensures.1) (typed_no _ (search (stopping, ends, c.in_ok-id.ensures, c.in_ok-expires.ensures, c.in_ok-order.ensures, c.in_err-content.ensures) depth 20))
+
+pub returns-in_err-parameters : goal.returns-in_err-parameters
+unfolding subscribe_ok parameters
+returns-in_err-parameters c = rw (handed c.from_residual-in_err-parameters.ensures.1) (typed_no _ (search (stopping, Stops.past, c.in_ok-id.ensures, c.in_ok-expires.ensures, c.in_ok-order.ensures, c.in_ok-content.ensures, c.in_err-parameters.ensures) depth 20))
 
 pub returns : goal.returns
-unfolding subscribe_ok
-returns c = search (typed-on, going) depth 20
+unfolding subscribe_ok parameters
+returns c = typed-whole _ (search (going, To.past, c.in_ok-id.ensures, c.in_ok-expires.ensures, c.in_ok-order.ensures, c.in_ok-content.ensures, c.in_ok-parameters.ensures) depth 20)

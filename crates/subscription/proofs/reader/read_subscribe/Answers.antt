@@ -1,21 +1,43 @@
 -- `read_subscribe` meets its contract. Assumes nothing.
-use Rattle.layout.proofs.Family.{typed_no, typed-on}
-use Rattle.layout.proofs.Steps.{stopping, going}
-use Rattle.types.specs.Subscriptions.{subscribe}
+use Rattle.common.proofs.Exits.{handed}
+use Rattle.layout.specs.Layout.{parameters}
+use Rattle.layout.proofs.Family.{typed_no, typed-whole}
+use Rattle.layout.proofs.Steps.{To, Stops, ends, stopping, going}
+use Rattle.types.specs.Subscriptions.{subscribe, delivery}
 use Rattle.subscription.proofs.reader.read_subscribe.Goals as goal
 
-pub returns-in_default : goal.returns-in_default
-unfolding subscribe
-returns-in_default c = typed_no _ (search stopping depth 20)
+pub returns-in_err-id : goal.returns-in_err-id
+unfolding subscribe delivery parameters
+returns-in_err-id c = rw (handed c.from_residual.ensures.1) (typed_no _ (search (stopping, c.in_err-id.ensures) depth 20))
 
-pub returns-in_default-read_number : goal.returns-in_default-read_number
-unfolding subscribe
-returns-in_default-read_number c = typed_no _ (search stopping depth 20)
+pub returns-in_err-alias : goal.returns-in_err-alias
+unfolding subscribe delivery parameters
+returns-in_err-alias c = rw (handed c.from_residual-in_err-alias.ensures.1) (typed_no _ (search (stopping, c.in_ok-id.ensures, c.in_err-alias.ensures) depth 20))
 
-pub returns-in-No : goal.returns-in-No
-unfolding subscribe
-returns-in-No c = typed_no _ (search stopping depth 20)
+pub returns-in_err-track : goal.returns-in_err-track
+unfolding subscribe delivery parameters
+returns-in_err-track c = rw (handed c.from_residual-in_err-track.ensures.1) (typed_no _ (search (stopping, c.in_ok-id.ensures, c.in_ok-alias.ensures, c.in_err-track.ensures) depth 20))
 
-pub returns-in-Whole-read_track : goal.returns-in-Whole-read_track
-unfolding subscribe
-returns-in-Whole-read_track c = search (typed-on, going) depth 20
+pub returns-in_err-priority : goal.returns-in_err-priority
+unfolding subscribe delivery parameters
+returns-in_err-priority c = rw (handed c.from_residual-in_err-priority.ensures.1) (typed_no _ (search (stopping, c.in_ok-id.ensures, c.in_ok-alias.ensures, c.in_ok-track.ensures, c.in_err-priority.ensures) depth 20))
+
+pub returns-in_err-order : goal.returns-in_err-order
+unfolding subscribe delivery parameters
+returns-in_err-order c = rw (handed c.from_residual-in_err-order.ensures.1) (typed_no _ (search (stopping, c.in_ok-id.ensures, c.in_ok-alias.ensures, c.in_ok-track.ensures, c.in_ok-priority.ensures, c.in_err-order.ensures) depth 20))
+
+pub returns-then-not-is_askable : goal.returns-then-not-is_askable
+unfolding subscribe delivery parameters
+returns-then-not-is_askable c = typed_no _ (search (stopping, c.in_ok-id.ensures, c.in_ok-alias.ensures, c.in_ok-track.ensures, c.in_ok-priority.ensures, c.in_ok-order.ensures) depth 20)
+
+pub returns-in_err-filter : goal.returns-in_err-filter
+unfolding subscribe delivery parameters
+returns-in_err-filter c = rw (handed c.from_residual-in_err-filter.ensures.1) (typed_no _ (search (stopping, ends, c.in_ok-id.ensures, c.in_ok-alias.ensures, c.in_ok-track.ensures, c.in_ok-priority.ensures, c.in_ok-order.ensures, c.in_err-filter.ensures) depth 20))
+
+pub returns-in_err-parameters : goal.returns-in_err-parameters
+unfolding subscribe delivery parameters
+returns-in_err-parameters c = rw (handed c.from_residual-in_err-parameters.ensures.1) (typed_no _ (search (stopping, Stops.past, c.in_ok-id.ensures, c.in_ok-alias.ensures, c.in_ok-track.ensures, c.in_ok-priority.ensures, c.in_ok-order.ensures, c.in_ok-filter.ensures, c.in_err-parameters.ensures) depth 20))
+
+pub returns : goal.returns
+unfolding subscribe delivery parameters
+returns c = typed-whole _ (search (going, To.past, c.in_ok-id.ensures, c.in_ok-alias.ensures, c.in_ok-track.ensures, c.in_ok-priority.ensures, c.in_ok-order.ensures, c.in_ok-filter.ensures, c.in_ok-parameters.ensures) depth 20)
