@@ -2,9 +2,10 @@
 -- again, each field by its position. Assumes nothing.
 use mathlib.Core.Path.{◌≡◌, refl, ap}
 use mathlib.Core.Bool.{Bool, true, false}
+use Rattle.std.specs.Prelude.{ℕ, Result}
 use Rattle.common.proofs.Telling.{once}
-use Rattle.field.specs.Outcome.{Outcome, whole, no}
-use Rattle.layout.specs.Typed.{Typed}
+use Rattle.field.specs.declared.Fault.{Fault}
+use Rattle.layout.proofs.Family.{told_once}
 use Rattle.fetch.specs.Told.{fetch_pieces, typed_of, told}
 use Rattle.fetch.proofs.Made.{fetch_of, message_of}
 use Rattle.fetch.specs.declared.Range.{Range}
@@ -12,13 +13,6 @@ use Rattle.fetch.specs.declared.Range.TheVariants.{Standalone, Joining}
 use Rattle.fetch.specs.declared.Fetch.{Fetch}
 use Rattle.fetch.specs.declared.FetchMessage.{FetchMessage}
 use Rattle.fetch.specs.declared.FetchMessage.TheVariants.{Fetch as AFetch, FetchOk as AFetchOk, FetchError as AFetchError, FetchCancel as AFetchCancel, TrackStatusRequest as ATrackStatusRequest, TrackStatus as ATrackStatus}
-use Rattle.fetch.specs.declared.FetchRead.{FetchRead}
-use Rattle.fetch.specs.declared.FetchRead.TheVariants.{Whole, No}
-
--- the answer that says so
-answer_of : Outcome Typed → FetchRead
-answer_of (whole t end) = Whole (message_of t) end
-answer_of (no fault) = No fault
 
 -- ---- it is the one that was told
 
@@ -32,7 +26,7 @@ fetch-back m (Joining j) e = go j.absolute refl
     go true f = rw (e, f)
     go false f = rw (e, f)
 
--- a message,
+-- and a message
 pub message-back : (m : FetchMessage) → message_of (typed_of m) ≡ m
 unfolding message_of
 message-back (AFetch m) = ap AFetch (fetch-back m m.range refl)
@@ -42,18 +36,12 @@ message-back (AFetchCancel id) = refl
 message-back (ATrackStatusRequest t) = refl
 message-back (ATrackStatus m) = refl
 
--- and an answer
-answer_back : (a : FetchRead) → answer_of (told a) ≡ a
-unfolding answer_of
-answer_back (Whole m end) = rw message-back
-answer_back (No fault) = refl
-
 -- ---- so nothing is lost
 
 -- a type and fields are those of one message,
 pub typed-once : (m n : FetchMessage) → typed_of m ≡ typed_of n → m ≡ n
 typed-once = once typed_of message_of message-back
 
--- and what is answered is answered in one way
-pub told-once : (a b : FetchRead) → told a ≡ told b → a ≡ b
-told-once = once told answer_of answer_back
+-- and what is told is told of one answer
+pub told-once : (a b : Result (FetchMessage × ℕ) Fault) → told a ≡ told b → a ≡ b
+told-once = told_once typed_of typed-once

@@ -1,15 +1,13 @@
 -- Each message as the number of its type and its fields, in the order of its layout; and what a reader answers.
-use Rattle.std.specs.Prelude.{ℕ, List, [], ◌∷◌, ◌++◌, Bool}
+use Rattle.std.specs.Prelude.{ℕ, List, [], ◌∷◌, ◌++◌, Bool, Result}
 use Rattle.common.specs.Choice.{pick}
-use Rattle.field.specs.Outcome.{Outcome, whole, no}
+use Rattle.field.specs.Outcome.{Outcome}
+use Rattle.field.specs.declared.Fault.{Fault}
 use Rattle.field.specs.declared.Kind.TheVariants.{Parameters}
 use Rattle.field.specs.declared.Piece.{Piece}
 use Rattle.field.specs.declared.Piece.TheVariants.{Number, Byte, Bytes, List as Listing, Track as Tracked}
-use Rattle.layout.specs.Typed.{Typed}
+use Rattle.layout.specs.Typed.{Typed, told_typed}
 use Rattle.types.specs.Table.{typed_as, fetch_row, fetch_ok_row, fetch_error_row, fetch_cancel_row, track_status_request_row, track_status_row}
-use Rattle.fetch.specs.declared.parameters.Head.{Head}
-use Rattle.fetch.specs.declared.parameters.Front.{Front}
-use Rattle.fetch.specs.declared.parameters.Front.TheVariants.{Fetch as FrontOfFetch, FetchOk as FrontOfOk}
 use Rattle.fetch.specs.declared.Range.{Range}
 use Rattle.fetch.specs.declared.Range.TheVariants.{Standalone, Joining}
 use Rattle.fetch.specs.declared.Fetch.{Fetch}
@@ -18,11 +16,6 @@ use Rattle.fetch.specs.declared.FetchError.{FetchError}
 use Rattle.fetch.specs.declared.TrackStatus.{TrackStatus}
 use Rattle.fetch.specs.declared.FetchMessage.{FetchMessage}
 use Rattle.fetch.specs.declared.FetchMessage.TheVariants.{Fetch as AFetch, FetchOk as AFetchOk, FetchError as AFetchError, FetchCancel as AFetchCancel, TrackStatusRequest as ATrackStatusRequest, TrackStatus as ATrackStatus}
-use Rattle.fetch.specs.declared.FetchRead.{FetchRead}
-use Rattle.fetch.specs.declared.FetchRead.TheVariants.{Whole, No}
-
-abbrev pub head_pieces : Head → List Piece
-head_pieces h = Number h.id ∷ Byte h.priority ∷ Byte h.order ∷ []
 
 -- the fetch type of a joining fetch
 abbrev pub joining_type : Bool → ℕ
@@ -60,14 +53,5 @@ typed_of (AFetchCancel id) = typed_as fetch_cancel_row (Number id ∷ [])
 typed_of (ATrackStatusRequest t) = typed_as track_status_request_row (Tracked t ∷ [])
 typed_of (ATrackStatus m) = typed_as track_status_row (status_pieces m)
 
-abbrev pub told : FetchRead → Outcome Typed
-told (Whole m end) = whole (typed_of m) end
-told (No fault) = no fault
-
--- ---- what a reader hands on: what stands before the parameters
-
-abbrev pub front_of : Front → Typed
-front_of (FrontOfFetch head range) = typed_as fetch_row (head_pieces head ++ range_pieces range)
-front_of (FrontOfOk id order end_of_track largest) =
-    typed_as fetch_ok_row
-    (Number id ∷ Byte order ∷ Byte end_of_track ∷ Number largest.group ∷ Number largest.object ∷ [])
+abbrev pub told : Result (FetchMessage × ℕ) Fault → Outcome Typed
+told = told_typed typed_of

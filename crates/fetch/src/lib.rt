@@ -2,11 +2,10 @@
 #![tactic(auto)]
 
 mod name;
-mod parameters;
 mod reader;
 mod writer;
 
-use field::{Entries, Failure, Fault, Place, Track};
+use field::{Entries, Failure, Place, Track};
 pub use name::name_of;
 pub use reader::read;
 pub use writer::{fields, is_allowed, number};
@@ -73,11 +72,4 @@ pub enum FetchMessage {
     FetchCancel(u64),
     TrackStatusRequest(Track),
     TrackStatus(TrackStatus),
-}
-
-// A message and where it ends, or why it is refused.
-#[derive(Clone, Copy)]
-pub enum FetchRead {
-    Whole(FetchMessage, usize),
-    No(Fault),
 }

@@ -1,29 +1,35 @@
 -- `read_ok` meets its contract. Assumes nothing.
-use Rattle.layout.proofs.Family.{typed_no, typed-on}
+use Rattle.common.proofs.Exits.{handed}
+use Rattle.layout.specs.Layout.{parameters}
+use Rattle.layout.proofs.Family.{typed_no, typed-whole}
 use Rattle.layout.proofs.Steps.{stopping, going}
 use Rattle.types.specs.Fetches.{fetch_ok}
 use Rattle.fetch.proofs.reader.read_ok.Goals as goal
 
-pub returns-in_default : goal.returns-in_default
-unfolding fetch_ok
-returns-in_default c = typed_no _ (search stopping depth 20)
+pub returns-in_err-id : goal.returns-in_err-id
+unfolding fetch_ok parameters
+returns-in_err-id c = rw (handed c.from_residual.ensures.1) (typed_no _ (search (stopping, c.in_err-id.ensures) depth 20))
 
-pub returns-in_default-read_byte : goal.returns-in_default-read_byte
-unfolding fetch_ok
-returns-in_default-read_byte c = typed_no _ (search stopping depth 20)
+pub returns-in_err-order : goal.returns-in_err-order
+unfolding fetch_ok parameters
+returns-in_err-order c = rw (handed c.from_residual-in_err-order.ensures.1) (typed_no _ (search (stopping, c.in_ok-id.ensures, c.in_err-order.ensures) depth 20))
 
 pub returns-then-not-is_givable : goal.returns-then-not-is_givable
-unfolding fetch_ok
-returns-then-not-is_givable c = typed_no _ (search stopping depth 20)
+unfolding fetch_ok parameters
+returns-then-not-is_givable c = typed_no _ (search (stopping, c.in_ok-id.ensures, c.in_ok-order.ensures) depth 20)
 
-pub returns-in_default-read_byte-2 : goal.returns-in_default-read_byte-2
-unfolding fetch_ok
-returns-in_default-read_byte-2 c = typed_no _ (search stopping depth 20)
+pub returns-in_err-end_of_track : goal.returns-in_err-end_of_track
+unfolding fetch_ok parameters
+returns-in_err-end_of_track c = rw (handed c.from_residual-in_err-end_of_track.ensures.1) (typed_no _ (search (stopping, c.in_ok-id.ensures, c.in_ok-order.ensures, c.in_err-end_of_track.ensures) depth 20))
 
-pub returns-in_default-read_place : goal.returns-in_default-read_place
-unfolding fetch_ok
-returns-in_default-read_place c = typed_no _ (search stopping depth 20)
+pub returns-in_err-largest : goal.returns-in_err-largest
+unfolding fetch_ok parameters
+returns-in_err-largest c = rw (handed c.from_residual-in_err-largest.ensures.1) (typed_no _ (search (stopping, c.in_ok-id.ensures, c.in_ok-order.ensures, c.in_ok-end_of_track.ensures, c.in_err-largest.ensures) depth 20))
+
+pub returns-in_err-parameters : goal.returns-in_err-parameters
+unfolding fetch_ok parameters
+returns-in_err-parameters c = rw (handed c.from_residual-in_err-parameters.ensures.1) (typed_no _ (search (stopping, c.in_ok-id.ensures, c.in_ok-order.ensures, c.in_ok-end_of_track.ensures, c.in_ok-largest.ensures, c.in_err-parameters.ensures) depth 20))
 
 pub returns : goal.returns
-unfolding fetch_ok
-returns c = search (typed-on, going) depth 20
+unfolding fetch_ok parameters
+returns c = typed-whole _ (search (going, c.in_ok-id.ensures, c.in_ok-order.ensures, c.in_ok-end_of_track.ensures, c.in_ok-largest.ensures, c.in_ok-parameters.ensures) depth 20)
