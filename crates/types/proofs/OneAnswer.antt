@@ -89,7 +89,7 @@ pub told-once : (a b : Option Kind) → told_type a ≡ told_type b → a ≡ b
 told-once = once told_type found_of found_back
 
 -- the refusal that has a number, or the last where none has
-pub refusal_of : ℕ → Refusal
+unfoldable pub refusal_of : ℕ → Refusal
 refusal_of number =
     pick (eqb number 1) More (pick (eqb number 2) Unknown (pick (eqb number 3) TooLong
     (pick (eqb number 4) Unfilled (pick (eqb number 5) Forbidden Oversize))))
