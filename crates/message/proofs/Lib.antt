@@ -1,6 +1,5 @@
 pub mod Made
 pub mod Bodies
-pub mod BodyEnd
 pub mod Front
 pub mod Answers
 pub mod Stable

@@ -1,7 +1,6 @@
 -- The message that a type and fields say, and the answer that says so.
 use Prim.Native.Nat.{ℕ}
-use lib.Dec.{eqb}
-use Rattle.common.specs.Choice.{pick}
+use Rattle.std.specs.Prelude.{Ok, Err}
 use Rattle.common.specs.Answer.{Answer, whole as answered, refused}
 use Rattle.layout.specs.Typed.{Typed}
 use Rattle.types.specs.Table.{Family, sessions, subscriptions, fetches, announces, on_listed, type_row_of}
@@ -9,10 +8,10 @@ use Rattle.subscription.proofs.Made.{message_of as subscription_of}
 use Rattle.fetch.proofs.Made.{message_of as fetch_of}
 use Rattle.announce.proofs.Made.{message_of as announce_of}
 use Rattle.session.proofs.Made.{message_of as session_of}
+use Rattle.types.proofs.OneAnswer.{refusal_of}
+use Rattle.message.specs.Reading.{Reading}
 use Rattle.message.specs.declared.Message.{Message}
 use Rattle.message.specs.declared.Message.TheVariants.{Subscription, Fetch, Announce, Session}
-use Rattle.message.specs.declared.Reading.{Reading}
-use Rattle.message.specs.declared.Reading.TheVariants.{Whole, More, Unknown, TooLong, Unfilled, Forbidden, Oversize}
 
 -- the family whose a type is; of a number that is no type, any
 unfoldable pub family_of : ℕ → Family
@@ -29,11 +28,6 @@ unfoldable pub message_of : Typed → Message
 message_of t = message_by (family_of t.type) t
 
 -- and the answer that says so
-abbrev pub refusal_of : ℕ → Reading
-refusal_of n =
-    pick (eqb n 1) More
-    (pick (eqb n 2) Unknown (pick (eqb n 3) TooLong (pick (eqb n 4) Unfilled (pick (eqb n 5) Forbidden Oversize))))
-
 unfoldable pub answer_of : Answer Typed → Reading
-answer_of (answered t used) = Whole (message_of t) used
-answer_of (refused n) = refusal_of n
+answer_of (answered t used) = Ok (message_of t, used)
+answer_of (refused n) = Err (refusal_of n)

@@ -3,7 +3,9 @@
 use Prim.Native.Nat.{ℕ}
 use mathlib.Core.Path.{◌≡◌, refl, sym, ◌∙◌}
 use mathlib.Core.List.{List}
+use Rattle.std.specs.Prelude.{Ok, Err}
 use Rattle.common.proofs.Telling.{once}
+use Rattle.types.proofs.OneAnswer.{refusal_back}
 use Rattle.types.specs.Table.{sessions, subscriptions, fetches, announces, messages, type_row_in, type_row_of}
 use Rattle.subscription.proofs.OneAnswer.{message-back as subscription-back}
 use Rattle.subscription.specs.Told.{typed_of as subscription_typed}
@@ -27,11 +29,9 @@ use Rattle.session.specs.declared.SessionMessage.{SessionMessage}
 use Rattle.session.specs.declared.SessionMessage.TheVariants as session
 use Rattle.message.specs.Types.{typed_of}
 use Rattle.message.proofs.Made.{family_of, message_of, answer_of}
-use Rattle.message.specs.Reading.{read_of, told}
+use Rattle.message.specs.Reading.{Reading, read_of, told}
 use Rattle.message.specs.declared.Message.{Message}
 use Rattle.message.specs.declared.Message.TheVariants.{Subscription, Fetch, Announce, Session}
-use Rattle.message.specs.declared.Reading.{Reading}
-use Rattle.message.specs.declared.Reading.TheVariants.{Whole, More, Unknown, TooLong, Unfilled, Forbidden, Oversize}
 
 -- ---- the families, by the numbers of their types
 
@@ -87,13 +87,8 @@ message-back (Session m) = rw (of-session m, session-back m)
 -- and an answer
 pub answer_back : (a : Reading) → answer_of (told a) ≡ a
 unfolding answer_of
-answer_back (Whole m used) = rw message-back
-answer_back More = refl
-answer_back Unknown = refl
-answer_back TooLong = refl
-answer_back Unfilled = refl
-answer_back Forbidden = refl
-answer_back Oversize = refl
+answer_back (Ok (m, used)) = rw message-back
+answer_back (Err r) = rw refusal_back
 
 -- ---- so nothing is lost
 

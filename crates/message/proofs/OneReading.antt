@@ -6,6 +6,7 @@ use mathlib.Core.List.{List, [], ◌∷◌}
 use native.Mathlib.Omega.{arith}
 use borrow.Author.Tests.{eqb-true}
 use lib.Dec.{eqb}
+use Rattle.std.specs.Prelude.{Err}
 use Rattle.common.specs.Answer.{Answer, whole as answered, refused}
 use Rattle.common.proofs.Cases.{pick-by}
 use Rattle.field.specs.Outcome.{Outcome, whole, no}
@@ -30,11 +31,11 @@ use Rattle.types.specs.declared.kinds.Refusing.TheVariants as refusing
 use Rattle.types.specs.SessionKinds.{type_row as session_row}
 use Rattle.session.proofs.Made.{made-says as session-says}
 use Rattle.types.specs.declared.kinds.SessionKind.TheVariants as session
+use Rattle.types.proofs.OneAnswer.{refusal_of}
 use Rattle.message.specs.Types.{typed_of}
 use Rattle.types.specs.Limits.{longest_body}
-use Rattle.message.specs.Reading.{filled_by, read_up_to, told}
-use Rattle.message.specs.declared.Reading.{Reading}
-use Rattle.message.proofs.Made.{family_of, message_of, refusal_of, answer_of}
+use Rattle.message.specs.Reading.{Reading, filled_by, read_up_to, told}
+use Rattle.message.proofs.Made.{family_of, message_of, answer_of}
 use Rattle.message.proofs.Front.{Stops, no-type, unknown, no_length, too_long, missing, Judged, stopped, present, judged}
 use Rattle.message.proofs.OneAnswer.{answer_back}
 
@@ -112,7 +113,8 @@ said-back type s at {ps} {end} = go (type_row_in messages type) refl
 
 -- ---- so what is answered is told
 
-stop-told : {limit : ℕ} {s : List ℕ} {n : ℕ} → Stops limit s n → told (refusal_of n) ≡ refused n
+stop-told : {limit : ℕ} {s : List ℕ} {n : ℕ} → Stops limit s n → told (Err (refusal_of n)) ≡ refused n
+unfolding refusal_of
 stop-told (no-type e) = refl
 stop-told (unknown e k) = refl
 stop-told (no_length e k f) = refl
@@ -120,7 +122,7 @@ stop-told (too_long h long) = refl
 stop-told (missing h short room) = refl
 
 body-told : (end type : ℕ) (s : List ℕ) (at : ℕ) (o : Outcome (List Piece)) → o ≡ scan (layout_of type) s at → told (answer_of (filled_by end (typed type o))) ≡ filled_by end (typed type o)
-unfolding answer_of
+unfolding answer_of refusal_of
 body-told end type s at (whole ps last) h =
     pick-by (λ a. told (answer_of a) ≡ a) (eqb last end) (λ e. ap (λ t. answered t end) (said-back type s at (sym h))) (λ e. refl)
 body-told end type s at (no Cut) h = refl

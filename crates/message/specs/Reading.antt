@@ -1,20 +1,19 @@
 -- What reading a control message answers: "Type, known or not; Length, at most" 65,000; "whole body present; fields
 -- left to right, the first fault deciding; no byte left over".
-use Rattle.std.specs.Prelude.{ℕ, ◌+◌, ◌-◌, List, length, take, leb, eqb}
+use Rattle.std.specs.Prelude.{ℕ, ◌+◌, ◌-◌, List, length, take, leb, eqb, Result, Ok, Err}
 use Rattle.common.specs.Choice.{guard}
 use Rattle.common.specs.Answer.{Answer, whole as answered, refused}
 use Rattle.field.specs.Outcome.{Outcome, whole, no, on_found, fault_number}
 use Rattle.field.specs.Entries.{number_at}
+use Rattle.field.specs.declared.Fault.{Fault}
 use Rattle.layout.specs.Layout.{scan}
-use Rattle.layout.specs.Typed.{Typed, typed}
+use Rattle.layout.specs.Typed.{Typed, typed, told_typed}
 use Rattle.types.specs.Limits.{longest_body}
+use Rattle.types.specs.Refusals.{number_of}
+use Rattle.types.specs.declared.Refusal.{Refusal}
 use Rattle.types.specs.Table.{known, layout_of}
 use Rattle.message.specs.Types.{typed_of}
-use Rattle.message.specs.declared.BodyRead.{BodyRead}
-use Rattle.message.specs.declared.BodyRead.TheVariants.{Whole as WholeBody, No as NoBody}
 use Rattle.message.specs.declared.Message.{Message}
-use Rattle.message.specs.declared.Reading.{Reading}
-use Rattle.message.specs.declared.Reading.TheVariants.{Whole, More, Unknown, TooLong, Unfilled, Forbidden, Oversize}
 
 -- the longest message whose body takes up to a limit: its body, after a Type and a Length of eight bytes each
 abbrev pub longest_up_to : ℕ → ℕ
@@ -50,25 +49,19 @@ read_of s = read_up_to longest_body s
 
 -- ---- 01's number and values of what is answered
 
+-- a message and the bytes that it took, or why there is none
+abbrev pub Reading : Type 0
+Reading = Result (Message × ℕ) Refusal
+
 abbrev pub told : Reading → Answer Typed
-told (Whole m used) = answered (typed_of m) used
-told More = refused 1
-told Unknown = refused 2
-told TooLong = refused 3
-told Unfilled = refused 4
-told Forbidden = refused 5
-told Oversize = refused 6
+told (Ok (m, used)) = answered (typed_of m) used
+told (Err r) = refused (number_of r)
 
 -- "Only a whole message reaches the ledger; every other reading ends there": what is done with it, and what else
 abbrev pub on_whole : {A : Type 0} → Reading → A → (Message → ℕ → A) → A
-on_whole (Whole m used) rest taken = taken m used
-on_whole More rest taken = rest
-on_whole Unknown rest taken = rest
-on_whole TooLong rest taken = rest
-on_whole Unfilled rest taken = rest
-on_whole Forbidden rest taken = rest
-on_whole Oversize rest taken = rest
+on_whole (Ok (m, used)) rest taken = taken m used
+on_whole (Err r) rest taken = rest
 
-abbrev pub told_body : BodyRead → Outcome Typed
-told_body (WholeBody m end) = whole (typed_of m) end
-told_body (NoBody fault) = no fault
+-- and a body's
+abbrev pub told_body : Result (Message × ℕ) Fault → Outcome Typed
+told_body = told_typed typed_of

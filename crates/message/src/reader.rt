@@ -5,84 +5,57 @@ ghost use Rattle.layout.specs.Layout.{scan};
 ghost use Rattle.layout.specs.Typed.{typed};
 ghost use Rattle.types.specs.Table.{layout_of};
 ghost use Rattle.types.specs.Kinds.{number_of};
-ghost use Rattle.message.specs.Reading.{told, told_body, filled_by, read_of};
+ghost use Rattle.message.specs.Reading.{told, told_body, read_of};
 
-use crate::{BodyRead, Message, Reading};
-use announce::AnnounceRead;
-use fetch::FetchRead;
-use field::{Fault, NumberRead};
-use session::SessionRead;
-use subscription::SubscriptionRead;
-use types::LONGEST_BODY;
+use crate::Message;
+use field::Fault;
 use types::kinds::Kind;
+use types::{LONGEST_BODY, Refusal};
 
-pub fn read(s: &[u8]) -> Reading
+// A message and how many bytes it took.
+pub fn read(s: &[u8]) -> Result<(Message, usize), Refusal>
     ensures { told result ≡ read_of s.now }
 {
-    let NumberRead::Whole(number, a) = field::read_number(s, 0) else {
-        return Reading::More;
-    };
+    let (number, a) = field::read_number(s, 0)?;
     let Some(kind) = types::type_of(number) else {
-        return Reading::Unknown;
+        return Err(Refusal::Unknown);
     };
-    let NumberRead::Whole(length, b) = field::read_number(s, a) else {
-        return Reading::More;
-    };
+    let (length, b) = field::read_number(s, a)?;
     if length > LONGEST_BODY as u64 {
-        return Reading::TooLong;
+        return Err(Refusal::TooLong);
     }
     let left = s.len() - b;
     if length > left as u64 {
-        return Reading::More;
+        return Err(Refusal::More);
     }
     let end = b + length as usize;
-    filled(read_body(kind, &s[..end], b), end)
-}
-
-// The body, which must end where the fields do.
-#[tactic(auto, using(crate::proofs::BodyEnd::fillings))]
-fn filled(body: BodyRead, end: usize) -> Reading
-    ensures { told result ≡ filled_by end (told_body body) }
-{
-    match body {
-        BodyRead::Whole(m, last) => {
-            if last == end {
-                return Reading::Whole(m, end);
-            } else {
-                return Reading::Unfilled;
-            }
-        }
-        BodyRead::No(fault) => match fault {
-            Fault::Cut => return Reading::Unfilled,
-            Fault::Forbidden => return Reading::Forbidden,
-            Fault::Oversize => return Reading::Oversize,
-        },
+    let (m, last) = read_body(kind, &s[..end], b)?;
+    if last != end {
+        return Err(Refusal::Unfilled);
     }
+    Ok((m, end))
 }
 
-// The fields of a body, by the kind of its message.
-fn read_body(kind: Kind, s: &[u8], at: usize) -> BodyRead
+// The fields of a body, by the kind of its message, and where they end.
+fn read_body(kind: Kind, s: &[u8], at: usize) -> Result<(Message, usize), Fault>
     ensures { told_body result ≡ typed (number_of kind) (scan (layout_of (number_of kind)) s.now at) }
 {
     match kind {
-        Kind::Subscription(k) => match subscription::read(k, s, at) {
-            SubscriptionRead::Whole(m, end) => return BodyRead::Whole(
-                Message::Subscription(m),
-                end,
-            ),
-            SubscriptionRead::No(fault) => return BodyRead::No(fault),
-        },
-        Kind::Fetch(k) => match fetch::read(k, s, at) {
-            FetchRead::Whole(m, end) => return BodyRead::Whole(Message::Fetch(m), end),
-            FetchRead::No(fault) => return BodyRead::No(fault),
-        },
-        Kind::Announce(k) => match announce::read(k, s, at) {
-            AnnounceRead::Whole(m, end) => return BodyRead::Whole(Message::Announce(m), end),
-            AnnounceRead::No(fault) => return BodyRead::No(fault),
-        },
-        Kind::Session(k) => match session::read(k, s, at) {
-            SessionRead::Whole(m, end) => return BodyRead::Whole(Message::Session(m), end),
-            SessionRead::No(fault) => return BodyRead::No(fault),
-        },
+        Kind::Subscription(k) => {
+            let (m, end) = subscription::read(k, s, at)?;
+            Ok((Message::Subscription(m), end))
+        }
+        Kind::Fetch(k) => {
+            let (m, end) = fetch::read(k, s, at)?;
+            Ok((Message::Fetch(m), end))
+        }
+        Kind::Announce(k) => {
+            let (m, end) = announce::read(k, s, at)?;
+            Ok((Message::Announce(m), end))
+        }
+        Kind::Session(k) => {
+            let (m, end) = session::read(k, s, at)?;
+            Ok((Message::Session(m), end))
+        }
     }
 }
