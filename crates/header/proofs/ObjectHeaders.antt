@@ -3,14 +3,15 @@ use Prim.Native.Nat.{ℕ}
 use mathlib.Core.Path.{◌≡◌, ap, ◌∙◌}
 use mathlib.Core.List.{List, ◌++◌}
 use Rattle.std.specs.Prelude.{Ok, Err}
-use Rattle.common.specs.Answer.{whole as answered}
+use Rattle.common.specs.Answer.{whole as answered, refused}
 use Rattle.field.specs.Outcome.{Outcome, answer}
 use Rattle.field.specs.declared.Piece.{Piece}
 use Rattle.layout.specs.Layout.{Layout, scan}
 use Rattle.layout.specs.Typed.{led}
 use Rattle.layout.proofs.Steps.{To, is-on}
 use Rattle.header.specs.Layouts.{payload}
-use Rattle.header.specs.Told.{payload_pieces, told_payload, told_subgroup_object, told_fetch_object}
+use Rattle.header.specs.Faults.{object_number}
+use Rattle.header.specs.Told.{payload_pieces, told_payload}
 use Rattle.header.specs.declared.Payload.{Payload}
 use Rattle.header.specs.declared.ObjectFault.{ObjectFault}
 use Rattle.header.specs.declared.ObjectFault.TheVariants.{More, Forbidden}
@@ -21,13 +22,9 @@ module _ {s : List ℕ} {l : Layout} {ps : List Piece} {mid : ℕ} (before : To 
   payload-decides e = ap (λ x. answer 1 (led ps x)) e ∙ ap (answer 1) (is-on before)
 
   -- it is refused,
-  pub subgroup-stops : (fault : ObjectFault) → told_payload (Err fault) ≡ scan payload s mid → told_subgroup_object (Err fault) ≡ answer 1 (scan l s 0)
-  subgroup-stops More e = payload-decides e
-  subgroup-stops Forbidden e = payload-decides e
-
-  pub fetch-stops : (fault : ObjectFault) → told_payload (Err fault) ≡ scan payload s mid → told_fetch_object (Err fault) ≡ answer 1 (scan l s 0)
-  fetch-stops More e = payload-decides e
-  fetch-stops Forbidden e = payload-decides e
+  pub payload-stops : (fault : ObjectFault) → told_payload (Err fault) ≡ scan payload s mid → refused (object_number fault) ≡ answer 1 (scan l s 0)
+  payload-stops More e = payload-decides e
+  payload-stops Forbidden e = payload-decides e
 
   -- or it is there
   pub payload-ends : (p : Payload) {end : ℕ} → told_payload (Ok (p, end)) ≡ scan payload s mid → answered (ps ++ payload_pieces p) end ≡ answer 1 (scan l s 0)

@@ -11,6 +11,7 @@ use Rattle.field.specs.declared.Piece.{Piece}
 use Rattle.field.specs.declared.Piece.TheVariants.{Number, Byte, Bytes}
 use Rattle.layout.specs.Typed.{Typed}
 use Rattle.header.specs.Layouts.{object_datagram_row, object_datagram_status_row, subgroup_header_row, fetch_header_row, typed_as}
+use Rattle.header.specs.Faults.{datagram_number, stream_number, object_number}
 use Rattle.header.specs.declared.ObjectDatagram.{ObjectDatagram}
 use Rattle.header.specs.declared.Datagram.{Datagram}
 use Rattle.header.specs.declared.Datagram.TheVariants.{Object, Status as WithStatus}
@@ -22,9 +23,7 @@ use Rattle.header.specs.declared.Payload.TheVariants.{Length, Status}
 use Rattle.header.specs.declared.SubgroupObject.{SubgroupObject}
 use Rattle.header.specs.declared.FetchObject.{FetchObject}
 use Rattle.header.specs.declared.DatagramFault.{DatagramFault}
-use Rattle.header.specs.declared.DatagramFault.TheVariants.{Unknown as UnknownDatagram, Cut as CutDatagram, Forbidden as ForbiddenDatagram}
 use Rattle.header.specs.declared.StreamFault.{StreamFault}
-use Rattle.header.specs.declared.StreamFault.TheVariants.{More as MoreStream, Unknown as UnknownStream}
 use Rattle.header.specs.declared.ObjectFault.{ObjectFault}
 use Rattle.header.specs.declared.ObjectFault.TheVariants.{More as MoreObject, Forbidden as ForbiddenObject}
 
@@ -59,28 +58,21 @@ fetch_object_pieces o =
 
 -- ---- 01's number and values of what is answered
 
--- "in a datagram, which is always whole, it answers 4"
 abbrev pub told_datagram : Result (Datagram × ℕ) DatagramFault → Answer Typed
 told_datagram (Ok (d, used)) = answered (datagram_typed d) used
-told_datagram (Err UnknownDatagram) = refused 2
-told_datagram (Err CutDatagram) = refused 4
-told_datagram (Err ForbiddenDatagram) = refused 5
+told_datagram (Err fault) = refused (datagram_number fault)
 
--- "On a stream, a cut header answers 1"
 abbrev pub told_stream : Result (StreamHeader × ℕ) StreamFault → Answer Typed
 told_stream (Ok (h, used)) = answered (stream_typed h) used
-told_stream (Err MoreStream) = refused 1
-told_stream (Err UnknownStream) = refused 2
+told_stream (Err fault) = refused (stream_number fault)
 
 abbrev pub told_subgroup_object : Result (SubgroupObject × ℕ) ObjectFault → Answer (List Piece)
 told_subgroup_object (Ok (o, used)) = answered (subgroup_object_pieces o) used
-told_subgroup_object (Err MoreObject) = refused 1
-told_subgroup_object (Err ForbiddenObject) = refused 5
+told_subgroup_object (Err fault) = refused (object_number fault)
 
 abbrev pub told_fetch_object : Result (FetchObject × ℕ) ObjectFault → Answer (List Piece)
 told_fetch_object (Ok (o, used)) = answered (fetch_object_pieces o) used
-told_fetch_object (Err MoreObject) = refused 1
-told_fetch_object (Err ForbiddenObject) = refused 5
+told_fetch_object (Err fault) = refused (object_number fault)
 
 -- ---- what the readers of their parts answer
 

@@ -9,6 +9,7 @@ ghost use Rattle.header.specs.declared.ObjectFault.TheVariants.{More as MoreOfOb
 
 pub mod arrivals;
 mod datagrams;
+mod faults;
 mod objects;
 mod rules;
 mod streams;

@@ -4,7 +4,7 @@ use Rattle.layout.proofs.Steps.{there, then, stopping}
 use Rattle.header.specs.Layouts.{fetch_object}
 use Rattle.header.specs.Reading.{fetch_object_of}
 use Rattle.header.proofs.Headed.{cut_short}
-use Rattle.header.proofs.ObjectHeaders.{fetch-stops, payload-ends}
+use Rattle.header.proofs.ObjectHeaders.{payload-stops, payload-ends}
 use Rattle.header.proofs.objects.read_fetch_object.Goals as goal
 
 pub returns-in_err-group : goal.returns-in_err-group
@@ -36,7 +36,7 @@ pub returns-in_err-payload : goal.returns-in_err-payload
 unfolding fetch_object_of fetch_object
 returns-in_err-payload c =
     rw (handed c.from_residual-in_err-payload.ensures.1)
-    (fetch-stops (then c.in_ok-group.ensures (then c.in_ok-subgroup.ensures (then c.in_ok-object.ensures (then c.in_ok-priority.ensures (then c.in_ok-extensions.ensures there))))) _ c.in_err-payload.ensures)
+    (payload-stops (then c.in_ok-group.ensures (then c.in_ok-subgroup.ensures (then c.in_ok-object.ensures (then c.in_ok-priority.ensures (then c.in_ok-extensions.ensures there))))) _ c.in_err-payload.ensures)
 
 pub returns : goal.returns
 unfolding fetch_object_of fetch_object

@@ -4,7 +4,7 @@ use Rattle.layout.proofs.Steps.{there, then, stopping}
 use Rattle.header.specs.Layouts.{subgroup_object}
 use Rattle.header.specs.Reading.{subgroup_object_of}
 use Rattle.header.proofs.Headed.{cut_short}
-use Rattle.header.proofs.ObjectHeaders.{subgroup-stops, payload-ends}
+use Rattle.header.proofs.ObjectHeaders.{payload-stops, payload-ends}
 use Rattle.header.proofs.objects.read_subgroup_object.Goals as goal
 
 pub returns-in_err-object : goal.returns-in_err-object
@@ -21,7 +21,7 @@ pub returns-in_err-payload : goal.returns-in_err-payload
 unfolding subgroup_object_of subgroup_object
 returns-in_err-payload c =
     rw (handed c.from_residual-in_err-payload.ensures.1)
-    (subgroup-stops (then c.in_ok-object.ensures (then c.in_ok-extensions.ensures there)) _ c.in_err-payload.ensures)
+    (payload-stops (then c.in_ok-object.ensures (then c.in_ok-extensions.ensures there)) _ c.in_err-payload.ensures)
 
 pub returns : goal.returns
 unfolding subgroup_object_of subgroup_object
