@@ -4,9 +4,7 @@ ghost use Rattle.header.specs.Told.{datagram_typed, stream_typed};
 ghost use Rattle.rewrite.specs.Rewriting.{datagram_again, stream_again, subgroup_object_again, fetch_object_again, Does};
 
 use crate::telling::tell;
-use header::{
-    Datagram, DatagramRead, FetchObjectRead, StreamHeader, StreamRead, SubgroupObjectRead,
-};
+use header::{Datagram, StreamHeader};
 
 // ---- datagrams
 
@@ -15,16 +13,14 @@ pub fn datagram(s: &[u8], out: &mut [u8], info: &mut [u64]) -> u8
         info.new }
 {
     match header::read_datagram(s) {
-        DatagramRead::Unknown => 2,
-        DatagramRead::Cut => 4,
-        DatagramRead::Forbidden => 5,
-        DatagramRead::Whole(d, used) => {
+        Ok((d, used)) => {
             if info.len() < 3 {
                 return 7;
             }
             let writing = header_writer::write_datagram(out, s, d);
             tell(info, writing, used, datagram_type(d))
         }
+        Err(fault) => fault.number(),
     }
 }
 
@@ -44,15 +40,14 @@ pub fn stream(s: &[u8], out: &mut [u8], info: &mut [u64]) -> u8
         info.new }
 {
     match header::read_stream(s) {
-        StreamRead::More => 1,
-        StreamRead::Unknown => 2,
-        StreamRead::Whole(h, used) => {
+        Ok((h, used)) => {
             if info.len() < 3 {
                 return 7;
             }
             let writing = header_writer::write_stream(out, h);
             tell(info, writing, used, stream_type(h))
         }
+        Err(fault) => fault.number(),
     }
 }
 
@@ -72,15 +67,14 @@ pub fn subgroup_object(s: &[u8], out: &mut [u8], info: &mut [u64]) -> u8
         out.new info.new }
 {
     match header::read_subgroup_object(s) {
-        SubgroupObjectRead::More => 1,
-        SubgroupObjectRead::Forbidden => 5,
-        SubgroupObjectRead::Whole(o, used) => {
+        Ok((o, used)) => {
             if info.len() < 3 {
                 return 7;
             }
             let writing = header_writer::write_subgroup_object(out, s, o);
             tell(info, writing, used, 0)
         }
+        Err(fault) => fault.number(),
     }
 }
 
@@ -89,14 +83,13 @@ pub fn fetch_object(s: &[u8], out: &mut [u8], info: &mut [u64]) -> u8
         info.new }
 {
     match header::read_fetch_object(s) {
-        FetchObjectRead::More => 1,
-        FetchObjectRead::Forbidden => 5,
-        FetchObjectRead::Whole(o, used) => {
+        Ok((o, used)) => {
             if info.len() < 3 {
                 return 7;
             }
             let writing = header_writer::write_fetch_object(out, s, o);
             tell(info, writing, used, 0)
         }
+        Err(fault) => fault.number(),
     }
 }
