@@ -1,5 +1,6 @@
 -- A ledger stays one, field by field. Assumes nothing.
 use Rattle.std.proofs.Common.{◌≡◌, ℕ, true, eqb, leb, List, length, get_or, refl, le-leb}
+use Rattle.std.specs.Prelude.{Ok, Err}
 use Rattle.common.specs.Answer.{number}
 use Rattle.common.proofs.Cases.{pick-by}
 use Rattle.integer.specs.Integer.{greatest}
@@ -8,11 +9,9 @@ use Rattle.field.specs.Entries.{number_at}
 use Rattle.field.specs.Fields.{place_at}
 use Rattle.field.specs.declared.Place.{Place}
 use Rattle.field.proofs.Found.{number-at}
-use Rattle.message.specs.Reading.{told, on_whole}
+use Rattle.message.specs.Reading.{Reading, told, on_whole}
 use Rattle.message.proofs.OneReading.{reading_of}
 use Rattle.message.specs.declared.Message.{Message}
-use Rattle.message.specs.declared.Reading.{Reading}
-use Rattle.message.specs.declared.Reading.TheVariants.{Whole, More, Unknown, TooLong, Unfilled, Forbidden, Oversize}
 use Rattle.row.specs.Places.{small}
 use Rattle.ledger.specs.Ledgers.{most_rows, is_ledger}
 use Rattle.ledger.specs.Steps.{start_of}
@@ -50,13 +49,8 @@ started-fits value = go (number_at value 1) refl
         (λ _. tt)
 
 whole-fits : (r : Reading) (taken : Message → ℕ → Event) (rest : Event) → ((m : Message) (used : ℕ) → Startable (taken m used)) → Startable rest → Startable (on_whole r rest taken)
-whole-fits (Whole m used) taken rest f g = f m used
-whole-fits More taken rest f g = g
-whole-fits Unknown taken rest f g = g
-whole-fits TooLong taken rest f g = g
-whole-fits Unfilled taken rest f g = g
-whole-fits Forbidden taken rest f g = g
-whole-fits Oversize taken rest f g = g
+whole-fits (Ok (m, used)) taken rest f g = f m used
+whole-fits (Err r) taken rest f g = g
 
 reading-fits : (value : List ℕ) (r : Reading) → Startable (reading_by value r)
 reading-fits value r =

@@ -8,9 +8,8 @@ use Rattle.common.specs.Answer.{number}
 use Rattle.field.specs.Entries.{number_at}
 use Rattle.field.specs.Fields.{place_at}
 use Rattle.field.specs.Outcome.{on_found}
-use Rattle.message.specs.Reading.{told, on_whole}
+use Rattle.message.specs.Reading.{Reading, told, on_whole}
 use Rattle.message.proofs.OneReading.{reading_of}
-use Rattle.message.specs.declared.Reading.{Reading}
 use Rattle.ledger.specs.declared.Part.TheVariants.{Subscriber, Publisher}
 use Rattle.trace.specs.Fields.{number_of_tag, value_of}
 use Rattle.replay.specs.declared.Event.{Event}

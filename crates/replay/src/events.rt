@@ -1,27 +1,24 @@
 // What a field of a trace is, by its tag and its value.
 ghost use Rattle.std.specs.Prelude.{◌≡◌};
-ghost use Rattle.common.specs.Answer.{number};
-ghost use Rattle.message.specs.Reading.{told};
+ghost use Rattle.types.specs.Refusals.{number_of};
 ghost use Rattle.replay.specs.Events.{started_by, control_by, malformed_by, arrived_by, as_event, event_of};
 
 use crate::{Event, Next};
-use field::{Arrival, NumberRead, PlaceRead};
+use field::Arrival;
 use ledger::Part;
-use message::Reading;
+use types::Refusal;
 
 pub fn event_of(tag: u8, value: &[u8]) -> Event
     ensures { result ≡ event_of tag value.now }
 {
     match tag {
-        1 => return started(value),
-        2 => return control(value),
-        3 => {
-            let Next::One(a) = arrived(value) else {
-                return Event::Fault;
-            };
-            return Event::Arrived(a);
-        }
-        _ => return Event::Fault,
+        1 => started(value),
+        2 => control(value),
+        3 => match arrived(value) {
+            Next::One(a) => Event::Arrived(a),
+            Next::Other => Event::Fault,
+        },
+        _ => Event::Fault,
     }
 }
 
@@ -29,17 +26,16 @@ pub fn event_of(tag: u8, value: &[u8]) -> Event
 fn started(value: &[u8]) -> Event
     ensures { result ≡ started_by value.now }
 {
-    let NumberRead::Whole(maximum, end) = field::read_number(value, 1) else {
+    let Ok((maximum, end)) = field::read_number(value, 1) else {
         return Event::Fault;
     };
     if end != value.len() {
         return Event::Fault;
     }
-    let part = value[0];
-    match part {
-        0 => return Event::Start(Part::Subscriber, maximum),
-        1 => return Event::Start(Part::Publisher, maximum),
-        _ => return Event::Fault,
+    match value[0] {
+        0 => Event::Start(Part::Subscriber, maximum),
+        1 => Event::Start(Part::Publisher, maximum),
+        _ => Event::Fault,
     }
 }
 
@@ -47,28 +43,24 @@ fn started(value: &[u8]) -> Event
 fn control(value: &[u8]) -> Event
     ensures { result ≡ control_by value.now }
 {
-    let reading = message::read(value);
-    let Reading::Whole(m, used) = reading else {
-        return malformed(reading);
-    };
-    if used != value.len() {
-        return Event::Fault;
+    match message::read(value) {
+        Ok((m, used)) => {
+            if used != value.len() {
+                return Event::Fault;
+            }
+            Event::Control(m)
+        }
+        Err(refusal) => malformed(refusal),
     }
-    Event::Control(m)
 }
 
-// A reading that is not whole: 1 is a fault, any other number is malformed.
-fn malformed(reading: Reading) -> Event
-    ensures { result ≡ malformed_by (number (told reading)) }
+// Bytes that are no message: 1 is a fault, any other number is malformed.
+fn malformed(refusal: Refusal) -> Event
+    ensures { result ≡ malformed_by (number_of refusal) }
 {
-    match reading {
-        Reading::Whole(_, _) => return Event::Fault,
-        Reading::More => return Event::Fault,
-        Reading::Unknown => return Event::Malformed(2),
-        Reading::TooLong => return Event::Malformed(3),
-        Reading::Unfilled => return Event::Malformed(4),
-        Reading::Forbidden => return Event::Malformed(5),
-        Reading::Oversize => return Event::Malformed(6),
+    match refusal {
+        Refusal::More => Event::Fault,
+        _ => Event::Malformed(refusal.number()),
     }
 }
 
@@ -76,10 +68,10 @@ fn malformed(reading: Reading) -> Event
 pub fn arrived(value: &[u8]) -> Next
     ensures { as_event result ≡ arrived_by value.now }
 {
-    let NumberRead::Whole(alias, next) = field::read_number(value, 0) else {
+    let Ok((alias, next)) = field::read_number(value, 0) else {
         return Next::Other;
     };
-    let PlaceRead::Whole(place, end) = field::read_place(value, next) else {
+    let Ok((place, end)) = field::read_place(value, next) else {
         return Next::Other;
     };
     if end != value.len() {

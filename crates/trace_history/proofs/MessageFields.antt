@@ -10,7 +10,6 @@ use Rattle.integer.specs.Bytes.{bytes_of}
 use Rattle.message.specs.Types.{typed_of}
 use Rattle.message.specs.Reading.{longest_message, read_of}
 use Rattle.message.specs.declared.Message.{Message}
-use Rattle.message.specs.declared.Reading.TheVariants.{Whole}
 use Rattle.message_writer.proofs.Theorems.{whole_before, at_most, used-there}
 use Rattle.trace.specs.Fields.{number_of_tag, value_of, field_size}
 use Rattle.replay.specs.Events.{event_of, event_in}
@@ -35,7 +34,7 @@ value-is message = refl
 -- one that fills its bytes is taken
 event-is : (message : List ℕ) (m : Message) → read_of message ≡ answered (typed_of m) (length message) → event_in (field_of_message message) ≡ Control m
 unfolding event_of number_of_tag
-event-is message m h = rw (value-is message) (sym (control-filled message {r = Whole m (length message)} (sym h) refl refl))
+event-is message m h = rw (value-is message) (sym (control-filled message m (sym h) refl))
 
 module _ (s : List ℕ) (m : Message) {used : ℕ} (read : read_of s ≡ answered (typed_of m) used) where
   there : length (take used s) ≡ used

@@ -11,13 +11,13 @@ pub returns-in-2 : goal.returns-in-2
 unfolding event_of
 returns-in-2 c = c.control.ensures ∙ rw c.in-2.is
 
-pub returns-in_default-arrived : goal.returns-in_default-arrived
+pub returns-in-Other : goal.returns-in-Other
 unfolding event_of
-returns-in_default-arrived c = sym (ap as_event c.in_default-arrived.is) ∙ c.arrived.ensures ∙ rw c.in-3.is
+returns-in-Other c = sym (ap as_event c.in-Other.is) ∙ c.arrived.ensures ∙ rw c.in-3.is
 
-pub returns-in-3 : goal.returns-in-3
+pub returns-in-One : goal.returns-in-One
 unfolding event_of
-returns-in-3 c = sym (ap as_event c.in-One.is) ∙ c.arrived.ensures ∙ rw c.in-3.is
+returns-in-One c = sym (ap as_event c.in-One.is) ∙ c.arrived.ensures ∙ rw c.in-3.is
 
 pub returns-in_default : goal.returns-in_default
 unfolding event_of
