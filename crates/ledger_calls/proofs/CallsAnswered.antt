@@ -12,11 +12,11 @@ use Rattle.common.specs.Answer.{number}
 use Rattle.common.specs.Buffer.{over}
 use Rattle.row.specs.Places.{small}
 use Rattle.types.specs.Limits.{longest_body}
+use Rattle.types.specs.Refusals.{number_of}
+use Rattle.types.specs.declared.Refusal.{Refusal}
+use Rattle.std.specs.Prelude.{Ok, Err}
 use Rattle.message.specs.Reading.{read_of, told as told_reading}
 use Rattle.message.specs.declared.Message.{Message}
-use Rattle.message.specs.declared.Reading.{Reading}
-use Rattle.message.specs.declared.Reading.TheVariants.{Whole}
-use Rattle.message.proofs.NotWhole.{not-whole}
 use Rattle.message.proofs.OneReading.{reading_of, reading-only}
 use Rattle.ledger.specs.Ledgers.{most_rows, empty_ledger}
 use Rattle.ledger.specs.Answers.{Came, told_answer, told, done}
@@ -130,19 +130,19 @@ module _ (before info : List ℕ) (m : Message) (used : ℕ) {l : Ledger} (e : l
         rw (← e, ← s, ← says, ne_eqb n 14 h, le-leb 2 (length info) k)
         (record { says = refl; leaves = keeps; tells = rw (← f) (two info used rule k) })
 
--- a reading decides
-pub read_as : (s before info : List ℕ) {r v : Reading} {n : ℕ} {out inf : List ℕ} → told_reading r ≡ read_of s → r ≡ v → Does (taken_by v before info) n out inf → Does (message_call s before info) n out inf
+-- a message that was read decides,
+pub read_as : (s before info : List ℕ) (m : Message) {used n : ℕ} {out inf : List ℕ} → told_reading (Ok (m, used)) ≡ read_of s → Does (taken_call (take_of (unpack_of before) m) used before info) n out inf → Does (message_call s before info) n out inf
 unfolding message_call
-read_as s before info {r} {v} f h d =
-    let e : reading_of s ≡ v = sym (reading-only longest_body s r f) ∙ h in
+read_as s before info m {used} f d =
+    let e : reading_of s ≡ Ok (m, used) = sym (reading-only longest_body s (Ok (m, used)) f) in
     rw e d
 
 -- "every other reading ends there"
-pub read-else : (s before info : List ℕ) (r : Reading) {n : ℕ} → told_reading r ≡ read_of s → ((m : Message) (used : ℕ) → r ≡ Whole m used → ⊥) → n ≡ number (told_reading r) → Does (message_call s before info) n before info
-read-else s before info r f h says =
-    let m = number (told_reading r) in
-    let ends = not-whole r (λ m used. taken_call (take_of (unpack_of before) m) used before info) (refusing m before info) h in
-    read_as s before info {r = r} f refl (rw (says, ← ends) (record { says = refl; leaves = refl; tells = refl }))
+pub read-else : (s before info : List ℕ) (r : Refusal) {n : ℕ} → told_reading (Err r) ≡ read_of s → n ≡ number_of r → Does (message_call s before info) n before info
+unfolding message_call number
+read-else s before info r f says =
+    let e : reading_of s ≡ Err r = sym (reading-only longest_body s (Err r) f) in
+    rw (e, says) (record { says = refl; leaves = refl; tells = refl })
 
 -- ---- a run of arrivals
 

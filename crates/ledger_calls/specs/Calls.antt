@@ -5,9 +5,8 @@ use Rattle.common.specs.Choice.{guard, pick}
 use Rattle.common.specs.Answer.{number}
 use Rattle.common.specs.Buffer.{over}
 use Rattle.field.specs.declared.Arrival.{Arrival}
-use Rattle.message.specs.Reading.{told, on_whole}
+use Rattle.message.specs.Reading.{Reading, told, on_whole}
 use Rattle.message.proofs.OneReading.{reading_of}
-use Rattle.message.specs.declared.Reading.{Reading}
 use Rattle.ledger.specs.Answers.{Came}
 use Rattle.ledger.specs.Steps.{start_of, take_of, malformed_of, arrival_of}
 use Rattle.ledger.specs.Runs.{run_of}

@@ -1,14 +1,11 @@
 // A ledger, which the caller holds as numbers (the crate ledger_numbers says which). What is no ledger answers 14, and
 // stays as it is.
 ghost use Rattle.std.specs.Prelude.{◌≡◌, []};
-ghost use Rattle.common.specs.Answer.{number};
-ghost use Rattle.message.specs.Reading.{told};
 ghost use Rattle.rewrite.specs.Rewriting.{Does};
 ghost use Rattle.ledger_calls.specs.Calls.{start_call, malformed_call, arrival_call, message_call, arrivals_call};
 
 use field::{Arrival, Place};
 use ledger::{Filled, Part};
-use message::Reading;
 
 // A new ledger, with no row in use. The part is 0 for the subscriber's end and 1 for the publisher's.
 pub fn start(part: u64, rows: u64, maximum: u64, numbers: &mut [u64]) -> u64
@@ -41,9 +38,9 @@ pub fn take(s: &[u8], numbers: &mut [u64], info: &mut [u64]) -> u64
     ensures { Does (message_call s.now numbers.old info.old) result
         numbers.new info.new }
 {
-    let reading = message::read(s);
-    let Reading::Whole(m, used) = reading else {
-        return refusal(reading);
+    let (m, used) = match message::read(s) {
+        Ok(read) => read,
+        Err(refusal) => return refusal.number() as u64,
     };
     let l = ledger_numbers::unpack(numbers);
     let taken = l.take(m);
@@ -59,22 +56,6 @@ pub fn take(s: &[u8], numbers: &mut [u64], info: &mut [u64]) -> u64
     info[1] = ledger::broken(answer) as u64;
     ledger_numbers::keep(numbers, taken.ledger);
     said
-}
-
-// Document 01's number of a reading.
-#[tactic(auto, unfolding(common::specs::Answer::number))]
-fn refusal(reading: Reading) -> u64
-    ensures { result ≡ number (told reading) }
-{
-    match reading {
-        Reading::Whole(_, _) => 0,
-        Reading::More => 1,
-        Reading::Unknown => 2,
-        Reading::TooLong => 3,
-        Reading::Unfilled => 4,
-        Reading::Forbidden => 5,
-        Reading::Oversize => 6,
-    }
 }
 
 // Bytes of the peer's that are no message.
