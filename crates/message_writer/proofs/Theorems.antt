@@ -23,13 +23,12 @@ use Rattle.encode.specs.declared.Refusal.{Refusal}
 use Rattle.types.specs.Table.{known, layout_of}
 use Rattle.message.specs.Types.{typed_of}
 use Rattle.types.specs.Limits.{longest_body}
-use Rattle.message.specs.Reading.{longest_message, read_up_to, read_of, told}
+use Rattle.message.specs.Reading.{Reading, longest_message, read_up_to, read_of, told}
 use Rattle.message.specs.Limits.{length_over}
 use Rattle.message.specs.Part.{PartOf}
 use Rattle.message.specs.Names.{name_span, named_span}
 use Rattle.message_writer.specs.Writing.{write_of}
 use Rattle.message.specs.declared.Message.{Message}
-use Rattle.message.specs.declared.Reading.{Reading}
 use Rattle.message.proofs.Naming as naming
 use Rattle.message.proofs.Places.{byte_at}
 use Rattle.message.proofs.Places as places

@@ -2,9 +2,8 @@
 use Rattle.std.proofs.Common.{◌≡◌, ℕ, ◌+◌, ◌-◌, ◌<◌, ◌≤◌, Bool, true, false, List, length, take, drop, sym, refl, ap, ◌∙◌, arith, length-drop, length-take-le}
 use Rattle.text.specs.declared.Putting.TheVariants.{Done, TooShort}
 use Rattle.message.specs.Reading.{read_of, told}
+use Rattle.std.specs.Prelude.{Ok}
 use Rattle.message.specs.declared.Message.{Message}
-use Rattle.message.specs.declared.Reading.{Reading}
-use Rattle.message.specs.declared.Reading.TheVariants.{Whole as ReadWhole}
 use Rattle.message_writer.proofs.Theorems.{used-there}
 use Rattle.trace.specs.Fields.{field_size, is_whole}
 use Rattle.trace.proofs.Fed.{size-head, whole-fits}
@@ -38,11 +37,11 @@ pub refused-within : (at size : ℕ) → Within Refused at size
 refused-within at size end e = absurd (let z : ◌≡◌ {A = ℕ} 0 1 = cc in omega arith)
 
 -- and one that was read whole takes some bytes, all of which are there
-pub read-there : (s : List ℕ) (at : ℕ) {r : Reading} {m : Message} {used : ℕ} → at ≤ length s
-    → told r ≡ read_of (take (length s - at) (drop at s)) → r ≡ ReadWhole m used → (2 ≤ used) × (at + used ≤ length s)
-read-there s at h said is =
+pub read-there : (s : List ℕ) (at : ℕ) {m : Message} {used : ℕ} → at ≤ length s
+    → told (Ok (m, used)) ≡ read_of (take (length s - at) (drop at s)) → (2 ≤ used) × (at + used ≤ length s)
+read-there s at h said =
     let rest : length (drop at s) ≡ length s - at = length-drop at s in
-    let there = used-there (take (length s - at) (drop at s)) (sym said ∙ ap told is) in
+    let there = used-there (take (length s - at) (drop at s)) (sym said) in
     (there.0, omega (arith, there.1, length-take-le (length s - at) (drop at s) (omega (arith, rest))))
 
 pub whole-within : {at used size : ℕ} → 2 ≤ used → at + used ≤ size → Within (Whole (at + used)) at size

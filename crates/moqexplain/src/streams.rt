@@ -6,8 +6,8 @@ use crate::Found;
 use crate::reading::read_behind;
 use crate::writing::{print, write};
 use explanation::Explaining;
-use message::Reading;
 use text::Putting;
+use types::Refusal;
 
 // How far some bytes were told of: how many they are, and whether more can come.
 #[derive(Clone, Copy)]
@@ -42,14 +42,11 @@ fn find(s: &[u8], at: usize) -> Found
     requires { at ≤ length s.now }
     ensures { Within result at (length s.now) }
 {
-    let read = message::read(&s[at..]);
-    let Reading::Whole(_, used) = read else {
-        let Reading::More = read else {
-            return Found::Refused;
-        };
-        return Found::More;
-    };
-    Found::Whole(at + used)
+    match message::read(&s[at..]) {
+        Ok((_, used)) => Found::Whole(at + used),
+        Err(Refusal::More) => Found::More,
+        Err(_) => Found::Refused,
+    }
 }
 
 // The lines of all messages from the front of s on, whose first byte has that offset.

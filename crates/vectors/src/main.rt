@@ -88,7 +88,7 @@ fn say_answers(rt: &impl Print, s: &[u8]) -> io::Result<()> {
 // the message was read from, each of them its own offset, modulo 256; so what is handed back tells its place, also
 // where the message holds the same bytes twice.
 fn say_name(rt: &impl Print, s: &[u8]) -> io::Result<()> {
-    let message::Reading::Whole(m, _) = message::read(s) else {
+    let Ok((m, _)) = message::read(s) else {
         return println!(rt; "-");
     };
     let mut places = [0u8; ROOM];
