@@ -3,13 +3,13 @@ ghost use Rattle.std.specs.Prelude.{[]};
 ghost use Rattle.rewrite.specs.Rewriting.{Does};
 ghost use Rattle.exports.specs.Integers.{integer_read, integer_written};
 
-use integer::{Reading, Writing};
+use integer::Unwritten;
 
 // The integer at the front of `s`: into `info` the number and the bytes used.
 pub fn moq_integer_read(s: &[u8], info: &mut [u64]) -> u64
     ensures { Does (integer_read s.now info.old) result [] info.new }
 {
-    let Reading::Whole(n, used) = integer::read(s) else {
+    let Ok((n, used)) = integer::read(s) else {
         return 1;
     };
     if info.len() < 2 {
@@ -32,11 +32,11 @@ pub fn moq_integer_write(n: u64, out: &mut [u8], info: &mut [u64]) -> u64
         return 7;
     }
     match integer::write(out, n) {
-        Writing::TooGreat => 5,
-        Writing::TooShort => 7,
-        Writing::Done(used) => {
+        Ok(used) => {
             info[0] = used as u64;
             0
         }
+        Err(Unwritten::TooGreat) => 5,
+        Err(Unwritten::TooShort) => 7,
     }
 }

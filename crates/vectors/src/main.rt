@@ -8,7 +8,6 @@
 mod hexadecimal;
 
 use hexadecimal::{decode, say_bytes};
-use integer::Reading;
 use std::fs::File;
 use std::io;
 use text::Putting;
@@ -20,8 +19,8 @@ const ROOM: usize = 65536;
 
 fn say_integer(rt: &impl Print, s: &[u8]) -> io::Result<()> {
     match integer::read(s) {
-        Reading::Whole(n, used) => println!(rt; "0 {n} {used}"),
-        Reading::More => println!(rt; "1"),
+        Ok((n, used)) => println!(rt; "0 {n} {used}"),
+        Err(_) => println!(rt; "1"),
     }
 }
 
