@@ -14,17 +14,17 @@ returns-in_default c = list-missing _ _ _ _ _ c.if-l-gt-GREATEST.false c.if-l-se
 
 pub returns-then-w-l : goal.returns-then-w-l
 returns-then-w-l c =
-    list-other _ _ _ _ _ c.if-l-gt-GREATEST.false c.if-l-self.false c.walk.ensures c.in-Whole.is c.if-w-l.true
+    list-other _ _ _ _ _ c.if-l-gt-GREATEST.false c.if-l-self.false c.walk.ensures c.in-Ok.is c.if-w-l.true
 
 pub returns-then-not-is_few : goal.returns-then-not-is_few
 returns-then-not-is_few c =
-    list-many _ _ _ _ _ c.if-l-gt-GREATEST.false c.if-l-self.false c.walk.ensures c.in-Whole.is c.if-w-l.false (sym c.is_few.ensures ∙ c.if-not-is_few.true)
+    list-many _ _ _ _ _ c.if-l-gt-GREATEST.false c.if-l-self.false c.walk.ensures c.in-Ok.is c.if-w-l.false (sym c.is_few.ensures ∙ c.if-not-is_few.true)
 
 pub returns-then-not-is_within : goal.returns-then-not-is_within
 returns-then-not-is_within c =
-    list_over _ _ _ _ _ c.if-l-gt-GREATEST.false c.if-l-self.false c.walk.ensures c.in-Whole.is c.if-w-l.false (sym c.is_few.ensures ∙ c.if-not-is_few.false) (sym c.is_within.ensures ∙ c.if-not-is_within.true)
+    list_over _ _ _ _ _ c.if-l-gt-GREATEST.false c.if-l-self.false c.walk.ensures c.in-Ok.is c.if-w-l.false (sym c.is_few.ensures ∙ c.if-not-is_few.false) (sym c.is_within.ensures ∙ c.if-not-is_within.true)
 
 pub returns : goal.returns
 returns c =
     c.add.ensures
-    ∙ list-fits _ _ _ _ _ c.if-l-gt-GREATEST.false c.if-l-self.false c.walk.ensures c.in-Whole.is c.if-w-l.false (sym c.is_few.ensures ∙ c.if-not-is_few.false) (sym c.is_within.ensures ∙ c.if-not-is_within.false) c.size.ensures
+    ∙ list-fits _ _ _ _ _ c.if-l-gt-GREATEST.false c.if-l-self.false c.walk.ensures c.in-Ok.is c.if-w-l.false (sym c.is_few.ensures ∙ c.if-not-is_few.false) (sym c.is_within.ensures ∙ c.if-not-is_within.false) c.size.ensures
