@@ -1,4 +1,5 @@
 -- What becomes of a row is a row, with the same ID and alias. Assumes nothing.
+use Rattle.std.specs.Prelude.{Option, Some, None}
 use Prim.Native.Nat.{ℕ, ◌≤◌}
 use mathlib.Core.Path.{◌≡◌, refl}
 use mathlib.Core.Bool.{Bool, true, false, not}
@@ -17,8 +18,6 @@ use Rattle.row.specs.declared.State.{State}
 use Rattle.row.specs.declared.State.TheVariants.{Pending, Active}
 use Rattle.row.specs.declared.Range.{Range}
 use Rattle.row.specs.declared.Range.TheVariants.{Unknown, Open, Closed}
-use Rattle.row.specs.declared.Greatest.{Greatest}
-use Rattle.row.specs.declared.Greatest.TheVariants.{Nowhere, At}
 use Rattle.row.specs.declared.Row.{Row}
 use Rattle.row.proofs.Facts.{IsRow, row-parts, row-whole}
 
@@ -67,10 +66,10 @@ risen-some : (n : ℕ) → risen n ≡ 0 → ⊥
 unfolding risen
 risen-some n = pick-by (λ (k : ℕ). k ≡ 0 → ⊥) (ltb n top) (λ _ z. omega arith) (λ e z. omega (arith, ltb-false n top e))
 
-greater-small : (g : Greatest) (n : ℕ) (place : Place) → count_agrees g n ≡ true → small_place place ≡ true → small_place (greater g place) ≡ true
+greater-small : (g : Option Place) (n : ℕ) (place : Place) → count_agrees g n ≡ true → small_place place ≡ true → small_place (greater g place) ≡ true
 unfolding greater count_agrees
-greater-small Nowhere n place a s = s
-greater-small (At held) n place a s =
+greater-small None n place a s = s
+greater-small (Some held) n place a s =
     pick-by (λ (p : Place). small_place p ≡ true) (before held place) (λ _. s) (λ _. both-second (not (eqb n 0)) (small_place held) a)
 
 counted_is : (place : Place) (r : Row) → small_place place ≡ true → IsRow r → r.state ≡ Active → IsRow (counted_row r place)

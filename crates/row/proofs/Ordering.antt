@@ -1,4 +1,5 @@
 -- Places are ordered by group, then object, and the greater of several does not depend on the order they come in. Assumes nothing.
+use Rattle.std.specs.Prelude.{Option, Some, None}
 use Prim.Native.Nat.{◌≤◌, ◌<◌}
 use mathlib.Core.Path.{◌≡◌, refl, sym, ap, ◌∙◌}
 use mathlib.Core.Bool.{Bool, true, false}
@@ -11,8 +12,6 @@ use Rattle.common.specs.Choice.{pick}
 use Rattle.field.specs.declared.Place.{Place}
 use Rattle.row.specs.Places.{before}
 use Rattle.row.specs.Rows.{greater}
-use Rattle.row.specs.declared.Greatest.{Greatest}
-use Rattle.row.specs.declared.Greatest.TheVariants.{Nowhere, At}
 
 -- ---- what the test says
 
@@ -109,7 +108,7 @@ later-assoc a b c = go (before a b) refl (before b c) refl
     go false p false q = rw (p, q, p, not-before a b c p q)
 
 -- which of two places a row is shown first does not matter
-pub greater-either : (g : Greatest) (p q : Place) → greater (At (greater g p)) q ≡ greater (At (greater g q)) p
+pub greater-either : (g : Option Place) (p q : Place) → greater (Some (greater g p)) q ≡ greater (Some (greater g q)) p
 unfolding greater
-greater-either Nowhere p q = later-comm p q
-greater-either (At x) p q = later-assoc x p q ∙ ap (later x) (later-comm p q) ∙ sym (later-assoc x q p)
+greater-either None p q = later-comm p q
+greater-either (Some x) p q = later-assoc x p q ∙ ap (later x) (later-comm p q) ∙ sym (later-assoc x q p)

@@ -1,5 +1,5 @@
 -- "A row: ID, alias, pending or active, range, greatest place counted or none, count."
-use Rattle.std.specs.Prelude.{ℕ, ◌+◌, Bool, true, false, not, leb, ltb, eqb}
+use Rattle.std.specs.Prelude.{ℕ, ◌+◌, Bool, true, false, not, leb, ltb, eqb, Option, None, Some, Result, Ok, Err}
 use Rattle.common.specs.Choice.{guard, pick, both}
 use Rattle.field.specs.declared.Place.{Place}
 use Rattle.subscription.specs.declared.Content.{Content}
@@ -9,13 +9,9 @@ use Rattle.row.specs.declared.State.{State}
 use Rattle.row.specs.declared.State.TheVariants.{Pending, Active}
 use Rattle.row.specs.declared.Range.{Range}
 use Rattle.row.specs.declared.Range.TheVariants.{Unknown}
-use Rattle.row.specs.declared.Greatest.{Greatest}
-use Rattle.row.specs.declared.Greatest.TheVariants.{Nowhere, At}
 use Rattle.row.specs.declared.Row.{Row}
-use Rattle.row.specs.declared.Arriving.{Arriving}
-use Rattle.row.specs.declared.Arriving.TheVariants.{Waiting, Outside, Counted}
-use Rattle.row.specs.declared.Opening.{Opening}
-use Rattle.row.specs.declared.Opening.TheVariants.{Refused, Opened}
+use Rattle.row.specs.declared.NotCounted.{NotCounted}
+use Rattle.row.specs.declared.NotCounted.TheVariants.{Waiting, Outside}
 use Rattle.row.specs.declared.Ending.{Ending}
 use Rattle.row.specs.declared.Ending.TheVariants.{SubscribeError, SubscribeDone, Unsubscribe}
 
@@ -26,9 +22,9 @@ abbrev pub top : ℕ
 top = 4_294_967_295
 
 -- "count is 0 exactly when no place is held"
-unfoldable pub count_agrees : Greatest → ℕ → Bool
-count_agrees Nowhere count = eqb count 0
-count_agrees (At place) count = both (not (eqb count 0)) (small_place place)
+unfoldable pub count_agrees : Option Place → ℕ → Bool
+count_agrees None count = eqb count 0
+count_agrees (Some place) count = both (not (eqb count 0)) (small_place place)
 
 -- "a pending row has count 0; an active row's range is known"
 unfoldable pub suits : State → Range → ℕ → Bool
@@ -46,15 +42,15 @@ is_row r =
 
 -- "unused rows are pending, without range or place, all numbers 0"
 abbrev pub unused_row : Row
-unused_row = record { id = 0; alias = 0; state = Pending; range = Unknown; greatest = Nowhere; count = 0 }
+unused_row = record { id = 0; alias = 0; state = Pending; range = Unknown; greatest = None; count = 0 }
 
 unfoldable pub is_pending : State → Bool
 is_pending Pending = true
 is_pending Active = false
 
-unfoldable pub is_nowhere : Greatest → Bool
-is_nowhere Nowhere = true
-is_nowhere (At place) = false
+unfoldable pub is_nowhere : Option Place → Bool
+is_nowhere None = true
+is_nowhere (Some place) = false
 
 unfoldable pub is_unused : Row → Bool
 is_unused r =
@@ -67,12 +63,12 @@ is_unused r =
 -- "a pending row is added"
 abbrev pub pending_row : ℕ → ℕ → Range → Row
 pending_row id alias range =
-    record { id = id; alias = alias; state = Pending; range = range; greatest = Nowhere; count = 0 }
+    record { id = id; alias = alias; state = Pending; range = range; greatest = None; count = 0 }
 
 -- "the row keeps the greater place"
-unfoldable pub greater : Greatest → Place → Place
-greater Nowhere place = place
-greater (At held) place = pick (before held place) place held
+unfoldable pub greater : Option Place → Place → Place
+greater None place = place
+greater (Some held) place = pick (before held place) place held
 
 -- "the count rises by one but stops at 4,294,967,295"
 unfoldable pub risen : ℕ → ℕ
@@ -84,7 +80,7 @@ counted_row r place = record {
   alias = r.alias;
   state = r.state;
   range = r.range;
-  greatest = At (greater r.greatest place);
+  greatest = Some (greater r.greatest place);
   count = risen r.count;
 }
 
@@ -134,20 +130,19 @@ may_end Unsubscribe state = true
 
 -- ---- 01's number and values of each answer, at the row as it was
 
-abbrev pub arrived_number : Arriving → ℕ
-arrived_number Waiting = 19
-arrived_number Outside = 17
-arrived_number (Counted next) = 16
+abbrev pub arrived_number : Result Row NotCounted → ℕ
+arrived_number (Err Waiting) = 19
+arrived_number (Err Outside) = 17
+arrived_number (Ok next) = 16
 
 -- the row after an arrival
-abbrev pub left_by : Arriving → Row → Row
-left_by Waiting r = r
-left_by Outside r = r
-left_by (Counted next) r = next
+abbrev pub left_by : Result Row NotCounted → Row → Row
+left_by (Err why) r = r
+left_by (Ok next) r = next
 
-abbrev pub told_arriving : Arriving → Row → AtRow
+abbrev pub told_arriving : Result Row NotCounted → Row → AtRow
 told_arriving came r = replying (arrived_number came) (left_by came r)
 
-abbrev pub told_opening : Opening → Row → AtRow
-told_opening Refused r = breaks_r6 r
-told_opening (Opened next) r = replying 8 next
+abbrev pub told_opening : Option Row → Row → AtRow
+told_opening None r = breaks_r6 r
+told_opening (Some next) r = replying 8 next

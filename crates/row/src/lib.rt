@@ -15,49 +15,35 @@ pub const TOP: u64 = 4_294_967_295;
 
 // A range is not known yet, open from a place, or closed at a last group. (The first variant of each enum here is that
 // of an unused row.)
-#[derive(Clone, Copy)]
+#[derive(Clone, Copy, PartialEq, Eq)]
 pub enum Range {
     Unknown,
     Open(Place),
     Closed(Place, u64),
 }
 
-#[derive(Clone, Copy)]
+#[derive(Clone, Copy, PartialEq, Eq)]
 pub enum State {
     Pending,
     Active,
 }
 
-// The greatest place counted, or none.
-#[derive(Clone, Copy)]
-pub enum Greatest {
-    Nowhere,
-    At(Place),
-}
-
-#[derive(Clone, Copy)]
+// `greatest` is the greatest place counted, if any.
+#[derive(Clone, Copy, PartialEq, Eq)]
 pub struct Row {
     pub id: u64,
     pub alias: u64,
     pub state: State,
     pub range: Range,
-    pub greatest: Greatest,
+    pub greatest: Option<Place>,
     pub count: u64,
 }
 
-// What an arrival at a row comes to: the row is still pending; the place is outside its range; it is counted.
+// Why an arrival at a row is not counted: the row is still pending, or the place is outside its range.
 #[derive(Clone, Copy)]
-pub enum Arriving {
+pub enum NotCounted {
     Waiting,
     Outside,
-    Counted(Row),
-}
-
-// What a SUBSCRIBE_OK at a row comes to: it is active already, or it becomes so.
-#[derive(Clone, Copy)]
-pub enum Opening {
-    Refused,
-    Opened(Row),
 }
 
 // The messages that end a subscription.

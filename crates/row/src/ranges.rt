@@ -3,38 +3,37 @@ ghost use Rattle.std.specs.Prelude.{◌≡◌};
 ghost use Rattle.row.specs.Ranges.{in_range, is_known, small_range, asked_of, latest, moved, settled_of};
 
 use crate::Range;
-use crate::places::{is_before, is_small};
+use crate::places::is_small;
 use field::Place;
 use subscription::{Content, Filter};
 
+#[tactic(auto, unfolding(crate::specs::Ranges::in_range, crate::specs::Places::before))]
 pub fn contains(range: Range, p: Place) -> bool
     ensures { result ≡ in_range range p }
 {
     match range {
-        Range::Unknown => return false,
-        Range::Open(start) => return !is_before(p, start),
-        Range::Closed(start, last) => return !is_before(p, start) & (p.group <= last),
+        Range::Unknown => false,
+        Range::Open(start) => p >= start,
+        Range::Closed(start, last) => p >= start && p.group <= last,
     }
 }
 
+#[tactic(auto, unfolding(crate::specs::Ranges::is_known))]
 pub fn is_known(range: Range) -> bool
     ensures { result ≡ is_known range }
 {
-    match range {
-        Range::Unknown => return false,
-        Range::Open(_) => return true,
-        Range::Closed(_, _) => return true,
-    }
+    !matches!(range, Range::Unknown)
 }
 
 // Whether no number of the range is above the greatest integer.
+#[tactic(auto, unfolding(crate::specs::Ranges::small_range, crate::specs::Places::small))]
 pub fn is_small_range(range: Range) -> bool
     ensures { result ≡ small_range range }
 {
     match range {
-        Range::Unknown => return true,
-        Range::Open(start) => return is_small(start),
-        Range::Closed(start, last) => return is_small(start) & (last <= integer::GREATEST),
+        Range::Unknown => true,
+        Range::Open(start) => is_small(start),
+        Range::Closed(start, last) => is_small(start) && last <= integer::GREATEST,
     }
 }
 
@@ -43,9 +42,9 @@ pub fn asked(filter: Filter) -> Range
     ensures { result ≡ asked_of filter }
 {
     match filter {
-        Filter::Latest => return Range::Unknown,
-        Filter::From(start) => return Range::Open(start),
-        Filter::Range(start, last) => return Range::Closed(start, last),
+        Filter::Latest => Range::Unknown,
+        Filter::From(start) => Range::Open(start),
+        Filter::Range(start, last) => Range::Closed(start, last),
     }
 }
 
@@ -77,6 +76,7 @@ fn moved_start(start: Place, content: Content) -> Place
 }
 
 // What a range becomes by a SUBSCRIBE_OK.
+#[tactic(auto, unfolding(crate::specs::Ranges::settled_of))]
 pub fn settled(range: Range, content: Content) -> Range
     ensures { result ≡ settled_of range content }
 {

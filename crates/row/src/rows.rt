@@ -1,46 +1,47 @@
 // What a row is, and what becomes of it.
 ghost use Rattle.std.specs.Prelude.{◌≡◌};
-ghost use Rattle.row.specs.Rows.{count_agrees, suits, is_row, unused_row, is_pending, is_nowhere, is_unused, pending_row, greater, risen, counted_row, arrive_of, open_of, may_end, told_arriving, told_opening};
+ghost use Rattle.row.specs.Rows.{count_agrees, suits, is_row, unused_row, is_unused, pending_row, greater, risen, counted_row, arrive_of, open_of, may_end, told_arriving, told_opening};
 
-use crate::places::{is_before, is_small};
+use crate::places::is_small;
 use crate::ranges::{contains, is_known, is_small_range, settled};
-use crate::{Arriving, Ending, Greatest, Opening, Range, Row, State, TOP};
+use crate::{Ending, NotCounted, Range, Row, State, TOP};
 use field::Place;
 use subscription::Content;
 
 // ---- what a row is
 
 // A count is 0 exactly when no place is held.
-fn do_agree(g: Greatest, count: u64) -> bool
+#[tactic(auto, unfolding(crate::specs::Rows::count_agrees))]
+fn do_agree(g: Option<Place>, count: u64) -> bool
     ensures { result ≡ count_agrees g count }
 {
     match g {
-        Greatest::Nowhere => return count == 0,
-        Greatest::At(place) => return (count != 0) & is_small(place),
+        None => count == 0,
+        Some(place) => count != 0 && is_small(place),
     }
 }
 
 // A pending row counts nothing; the range of an active row is known.
+#[tactic(auto, unfolding(crate::specs::Rows::suits))]
 fn does_suit(state: State, range: Range, count: u64) -> bool
     ensures { result ≡ suits state range count }
 {
     match state {
-        State::Pending => return count == 0,
-        State::Active => return is_known(range),
+        State::Pending => count == 0,
+        State::Active => is_known(range),
     }
 }
 
+#[tactic(auto, unfolding(crate::specs::Rows::is_row, crate::specs::Places::small))]
 pub fn is_row(row: Row) -> bool
     ensures { result ≡ is_row row }
 {
-    let range = row.range;
-    let g = row.greatest;
-    let state = row.state;
-    let count = row.count;
-    let are_small = (row.id <= integer::GREATEST)
-        & (row.alias <= integer::GREATEST)
-        & (count <= TOP);
-    are_small & is_small_range(range) & do_agree(g, count) & does_suit(state, range, count)
+    row.id <= integer::GREATEST
+        && row.alias <= integer::GREATEST
+        && row.count <= TOP
+        && is_small_range(row.range)
+        && do_agree(row.greatest, row.count)
+        && does_suit(row.state, row.range, row.count)
 }
 
 pub fn unused() -> Row
@@ -49,32 +50,10 @@ pub fn unused() -> Row
     pending(0, 0, Range::Unknown)
 }
 
-fn is_pending(state: State) -> bool
-    ensures { result ≡ is_pending state }
-{
-    match state {
-        State::Pending => return true,
-        State::Active => return false,
-    }
-}
-
-fn is_nowhere(g: Greatest) -> bool
-    ensures { result ≡ is_nowhere g }
-{
-    match g {
-        Greatest::Nowhere => return true,
-        Greatest::At(_) => return false,
-    }
-}
-
 pub fn is_unused(row: Row) -> bool
     ensures { result ≡ is_unused row }
 {
-    let state = row.state;
-    let range = row.range;
-    let g = row.greatest;
-    let is_zero = (row.id == 0) & (row.alias == 0) & (row.count == 0);
-    is_zero & is_pending(state) & !is_known(range) & is_nowhere(g)
+    row == unused()
 }
 
 // ---- what becomes of a row
@@ -88,83 +67,64 @@ pub fn pending(id: u64, alias: u64, range: Range) -> Row
         alias,
         state: State::Pending,
         range,
-        greatest: Greatest::Nowhere,
+        greatest: None,
         count: 0,
     }
 }
 
-fn greater_of(g: Greatest, place: Place) -> Place
+#[tactic(auto, unfolding(crate::specs::Rows::greater, crate::specs::Places::before))]
+fn greater_of(g: Option<Place>, place: Place) -> Place
     ensures { result ≡ greater g place }
 {
     match g {
-        Greatest::Nowhere => return place,
-        Greatest::At(held) => {
-            if is_before(held, place) {
-                return place;
-            }
-            return held;
-        }
+        None => place,
+        Some(held) => held.max(place),
     }
 }
 
+#[tactic(auto, unfolding(crate::specs::Rows::risen))]
 fn rise(count: u64) -> u64
     ensures { result ≡ risen count }
 {
-    if count < TOP {
-        return count + 1;
-    }
-    count
+    if count < TOP { count + 1 } else { count }
 }
 
+#[tactic(auto, unfolding(crate::specs::Rows::counted_row))]
 fn count(row: Row, place: Place) -> Row
     ensures { result ≡ counted_row row place }
 {
-    let state = row.state;
-    let range = row.range;
-    let g = row.greatest;
     Row {
-        id: row.id,
-        alias: row.alias,
-        state,
-        range,
-        greatest: Greatest::At(greater_of(g, place)),
+        greatest: Some(greater_of(row.greatest, place)),
         count: rise(row.count),
+        ..row
     }
 }
 
 // What an arrival at a place comes to.
-pub fn arrive(row: Row, place: Place) -> Arriving
+#[tactic(auto, unfolding(crate::specs::Rows::arrive_of, crate::specs::Rows::is_pending))]
+pub fn arrive(row: Row, place: Place) -> Result<Row, NotCounted>
     ensures { told_arriving result row ≡ arrive_of row place }
 {
-    let state = row.state;
-    let range = row.range;
-    match state {
-        State::Pending => Arriving::Waiting,
-        State::Active => {
-            if !contains(range, place) {
-                return Arriving::Outside;
-            }
-            Arriving::Counted(count(row, place))
-        }
+    if row.state == State::Pending {
+        return Err(NotCounted::Waiting);
     }
+    if !contains(row.range, place) {
+        return Err(NotCounted::Outside);
+    }
+    Ok(count(row, place))
 }
 
-// What a SUBSCRIBE_OK comes to.
-pub fn open(row: Row, content: Content) -> Opening
+// What a SUBSCRIBE_OK comes to: an active row, but where it is active already.
+#[tactic(auto, unfolding(crate::specs::Rows::open_of, crate::specs::Rows::is_pending))]
+pub fn open(row: Row, content: Content) -> Option<Row>
     ensures { told_opening result row ≡ open_of row content }
 {
-    let state = row.state;
-    let range = row.range;
-    let g = row.greatest;
-    match state {
-        State::Active => Opening::Refused,
-        State::Pending => Opening::Opened(Row {
-            id: row.id,
-            alias: row.alias,
+    match row.state {
+        State::Active => None,
+        State::Pending => Some(Row {
             state: State::Active,
-            range: settled(range, content),
-            greatest: g,
-            count: row.count,
+            range: settled(row.range, content),
+            ..row
         }),
     }
 }
@@ -174,8 +134,8 @@ pub fn may_end(ending: Ending, state: State) -> bool
     ensures { result ≡ may_end ending state }
 {
     match ending {
-        Ending::SubscribeError => is_pending(state),
-        Ending::SubscribeDone => !is_pending(state),
+        Ending::SubscribeError => state == State::Pending,
+        Ending::SubscribeDone => state == State::Active,
         Ending::Unsubscribe => true,
     }
 }

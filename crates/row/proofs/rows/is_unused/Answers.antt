@@ -1,24 +1,29 @@
 -- `is_unused` meets its contract. Assumes nothing.
-use mathlib.Core.Bool.{not}
-use lib.Dec.{eqb}
+use Rattle.std.specs.Prelude.{ℕ, ◌≡◌, Option, Some, None}
+use Rattle.std.proofs.Common.{arith}
+use Rattle.std.proofs.lemmas.Grind.{common_steps}
+use Rattle.field.specs.declared.Place.{Place}
+use Rattle.row.specs.Rows.{is_unused, is_pending, is_nowhere, unused_row}
 use Rattle.row.specs.Ranges.{is_known}
-use Rattle.row.proofs.Checks.{all_made}
-use Rattle.row.specs.Rows.{is_pending, is_nowhere, is_unused}
+use Rattle.row.specs.declared.State.{State}
+use Rattle.row.specs.declared.Range.{Range}
+use Rattle.row.specs.declared.Row.{Row}
+use Rattle.row.specs.declared.State.TheVariants.{Pending, Active}
+use Rattle.row.specs.declared.Range.TheVariants.{Unknown, Open, Closed}
+use Rattle.row.specs.contracts.RowPartialEq.TheImpl.{eq-value}
 use Rattle.row.proofs.rows.is_unused.Goals as goal
 
-pub is_pending-requires : goal.is_pending-requires
-unfolding is_unused
-is_pending-requires c = tt
+-- the derived equality compares field by field; `is_unused` looks at each
+abbrev row_of : ℕ → ℕ → State → Range → Option Place → ℕ → Row
+row_of id alias s range g count = record { id = id; alias = alias; state = s; range = range; greatest = g; count = count }
 
-pub is_known-requires : goal.is_known-requires
-unfolding is_unused
-is_known-requires c = tt
-
-pub is_nowhere-requires : goal.is_nowhere-requires
-unfolding is_unused
-is_nowhere-requires c = tt
+each : (id alias : ℕ) (s : State) (range : Range) (g : Option Place) (count : ℕ) → eq-value.it (row_of id alias s range g count) unused_row ≡ is_unused (row_of id alias s range g count)
+unfolding is_unused is_pending is_nowhere is_known
+each id alias Pending Unknown None count = grind (arith, common_steps)
+each id alias Pending Unknown (Some x) count = grind (arith, common_steps)
+each id alias Pending (Open a) g count = grind (arith, common_steps)
+each id alias Pending (Closed a b) g count = grind (arith, common_steps)
+each id alias Active range g count = grind (arith, common_steps)
 
 pub returns : goal.returns
-unfolding is_unused
-returns c =
-    let row = c.args.row in rw (c.is_pending.ensures, c.is_known.ensures, c.is_nowhere.ensures) (all_made (eqb row.id 0) (eqb row.alias 0) (eqb row.count 0) (is_pending row.state) (not (is_known row.range)) (is_nowhere row.greatest))
+returns c = rw (c.eq.ensures, c.unused.ensures) (let r = c.args.row in each r.id r.alias r.state r.range r.greatest r.count)
