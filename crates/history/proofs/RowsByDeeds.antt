@@ -1,4 +1,5 @@
 -- What a list of rows becomes by deeds, one after the other, is what the deeds tell. Assumes nothing.
+use Rattle.std.specs.Prelude.{Option, Some, None}
 use Prim.Native.Nat.{ℕ, suc, ◌+◌, ◌≤◌, ◌<◌, min}
 use mathlib.Core.Path.{◌≡◌, refl, sym, ap, ◌∙◌}
 use mathlib.Core.Bool.{Bool, true, false}
@@ -18,8 +19,6 @@ use Rattle.row.specs.Rows.{top, greater, risen, counted_row, active_row}
 use Rattle.row.specs.declared.Row.{Row}
 use Rattle.row.specs.declared.State.{State}
 use Rattle.row.specs.declared.State.TheVariants.{Pending, Active}
-use Rattle.row.specs.declared.Greatest.{Greatest}
-use Rattle.row.specs.declared.Greatest.TheVariants.{Nowhere, At}
 use Rattle.ledger.specs.Steps.{new_row}
 use Rattle.ledger.specs.Keys.{Change, gone, now, instead}
 use Rattle.history.specs.Events.{Logged}
@@ -65,9 +64,9 @@ state_from : State → List Content → State
 state_from s [] = s
 state_from s (content ∷ more) = state_from Active more
 
-greatest_from : Greatest → List Place → Greatest
+greatest_from : Option Place → List Place → Option Place
 greatest_from g [] = g
-greatest_from g (p ∷ ps) = greatest_from (At (greater g p)) ps
+greatest_from g (p ∷ ps) = greatest_from (Some (greater g p)) ps
 
 count_from : ℕ → List Place → ℕ
 count_from n [] = n
@@ -139,16 +138,16 @@ state-is [] = refl
 state-is (content ∷ more) = state-active more
 
 -- which place comes first does not matter
-greatest-first : (ps : List Place) (g : Greatest) (p : Place) → greatest_from (At (greater g p)) ps ≡ At (greater (greatest_from g ps) p)
+greatest-first : (ps : List Place) (g : Option Place) (p : Place) → greatest_from (Some (greater g p)) ps ≡ Some (greater (greatest_from g ps) p)
 unfolding greatest_from
 greatest-first [] g p = refl
 greatest-first (q ∷ ps) g p =
-    ap (λ (x : Place). greatest_from (At x) ps) (greater-either g p q) ∙ greatest-first ps (At (greater g q)) p
+    ap (λ (x : Place). greatest_from (Some x) ps) (greater-either g p q) ∙ greatest-first ps (Some (greater g q)) p
 
-greatest-is : (ps : List Place) → greatest_from Nowhere ps ≡ greatest_of ps
+greatest-is : (ps : List Place) → greatest_from None ps ≡ greatest_of ps
 unfolding greatest_from greatest_of
 greatest-is [] = refl
-greatest-is (p ∷ ps) = greatest-first ps Nowhere p ∙ ap (λ (g : Greatest). At (greater g p)) (greatest-is ps)
+greatest-is (p ∷ ps) = greatest-first ps None p ∙ ap (λ (g : Option Place). Some (greater g p)) (greatest-is ps)
 
 risen-min : (n : ℕ) → risen (min top n) ≡ min top (suc n)
 unfolding risen

@@ -1,4 +1,5 @@
 -- What holds of every history of a ledger. Each theorem with its sentence, and nothing else. Assumes nothing.
+use Rattle.std.specs.Prelude.{Some, None}
 use Prim.Native.Nat.{ℕ, ◌≤◌, ◌<◌}
 use mathlib.Core.Path.{◌≡◌}
 use mathlib.Core.Bool.{true, false, not}
@@ -13,7 +14,6 @@ use Rattle.subscription.specs.declared.SubscriptionMessage.TheVariants.{Subscrib
 use Rattle.message.specs.declared.Message.{Message}
 use Rattle.message.specs.declared.Message.TheVariants.{Subscription}
 use Rattle.row.specs.Places.{before}
-use Rattle.row.specs.declared.Greatest.TheVariants.{Nowhere, At}
 use Rattle.ledger.specs.Answers.{no_rule, closing_rule}
 use Rattle.ledger.specs.Ledgers.{held, rising, distinct, is_ledger, is_open}
 use Rattle.ledger.specs.Runs.{arrivals_in, run_of}
@@ -101,11 +101,11 @@ pub same-answers-same-ledger : {l x y : Ledger} {ts : List Logged} → is_ledger
 same-answers-same-ledger = told-once
 
 -- Places have no greatest exactly when there are none.
-pub no-greatest-of-none : (ps : List Place) → (greatest_of ps ≡ Nowhere) ↔ (ps ≡ [])
+pub no-greatest-of-none : (ps : List Place) → (greatest_of ps ≡ None) ↔ (ps ≡ [])
 no-greatest-of-none ps = (nowhere-only ps, none-nowhere ps)
 
 -- The greatest of places is one of them, and none of them stands after it.
-pub greatest-is-last : (ps : List Place) (g : Place) → greatest_of ps ≡ At g
+pub greatest-is-last : (ps : List Place) (g : Place) → greatest_of ps ≡ Some g
     → Among g ps × Each (λ p. before g p ≡ false) ps
 greatest-is-last ps g e = (among ps g e, none_after ps g e)
 

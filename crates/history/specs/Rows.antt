@@ -1,6 +1,6 @@
 -- THE ROWS HELD, told by a history and its answers: there is a row for each SUBSCRIBE answered 8, in their order, that
 -- nothing has ended since; what it shows is told by what came since.
-use Rattle.std.specs.Prelude.{ℕ, min, Bool, true, false, List, [], ◌∷◌, ◌++◌, eqb, length}
+use Rattle.std.specs.Prelude.{ℕ, min, Bool, true, false, List, [], ◌∷◌, ◌++◌, eqb, length, Option, Some, None}
 use Rattle.common.specs.Choice.{pick}
 use Rattle.field.specs.declared.Place.{Place}
 use Rattle.subscription.specs.declared.Content.{Content}
@@ -10,8 +10,6 @@ use Rattle.row.specs.Rows.{top, greater}
 use Rattle.row.specs.declared.State.{State}
 use Rattle.row.specs.declared.State.TheVariants.{Pending, Active}
 use Rattle.row.specs.declared.Range.{Range}
-use Rattle.row.specs.declared.Greatest.{Greatest}
-use Rattle.row.specs.declared.Greatest.TheVariants.{Nowhere, At}
 use Rattle.row.specs.declared.Row.{Row}
 use Rattle.history.specs.Events.{Logged}
 use Rattle.history.specs.Deeds.{Deed, asked, opened, ended, raised, counted, nothing, deed_of}
@@ -68,9 +66,9 @@ settled range [] = range
 settled range (content ∷ later) = settled (settled_of range content) later
 
 -- the greatest of places
-unfoldable pub greatest_of : List Place → Greatest
-greatest_of [] = Nowhere
-greatest_of (p ∷ ps) = At (greater (greatest_of ps) p)
+unfoldable pub greatest_of : List Place → Option Place
+greatest_of [] = None
+greatest_of (p ∷ ps) = Some (greater (greatest_of ps) p)
 
 -- ---- the rows
 

@@ -1,4 +1,6 @@
 -- Each way that a call may go in the code, as what its step comes to. Assumes nothing.
+use Rattle.std.specs.Prelude.{Option, Some, None, Result, Ok, Err}
+use Rattle.std.specs.Option.{is_some}
 use Prim.Native.Nat.{ℕ, ◌≤◌, ◌<◌}
 use mathlib.Core.Path.{◌≡◌, refl, sym, ap, ◌∙◌}
 use mathlib.Core.Bool.{Bool, true, false}
@@ -21,10 +23,8 @@ use Rattle.row.specs.Ranges.{asked_of}
 use Rattle.row.specs.Rows.{pending_row, AtRow, arrive_of, open_of, may_end, told_arriving, told_opening}
 use Rattle.row.specs.declared.Range.{Range}
 use Rattle.row.specs.declared.Row.{Row}
-use Rattle.row.specs.declared.Arriving.{Arriving}
-use Rattle.row.specs.declared.Arriving.TheVariants.{Waiting, Outside, Counted}
-use Rattle.row.specs.declared.Opening.{Opening}
-use Rattle.row.specs.declared.Opening.TheVariants.{Refused, Opened}
+use Rattle.row.specs.declared.NotCounted.{NotCounted}
+use Rattle.row.specs.declared.NotCounted.TheVariants.{Waiting, Outside}
 use Rattle.row.specs.declared.Ending.{Ending}
 use Rattle.ledger.specs.Ledgers.{held, has_alias, is_ledger}
 use Rattle.ledger.specs.Answers.{Came, rule_number, no_rule, same, done, is_own}
@@ -38,10 +38,8 @@ use Rattle.ledger.specs.declared.Rule.{Rule}
 use Rattle.ledger.specs.declared.Rule.TheVariants.{R2, R3, R4, R6, R7}
 use Rattle.ledger.specs.declared.Session.TheVariants.{Closed}
 use Rattle.ledger.specs.declared.Ledger.{Ledger}
-use Rattle.ledger.specs.declared.Found.{Found}
-use Rattle.ledger.specs.declared.Found.TheVariants.{At, Missing}
 use Rattle.ledger.proofs.Facts.{parts}
-use Rattle.ledger.proofs.Finds.{is_found, has-found, found_none, found_first}
+use Rattle.ledger.proofs.Finds.{has-found, found_none, found_first}
 use Rattle.ledger.proofs.HeldRows.{same_row}
 use Rattle.ledger.proofs.Shapes.{Shaped, shaped, used-is, same_kept, kept-as}
 use Rattle.ledger.proofs.InPlaces.{none_kept, same-kept-at, changed-kept, freed-kept, added-kept}
@@ -98,12 +96,12 @@ module _ (l : Ledger) (w : is_ledger l ≡ true) where
 
   -- ---- an arrival
 
-  module _ (a : Arrival) {f : Found} (found : f ≡ find alias_of a.alias 0 (held l)) where
-    pub no-alias : f ≡ Missing → same l 18 ≡ came_of (arrival_step (view_of l) a)
+  module _ (a : Arrival) {f : Option ℕ} (found : f ≡ find alias_of a.alias 0 (held l)) where
+    pub no-alias : f ≡ None → same l 18 ≡ came_of (arrival_step (view_of l) a)
     no-alias e =
         stays 18 ∙ none_kept l shape alias_of a.alias _ (answer 18) (arrive_at a.place) (found_none alias_of a.alias l found e)
 
-    module _ {i : ℕ} (at : f ≡ At i) where
+    module _ {i : ℕ} (at : f ≡ Some i) where
       abbrev at_row : AtRow → Came
       at_row x = record { says = no_rule x.number; next = changed l i x.row }
 
@@ -113,26 +111,26 @@ module _ (l : Ledger) (w : is_ledger l ≡ true) where
       by_row =
           changed-kept l shape alias_of a.alias _ (answer 18) (arrive_at a.place) (found_first alias_of a.alias l found at) refl
 
-      module _ {v : Arriving} (came : told_arriving v (row_at l i) ≡ arrive_of (row_at l i) a.place) where
-        pub answered : {u : Arriving} → v ≡ u → at_row (told_arriving u (row_at l i)) ≡ came_of (arrival_step (view_of l) a)
-        answered e = ap (λ (u : Arriving). at_row (told_arriving u (row_at l i))) (sym e) ∙ ap at_row came ∙ by_row
+      module _ {v : Result Row NotCounted} (came : told_arriving v (row_at l i) ≡ arrive_of (row_at l i) a.place) where
+        pub answered : {u : Result Row NotCounted} → v ≡ u → at_row (told_arriving u (row_at l i)) ≡ came_of (arrival_step (view_of l) a)
+        answered e = ap (λ (u : Result Row NotCounted). at_row (told_arriving u (row_at l i))) (sym e) ∙ ap at_row came ∙ by_row
 
-        pub waiting : v ≡ Waiting → same l 19 ≡ came_of (arrival_step (view_of l) a)
+        pub waiting : v ≡ Err Waiting → same l 19 ≡ came_of (arrival_step (view_of l) a)
         waiting e = ap (λ (k : Ledger). same k 19) (same_row l i) ∙ answered e
 
-        pub outside : v ≡ Outside → same l 17 ≡ came_of (arrival_step (view_of l) a)
+        pub outside : v ≡ Err Outside → same l 17 ≡ came_of (arrival_step (view_of l) a)
         outside e = ap (λ (k : Ledger). same k 17) (same_row l i) ∙ answered e
 
-        pub counted : {r : Row} {next : Ledger} → v ≡ Counted r → next ≡ changed l i r → record { says = no_rule 16; next = next } ≡ came_of (arrival_step (view_of l) a)
+        pub counted : {r : Row} {next : Ledger} → v ≡ Ok r → next ≡ changed l i r → record { says = no_rule 16; next = next } ≡ came_of (arrival_step (view_of l) a)
         counted {r} e n = rw n (answered e)
 
   -- ---- a message that names an ID
 
-  module _ (by : Part) (id : ℕ) (at : Row → RowStep) {f : Found} (found : f ≡ find id_of id 0 (held l)) where
-    pub nowhere : {came : Came} → f ≡ Missing → came ≡ came_of (replied (view_of l) (is_own l.part by) (no_row (standing_of l) id)) → came ≡ came_of (by_id (view_of l) by id at)
+  module _ (by : Part) (id : ℕ) (at : Row → RowStep) {f : Option ℕ} (found : f ≡ find id_of id 0 (held l)) where
+    pub nowhere : {came : Came} → f ≡ None → came ≡ came_of (replied (view_of l) (is_own l.part by) (no_row (standing_of l) id)) → came ≡ came_of (by_id (view_of l) by id at)
     nowhere e h = h ∙ none_kept l shape id_of id _ (no_row (standing_of l) id) at (found_none id_of id l found e)
 
-    module _ {i : ℕ} (here : f ≡ At i) where
+    module _ {i : ℕ} (here : f ≡ Some i) where
       -- R6
       refused : {came : Came} → at (row_at l i) ≡ breaks_r6 (row_at l i) → came ≡ came_of (replied (view_of l) (is_own l.part by) (broken R6)) → came ≡ came_of (by_id (view_of l) by id at)
       refused e h =
@@ -147,22 +145,22 @@ module _ (l : Ledger) (w : is_ledger l ≡ true) where
 
   -- ---- SUBSCRIBE_OK
 
-  module _ (id : ℕ) (content : Content) {f : Found} (found : f ≡ find id_of id 0 (held l)) {i : ℕ} (here : f ≡ At i) {o : Opening} (opening : told_opening o (row_at l i) ≡ open_of (row_at l i) content) where
-    opens_as : {v : Opening} → o ≡ v → ok_at content (row_at l i) ≡ (let at = told_opening v (row_at l i) in record { reply = pick (eqb at.number 8) (answer 8) (broken R6); row = now at.row })
+  module _ (id : ℕ) (content : Content) {f : Option ℕ} (found : f ≡ find id_of id 0 (held l)) {i : ℕ} (here : f ≡ Some i) {o : Option Row} (opening : told_opening o (row_at l i) ≡ open_of (row_at l i) content) where
+    opens_as : {v : Option Row} → o ≡ v → ok_at content (row_at l i) ≡ (let at = told_opening v (row_at l i) in record { reply = pick (eqb at.number 8) (answer 8) (broken R6); row = now at.row })
     unfolding ok_at
     opens_as e =
         ap (λ (at : AtRow). record { reply = pick (eqb at.number 8) (answer 8) (broken R6); row = now at.row })
-        (sym opening ∙ ap (λ (v : Opening). told_opening v (row_at l i)) e)
+        (sym opening ∙ ap (λ (v : Option Row). told_opening v (row_at l i)) e)
 
-    pub ok-refused : {came : Came} → o ≡ Refused → came ≡ came_of (replied (view_of l) (is_own l.part Publisher) (broken R6)) → came ≡ came_of (by_id (view_of l) Publisher id (ok_at content))
+    pub ok-refused : {came : Came} → o ≡ None → came ≡ came_of (replied (view_of l) (is_own l.part Publisher) (broken R6)) → came ≡ came_of (by_id (view_of l) Publisher id (ok_at content))
     ok-refused e = refused Publisher id (ok_at content) found here (opens_as e)
 
-    pub ok-opened : {r : Row} {next : Ledger} → o ≡ Opened r → next ≡ changed l i r → done next ≡ came_of (by_id (view_of l) Publisher id (ok_at content))
+    pub ok-opened : {r : Row} {next : Ledger} → o ≡ Some r → next ≡ changed l i r → done next ≡ came_of (by_id (view_of l) Publisher id (ok_at content))
     ok-opened e = changes Publisher id (ok_at content) found here (opens_as e)
 
   -- ---- what ends a subscription
 
-  module _ (ending : Ending) (id : ℕ) {f : Found} (found : f ≡ find id_of id 0 (held l)) (by : Part) {i : ℕ} {b : Bool} (here : f ≡ At i) (may : b ≡ may_end ending (row_at l i).state) where
+  module _ (ending : Ending) (id : ℕ) {f : Option ℕ} (found : f ≡ find id_of id 0 (held l)) (by : Part) {i : ℕ} {b : Bool} (here : f ≡ Some i) (may : b ≡ may_end ending (row_at l i).state) where
     ends_as : {t : Bool} → b ≡ t → end_at ending (row_at l i) ≡ pick t (record { reply = answer 8; row = gone }) (breaks_r6 (row_at l i))
     unfolding end_at
     ends_as e =
@@ -186,15 +184,15 @@ module _ (l : Ledger) (w : is_ledger l ≡ true) where
       unfolding subscribe_step
       not_lower h e = e ∙ rw (le-ltb _ _ above, le-leb _ _ h)
 
-      module _ (below : m.id < l.maximum) {f : Found} (found : f ≡ find alias_of m.alias 0 (held l)) where
-        has : has_alias m.alias (held l) ≡ is_found f
-        has = has-found m.alias 0 (held l) ∙ ap is_found (sym found)
+      module _ (below : m.id < l.maximum) {f : Option ℕ} (found : f ≡ find alias_of m.alias 0 (held l)) where
+        has : has_alias m.alias (held l) ≡ is_some f
+        has = has-found m.alias 0 (held l) ∙ ap is_some (sym found)
 
-        pub alias-held : {i : ℕ} {came : Came} → f ≡ At i → came ≡ came_of (replied (view_of l) (is_own l.part Subscriber) (broken R4)) → came ≡ came_of (subscribe_step (view_of l) m)
+        pub alias-held : {came : Came} → is_some f ≡ true → came ≡ came_of (replied (view_of l) (is_own l.part Subscriber) (broken R4)) → came ≡ came_of (subscribe_step (view_of l) m)
         unfolding subscribe_step
         alias-held at e = e ∙ rw (le-ltb _ _ above, lt-leb _ _ below, has, at)
 
-        module _ (missing : f ≡ Missing) where
+        module _ (missing : is_some f ≡ false) where
           full : l.capacity ≤ l.used → subscribe_step (view_of l) m ≡ unchanged (view_of l) 11
           unfolding subscribe_step
           full h = rw (le-ltb _ _ above, lt-leb _ _ below, has, missing, used-is l shape, le-leb _ _ h)

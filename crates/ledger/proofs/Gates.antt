@@ -1,4 +1,5 @@
 -- What every call looks at first, and what it then comes to. Assumes nothing.
+use Rattle.std.specs.Prelude.{Result, Ok, Err}
 use Prim.Native.Nat.{ℕ}
 use mathlib.Core.Path.{◌≡◌, refl, sym, ap, ◌∙◌}
 use mathlib.Core.Bool.{Bool, true, false}
@@ -10,8 +11,6 @@ use Rattle.ledger.specs.Answers.{Verdict, no_rule, told_answer, told, Came, stop
 use Rattle.ledger.specs.declared.Ledger.{Ledger}
 use Rattle.ledger.specs.declared.Answer.{Answer}
 use Rattle.ledger.specs.declared.Answer.TheVariants.{Forbidden, Done, NotKept, AlreadyClosed, Full, Stale, Breaks, NotALedger, StartRefused, Counted, Outside, NoRow, StillPending}
-use Rattle.ledger.specs.declared.Gate.{Gate}
-use Rattle.ledger.specs.declared.Gate.TheVariants.{Pass, Stop}
 
 -- every answer has a number
 some_number : (a : Answer) → (told_answer a).number ≡ 0 → ⊥
@@ -44,9 +43,9 @@ gate-passed l sound e = passes (is_ledger l) sound (is_open l.session) e
 
 -- ---- a call, by what the gate told
 
-module _ (l : Ledger) {sound want : Bool} (judged : sound ≡ want) {g : Gate} (t : told_gate g ≡ no_rule (gate_of l sound)) where
+module _ (l : Ledger) {sound want : Bool} (judged : sound ≡ want) {g : Result Unit Answer} (t : told_gate g ≡ no_rule (gate_of l sound)) where
   -- it stops there,
-  pub stopped : {a : Answer} (rest : Came) → g ≡ Stop a → told (record { answer = a; ledger = l }) ≡ gated l want rest
+  pub stopped : {a : Answer} (rest : Came) → g ≡ Err a → told (record { answer = a; ledger = l }) ≡ gated l want rest
   unfolding gated
   stopped {a} rest e =
       let at : told_answer a ≡ no_rule (gate_of l want) = sym (ap told_gate e) ∙ t ∙ ap (λ (b : Bool). no_rule (gate_of l b)) judged in
@@ -54,14 +53,14 @@ module _ (l : Ledger) {sound want : Bool} (judged : sound ≡ want) {g : Gate} (
       rw (ne_eqb (gate_of l want) 0 some) (ap (λ (s : Verdict). record { says = s; next = l }) at)
 
   -- or goes on
-  at_zero : g ≡ Pass → gate_of l want ≡ 0
+  at_zero : g ≡ Ok tt → gate_of l want ≡ 0
   at_zero e =
       sym (ap (λ (b : Bool). gate_of l b) judged) ∙ sym (ap (λ (s : Verdict). s.number) (sym (ap told_gate e) ∙ t))
 
-  pub went : {came rest : Came} → g ≡ Pass → came ≡ rest → came ≡ gated l want rest
+  pub went : {came rest : Came} → g ≡ Ok tt → came ≡ rest → came ≡ gated l want rest
   unfolding gated
   went e h = h ∙ sym (rw (eq-eqb (gate_of l want) 0 (at_zero e)))
 
   -- with a ledger
-  pub went-ledger : g ≡ Pass → is_ledger l ≡ true
+  pub went-ledger : g ≡ Ok tt → is_ledger l ≡ true
   went-ledger e = (gate-passed l want (at_zero e)).0

@@ -1,31 +1,45 @@
--- The loops that look for a number: those that are left give what all of them give. Assumes nothing.
-use Prim.Native.Nat.{ℕ, ◌+◌, ◌≤◌, ◌<◌}
+-- What the library's searches of rows give, in the words of `specs/`. Assumes nothing.
+use Rattle.std.specs.Prelude.{Option, Some, None}
+use Rattle.std.specs.List.{list_all, list_any}
+use Rattle.std.specs.List.{position_from}
+use Rattle.std.proofs.lemmas.Iterator.Adapters.{position_from-zero}
+use Prim.Native.Nat.{ℕ, ◌+◌}
 use mathlib.Core.Path.{◌≡◌, refl, sym, ◌∙◌}
-use mathlib.Core.List.{List}
-use borrow.Author.Tests.{eq-eqb, ne_eqb}
-use lib.ListN.{length, take, drop, get_or}
+use mathlib.Core.Bool.{Bool, true, false, cond, ◌||◌, ◌&&◌}
+use mathlib.Core.List.{List, [], ◌∷◌}
+use lib.Dec.{eqb, ltb}
+use lib.ListN.{length}
+use Rattle.std.specs.List.{position_or_len}
+use Rattle.common.specs.Choice.{pick, both}
+use Rattle.row.specs.Rows.{is_unused}
+use Rattle.row.specs.declared.Row.{Row}
+use Rattle.ledger.specs.Ledgers.{has_alias, all_unused}
 use Rattle.ledger.specs.Arrays.{find}
-use Rattle.ledger.specs.declared.Found.TheVariants.{At, Missing}
-use Rattle.ledger.proofs.PartsOfLists.{part-next, part_end}
 
-module _ {A : Type 0} (key : A → ℕ) (n : ℕ) (xs : List A) (used : ℕ) where
-  pub Looking : ℕ → Type 0
-  Looking i = find key n i (drop i (take used xs)) ≡ find key n 0 (take used xs)
+module _ {A : Type 0} (key : A → ℕ) (n : ℕ) where
+  finds-from : (from : ℕ) (xs : List A) → find key n from xs ≡ position_from (λ x. eqb (key x) n) from xs
+  unfolding find
+  finds-from from [] = refl
+  finds-from from (x ∷ xs) = rw (finds-from (from + 1) xs)
 
-  pub looks : Looking 0
-  unfolding Looking
-  looks = refl
+  -- where `position` says that the first with the number stands
+  pub found : (xs : List A) {f : Option ℕ} → (let i = position_or_len (λ x. eqb (key x) n) xs in f ≡ cond (ltb i (length xs)) (Some i) None) → f ≡ find key n 0 xs
+  found xs e = e ∙ position_from-zero (λ x. eqb (key x) n) xs ∙ sym (finds-from 0 xs)
 
-  module _ (i : ℕ) (long : used ≤ length xs) (a : Looking i) where
-    module _ (d : A) (h : i < used) {x : ℕ} (number : x ≡ key (get_or xs i d)) where
-      pub is-here : x ≡ n → At i ≡ find key n 0 (take used xs)
-      unfolding Looking find
-      is-here e = sym (rw (part-next xs used i long d h, ← number, eq-eqb x n e)) ∙ a
+pub alias-any : (alias : ℕ) (rs : List Row) → list_any (λ r. eqb r.alias alias) rs ≡ has_alias alias rs
+unfolding has_alias
+alias-any alias [] = refl
+alias-any alias (r ∷ rs) = rw (alias-any alias rs) (go (eqb r.alias alias) (has_alias alias rs))
+  where
+    go : (b c : Bool) → (b || c) ≡ pick b true c
+    go true c = refl
+    go false c = refl
 
-      pub not-here : (x ≡ n → ⊥) → Looking (i + 1)
-      unfolding Looking find
-      not-here e = sym (rw (part-next xs used i long d h, ← number, ne_eqb x n e)) ∙ a
-
-    pub nowhere : used ≤ i → Missing ≡ find key n 0 (take used xs)
-    unfolding Looking find
-    nowhere h = sym (rw (part_end xs used i long h)) ∙ a
+pub unused-all : (rs : List Row) → list_all is_unused rs ≡ all_unused rs
+unfolding all_unused
+unused-all [] = refl
+unused-all (r ∷ rs) = rw (unused-all rs) (go (is_unused r) (all_unused rs))
+  where
+    go : (b c : Bool) → (b && c) ≡ both b c
+    go true c = refl
+    go false c = refl

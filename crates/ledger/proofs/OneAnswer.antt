@@ -1,5 +1,6 @@
 -- What is told of an answer loses nothing: one number and rule, one answer; so each contract leaves one possible answer and
 -- ledger. Assumes nothing.
+use Rattle.std.specs.Prelude.{Result, Ok, Err}
 use Prim.Native.Nat.{ℕ}
 use mathlib.Core.Path.{◌≡◌, refl, sym, ap, ◌∙◌}
 use mathlib.Core.List.{List}
@@ -12,8 +13,8 @@ use Rattle.ledger.specs.declared.Rule.TheVariants.{R1, R2, R3, R4, R5, R6, R7}
 use Rattle.ledger.specs.declared.Answer.{Answer}
 use Rattle.ledger.specs.declared.Answer.TheVariants.{Forbidden, Done, NotKept, AlreadyClosed, Full, Stale, Breaks, NotALedger, StartRefused, Counted, Outside, NoRow, StillPending}
 use Rattle.ledger.specs.declared.Taken.{Taken}
-use Rattle.ledger.specs.declared.Filled.{Filled}
-use Rattle.ledger.specs.declared.Filled.TheVariants.{Done as Enough, NotALedger as NoLedger, TooShort}
+use Rattle.ledger.specs.declared.RunRefused.{RunRefused}
+use Rattle.ledger.specs.declared.RunRefused.TheVariants.{NotALedger as NoLedger, TooShort}
 use Rattle.ledger.specs.declared.Ran.{Ran}
 use Rattle.ledger.specs.Runs.{Run, told_filled, Runs}
 
@@ -74,15 +75,15 @@ told-once a b e =
 
 -- ---- a run
 
-filled_of : AnswerOf Nothing → Filled
-filled_of (whole n used) = Enough used
-filled_of (refused n) = pick (eqb n 14) NoLedger TooShort
+filled_of : AnswerOf Nothing → Result ℕ RunRefused
+filled_of (whole n used) = Ok used
+filled_of (refused n) = Err (pick (eqb n 14) NoLedger TooShort)
 
-filled-back : (f : Filled) → filled_of (told_filled f) ≡ f
+filled-back : (f : Result ℕ RunRefused) → filled_of (told_filled f) ≡ f
 unfolding filled_of
-filled-back (Enough count) = refl
-filled-back NoLedger = refl
-filled-back TooShort = refl
+filled-back (Ok count) = refl
+filled-back (Err NoLedger) = refl
+filled-back (Err TooShort) = refl
 
 -- two runs that do the same are the same
 pub ran-once : (w : Run) (a b : Ran) (before after : List ℕ) → Runs w a before → Runs w b after → (a ≡ b) × (before ≡ after)

@@ -1,12 +1,12 @@
 -- A list's first n elements from the i-th on, as a loop over an array's first n elements sees them; and the rows in use, so.
 -- Assumes nothing.
-use Prim.Native.Nat.{ℕ, ◌+◌, ◌≤◌, ◌<◌}
+use Prim.Native.Nat.{ℕ, ◌+◌, ◌-◌, ◌≤◌, ◌<◌}
 use mathlib.Core.Path.{◌≡◌, ◌∙◌}
 use mathlib.Core.List.{List, [], ◌∷◌}
 use native.Mathlib.Numerals.{add-one}
 use native.Mathlib.Omega.{arith}
-use lib.ListN.{length, take, drop, get_or, drop_of_length-le}
-use lib.Seq.{drop-cons, length-take-le, get_or-take}
+use lib.ListN.{length, take, drop, get_or, drop_of_length-le, length-drop}
+use lib.Seq.{take_all, drop-cons, length-take-le, get_or-take}
 use Rattle.row.specs.declared.Row.{Row}
 use Rattle.ledger.specs.Ledgers.{most_rows, held}
 use Rattle.ledger.specs.declared.Ledger.{Ledger}
@@ -17,6 +17,10 @@ module _ {A : Type 0} (xs : List A) (i : ℕ) where
 
   pub rest_end : length xs ≤ i → drop i xs ≡ []
   rest_end h = drop_of_length-le xs {i = i} h
+
+-- all from the i-th on, as a slice has them
+pub from_on : {A : Type 0} (xs : List A) (i : ℕ) → take (length xs - i) (drop i xs) ≡ drop i xs
+from_on xs i = take_all (length xs - i) (drop i xs) (rw length-drop (omega arith))
 
 -- the i-th of the first n, and those after it
 module _ {A : Type 0} (xs : List A) (n i : ℕ) (long : n ≤ length xs) where

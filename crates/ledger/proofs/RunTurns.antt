@@ -1,21 +1,24 @@
 -- A run of arrivals, one turn after the other. Assumes nothing.
-use Prim.Native.Nat.{ℕ, suc, ◌+◌, ◌*◌, ◌/◌, ◌≤◌, ◌<◌}
+use Rattle.std.specs.Prelude.{Option, Some, None, Result, Ok, Err}
+use Rattle.std.specs.Result.{result_unwrap_or}
+use Rattle.std.specs.Simd.{first_chunks}
+use Prim.Native.Nat.{ℕ, zero, suc, ◌+◌, ◌*◌, ◌/◌, ◌≤◌, ◌<◌}
 use mathlib.Core.Path.{◌≡◌, refl, sym, ap, subst, ◌∙◌}
 use mathlib.Core.Bool.{Bool, true, false}
 use mathlib.Core.List.{List, [], ◌∷◌, ◌++◌, map, append-nil}
 use native.Mathlib.Numerals.{add-one}
-use native.Mathlib.Nat.{add-div_right, lt-div-mul-add, div-mul-le_self}
+use native.Mathlib.Nat.{add-zero, add-div_right, lt-div-mul-add, div-mul-le_self}
 use native.Mathlib.Omega.{arith}
 use borrow.Author.Tests.{ne_eqb, eqb-true, le-leb, lt-leb}
 use lib.Dec.{leb, eqb}
 use lib.ListN.{length, take, drop, get_or, set, length-drop, length-append, length-map}
-use lib.Seq.{drop-cons, set_at, append_snoc, map-set_same}
+use lib.Seq.{drop-drop, get_or-take, get_or-drop, drop-cons, set_at, append_snoc, map-set_same}
 use Rattle.common.specs.Answer.{wrote}
 use Rattle.common.proofs.Cases.{pick-by}
 use Rattle.field.specs.declared.Arrival.{Arrival}
 use Rattle.row.specs.Rows.{unused_row, arrive_of, arrived_number, left_by, told_arriving}
 use Rattle.row.specs.declared.Row.{Row}
-use Rattle.row.specs.declared.Arriving.{Arriving}
+use Rattle.row.specs.declared.NotCounted.{NotCounted}
 use Rattle.row.proofs.Keeping.{after, after-alias}
 use Rattle.ledger.specs.Ledgers.{most_rows, held, is_ledger, is_open}
 use Rattle.ledger.specs.Answers.{Came, no_rule, same, stops, gate_of, gated}
@@ -24,9 +27,7 @@ use Rattle.ledger.specs.Steps.{alias_of, arrival_step, arrival_of, small_arrival
 use Rattle.ledger.specs.Arrays.{find, row_at, changed}
 use Rattle.ledger.specs.Runs.{arrivals_in, itself, after_arrivals, answer_numbers, run_of, Runs}
 use Rattle.ledger.specs.declared.Ledger.{Ledger}
-use Rattle.ledger.specs.declared.Filled.TheVariants.{Done, NotALedger, TooShort}
-use Rattle.ledger.specs.declared.Found.{Found}
-use Rattle.ledger.specs.declared.Found.TheVariants.{At, Missing}
+use Rattle.ledger.specs.declared.RunRefused.TheVariants.{NotALedger, TooShort}
 use Rattle.ledger.proofs.Facts.{parts, ledger-used}
 use Rattle.ledger.proofs.Gates.{gate-passed}
 use Rattle.ledger.proofs.Finds.{found-used, by_place}
@@ -70,6 +71,26 @@ numbers-long : (l : Ledger) (came : List Arrival) → length (answer_numbers l c
 unfolding answer_numbers
 numbers-long l [] = refl
 numbers-long l (a ∷ came) = ap suc (numbers-long (arrival_of l a).next came)
+
+-- a third of them, as the code cuts them
+chunk : (n k : ℕ) (ns : List ℕ) → k < n → get_or (first_chunks 3 n ns) k [] ≡ take 3 (drop (3 * k) ns)
+chunk zero k ns h = absurd (omega arith)
+chunk (suc n) zero ns h = refl
+chunk (suc n) (suc k) ns h =
+    chunk n k (drop 3 ns) (omega arith)
+    ∙ ap (take 3) (drop-drop (3 * k) 3 ns ∙ ap (λ (m : ℕ). drop m ns) (let e : 3 + 3 * k ≡ 3 * suc k = omega arith in e))
+
+module _ (ns : List ℕ) (came : List (List ℕ)) (k : ℕ) (cut : came ≡ first_chunks 3 (length ns / 3) ns) (h : k < length ns / 3) where
+  number : (j : ℕ) → j < 3 → get_or (get_or came k []) j 0 ≡ get_or ns (3 * k + j) 0
+  number j l = rw (cut, chunk (length ns / 3) k ns h, get_or-take 3 (drop (3 * k) ns) j 0 l) (get_or-drop (3 * k) ns j 0)
+
+  pub in-chunk : record { alias = get_or (get_or came k []) 0 0; place = record { group = get_or (get_or came k []) 1 0; object = get_or (get_or came k []) 2 0 } } ≡ arrival_at ns (3 * k)
+  in-chunk = rw (number 0 (omega arith), number 1 (omega arith), number 2 (omega arith), add-zero (3 * k))
+
+-- the row that is left, as the code has it
+left-is : (came : Result Row NotCounted) (r : Row) → result_unwrap_or came r ≡ left_by came r
+left-is (Err why) r = refl
+left-is (Ok next) r = refl
 
 -- ---- what an arrival leaves as it was
 
@@ -161,10 +182,10 @@ module _ {start : Ledger} {run before names : List ℕ} {opened : Bool} {used : 
           more = rw (to, says) (append_snoc g.told _ _ ∙ (rw (three run k h) at g.more));
         }
 
-    module _ {n : ℕ} (first : n ≡ stops true (small_arrival (arrival_at run (3 * k))) opened) where
+    module _ {a : Arrival} (at : a ≡ arrival_at run (3 * k)) {n : ℕ} (first : n ≡ stops true (small_arrival a) opened) where
       gate : n ≡ gate_of l (small_arrival (arrival_at run (3 * k)))
       unfolding gate_of
-      gate = first ∙ rw (g.is, g.goes)
+      gate = first ∙ rw (at, g.is, g.goes)
 
       pub stopped-turn : (n ≡ 0 → ⊥) → Along start run before names opened used (set answers k n) l (k + 1)
       stopped-turn z =
@@ -179,10 +200,10 @@ module _ {start : Ledger} {run before names : List ℕ} {opened : Bool} {used : 
             let long : length names ≡ most_rows = ap length g.named ∙ length-map l.rows alias_of ∙ (parts l g.is).long in
             (omega (arith, g.uses), omega (arith, g.uses))
 
-        module _ {f : Found} (found : f ≡ find itself (get_or run (3 * k) 0) 0 (take used names)) where
+        module _ {f : Option ℕ} (found : f ≡ find itself a.alias 0 (take used names)) where
           by-alias : f ≡ find alias_of (get_or run (3 * k) 0) 0 (held l)
           unfolding held
-          by-alias = found ∙ rw (g.named, g.uses, take-map alias_of l.used l.rows, find-map)
+          by-alias = found ∙ rw (at, g.named, g.uses, take-map alias_of l.used l.rows, find-map)
 
           step : arrival_of l (arrival_at run (3 * k)) ≡ came_of (arrival_step (view_of l) (arrival_at run (3 * k)))
           step = arrival-went l (arrival_at run (3 * k)) (sym gate ∙ z)
@@ -191,15 +212,17 @@ module _ {start : Ledger} {run before names : List ℕ} {opened : Bool} {used : 
           taken-turn : {n : ℕ} {next : Ledger} → record { says = no_rule n; next = next } ≡ came_of (arrival_step (view_of l) (arrival_at run (3 * k))) → Along start run before names opened used (set answers k n) next (k + 1)
           taken-turn e = let s = e ∙ sym step in turn (ap (λ (c : Came). c.next) s) (ap (λ (c : Came). c.says.number) s)
 
-          pub missed-turn : f ≡ Missing → Along start run before names opened used (set answers k 18) l (k + 1)
+          pub missed-turn : f ≡ None → Along start run before names opened used (set answers k 18) l (k + 1)
           missed-turn e = taken-turn (no-alias l g.is (arrival_at run (3 * k)) by-alias e)
 
-          module _ {i : ℕ} (at : f ≡ At i) where
+          module _ {i : ℕ} (here : f ≡ Some i) where
             pub inside : i < most_rows
-            inside = omega (arith, found-used alias_of (get_or run (3 * k) 0) l by-alias at, ledger-used l g.is)
+            inside = omega (arith, found-used alias_of (get_or run (3 * k) 0) l by-alias here, ledger-used l g.is)
 
-            pub counted-turn : (w : Arriving) {r : Row} {m : ℕ} → told_arriving w (row_at l i) ≡ arrive_of (row_at l i) (arrival_at run (3 * k)).place → r ≡ left_by w (row_at l i) → m ≡ arrived_number w → Along start run before names opened used (set answers k m) (changed l i r) (k + 1)
-            counted-turn w came left number = taken-turn (rw (left, number) (answered l g.is (arrival_at run (3 * k)) by-alias at {v = w} came {u = w} refl))
+            pub counted-turn : (w : Result Row NotCounted) {r : Row} {m : ℕ} → told_arriving w (row_at l i) ≡ arrive_of (row_at l i) a.place → r ≡ result_unwrap_or w (row_at l i) → m ≡ arrived_number w → Along start run before names opened used (set answers k m) (changed l i r) (k + 1)
+            counted-turn w came left number =
+                let to = came ∙ ap (λ (x : Arrival). arrive_of (row_at l i) x.place) at in
+                taken-turn (rw (left ∙ left-is w (row_at l i), number) (answered l g.is (arrival_at run (3 * k)) by-alias here {v = w} to {u = w} refl))
 
   -- after the last
   module _ {count : ℕ} (e : count ≡ length run / 3) (all : count ≤ k) (to : k ≤ count) where
@@ -216,7 +239,7 @@ module _ {start : Ledger} {run before names : List ℕ} {opened : Bool} {used : 
     unfolding after_arrivals
     all-behind = rw over-all at g.rest
 
-    pub ends : is_ledger start ≡ true → count ≤ length before → Runs (run_of start run before) (record { answer = Done count; ledger = l }) answers
+    pub ends : is_ledger start ≡ true → count ≤ length before → Runs (run_of start run before) (record { answer = Ok count; ledger = l }) answers
     unfolding run_of
     ends valid room =
         let counts : count ≡ length (arrivals_in run) = e ∙ sym (thirds run) in
@@ -238,12 +261,12 @@ pub within : (n k : ℕ) → k < n / 3 → 3 * k + 2 < n
 within n k h = omega (arith, div-mul-le_self n 3)
 
 -- what is no ledger takes none
-pub not-one : (l : Ledger) (run before : List ℕ) → is_ledger l ≡ false → Runs (run_of l run before) (record { answer = NotALedger; ledger = l }) before
+pub not-one : (l : Ledger) (run before : List ℕ) → is_ledger l ≡ false → Runs (run_of l run before) (record { answer = Err NotALedger; ledger = l }) before
 unfolding run_of
 not-one l run before e = record { says = rw e; next = rw e; holds = rw e }
 
 -- no room for the numbers
-pub no_room : (l : Ledger) (run before : List ℕ) {count : ℕ} → is_ledger l ≡ true → count ≡ length run / 3 → length before < count → Runs (run_of l run before) (record { answer = TooShort; ledger = l }) before
+pub no_room : (l : Ledger) (run before : List ℕ) {count : ℕ} → is_ledger l ≡ true → count ≡ length run / 3 → length before < count → Runs (run_of l run before) (record { answer = Err TooShort; ledger = l }) before
 unfolding run_of
 no_room l run before valid e h =
     let short = lt-leb (length (arrivals_in run)) (length before) (omega (arith, thirds run)) in

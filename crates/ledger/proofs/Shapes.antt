@@ -1,4 +1,5 @@
 -- A ledger is the one that has its view: the rows in use stand first, and every other place is unused. Assumes nothing.
+use Rattle.std.specs.Prelude.{Option, Some, None}
 use Prim.Native.Nat.{ℕ, ◌-◌, ◌≤◌}
 use mathlib.Core.Path.{◌≡◌, refl, sym, ap, ◌∙◌}
 use mathlib.Core.Bool.{true, not}
@@ -9,14 +10,13 @@ use lib.Dec.{eqb}
 use lib.ListN.{length, take, drop, replicate, take-append-drop, length-drop}
 use Rattle.common.specs.Lists.{up_to}
 use Rattle.common.proofs.Tests.{both_first, both-second}
+use Rattle.field.specs.declared.Place.{Place}
 use Rattle.row.specs.Ranges.{is_known}
 use Rattle.row.specs.Rows.{unused_row, is_pending, is_nowhere, is_unused}
 use Rattle.row.specs.declared.State.{State}
 use Rattle.row.specs.declared.State.TheVariants.{Pending, Active}
 use Rattle.row.specs.declared.Range.{Range}
 use Rattle.row.specs.declared.Range.TheVariants.{Unknown, Open, Closed}
-use Rattle.row.specs.declared.Greatest.{Greatest}
-use Rattle.row.specs.declared.Greatest.TheVariants.{Nowhere, At}
 use Rattle.row.specs.declared.Row.{Row}
 use Rattle.ledger.specs.Ledgers.{most_rows, held, all_unused}
 use Rattle.ledger.specs.Answers.{Came, same}
@@ -39,10 +39,10 @@ is-unknown Unknown e = refl
 is-unknown (Open p) e = absurd (let z : ◌≡◌ {A = ℕ} 0 1 = cc in omega arith)
 is-unknown (Closed p g) e = absurd (let z : ◌≡◌ {A = ℕ} 0 1 = cc in omega arith)
 
-is-nowhere : (g : Greatest) → is_nowhere g ≡ true → g ≡ Nowhere
+is-nowhere : (g : Option Place) → is_nowhere g ≡ true → g ≡ None
 unfolding is_nowhere
-is-nowhere Nowhere e = refl
-is-nowhere (At p) e = absurd (let z : ◌≡◌ {A = ℕ} 0 1 = cc in omega arith)
+is-nowhere None e = refl
+is-nowhere (Some p) e = absurd (let z : ◌≡◌ {A = ℕ} 0 1 = cc in omega arith)
 
 pub unused-is : (r : Row) → is_unused r ≡ true → r ≡ unused_row
 unfolding is_unused

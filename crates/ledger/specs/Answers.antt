@@ -1,5 +1,5 @@
 -- What a ledger answers, in the numbers of document 01, and the ledger that it leaves.
-use Rattle.std.specs.Prelude.{ℕ, Bool, true, false, eqb}
+use Rattle.std.specs.Prelude.{ℕ, Bool, true, false, eqb, Result, Ok, Err}
 use Rattle.common.specs.Choice.{guard}
 use Rattle.ledger.specs.Ledgers.{is_ledger, is_open}
 use Rattle.ledger.specs.declared.Part.{Part}
@@ -12,8 +12,6 @@ use Rattle.ledger.specs.declared.Ledger.{Ledger}
 use Rattle.ledger.specs.declared.Answer.{Answer}
 use Rattle.ledger.specs.declared.Answer.TheVariants.{Forbidden, Done, NotKept, AlreadyClosed, Full, Stale, Breaks, NotALedger, StartRefused, Counted, Outside, NoRow, StillPending}
 use Rattle.ledger.specs.declared.Taken.{Taken}
-use Rattle.ledger.specs.declared.Gate.{Gate}
-use Rattle.ledger.specs.declared.Gate.TheVariants.{Pass, Stop}
 
 abbrev pub rule_number : Rule → ℕ
 rule_number R1 = 1
@@ -96,9 +94,9 @@ stops is_ledger sound opened = guard is_ledger 14 (guard sound 5 (guard opened 1
 unfoldable pub gate_of : Ledger → Bool → ℕ
 gate_of l sound = stops (is_ledger l) sound (is_open l.session)
 
-abbrev pub told_gate : Gate → Verdict
-told_gate Pass = no_rule 0
-told_gate (Stop answer) = told_answer answer
+abbrev pub told_gate : Result Unit Answer → Verdict
+told_gate (Ok passed) = no_rule 0
+told_gate (Err answer) = told_answer answer
 
 -- the rest, past the gate
 unfoldable pub gated : Ledger → Bool → Came → Came

@@ -1,24 +1,15 @@
 -- Rows in their places, as the code finds them and stores them. This stands between the code and its proof: what a
 -- method promises is said of views, without it.
-use Rattle.std.specs.Prelude.{ℕ, suc, ◌+◌, ◌-◌, List, [], ◌∷◌, ◌++◌, take, drop, get_or, set, eqb}
+use Rattle.std.specs.Prelude.{ℕ, suc, ◌+◌, ◌-◌, List, [], ◌∷◌, ◌++◌, take, drop, get_or, set, eqb, Option, Some, None}
 use Rattle.common.specs.Choice.{pick}
 use Rattle.row.specs.Rows.{unused_row}
 use Rattle.row.specs.declared.Row.{Row}
-use Rattle.ledger.specs.Steps.{id_of, alias_of}
 use Rattle.ledger.specs.declared.Ledger.{Ledger}
-use Rattle.ledger.specs.declared.Key.{Key}
-use Rattle.ledger.specs.declared.Key.TheVariants.{Id, Alias}
-use Rattle.ledger.specs.declared.Found.{Found}
-use Rattle.ledger.specs.declared.Found.TheVariants.{At, Missing}
 
 -- where the first stands, counted from `from`, that has this number
-unfoldable pub find : {A : Type 0} → (A → ℕ) → ℕ → ℕ → List A → Found
-find of n from [] = Missing
-find of n from (r ∷ rs) = pick (eqb (of r) n) (At from) (find of n (from + 1) rs)
-
-abbrev pub key_of : Key → Row → ℕ
-key_of Id = id_of
-key_of Alias = alias_of
+unfoldable pub find : {A : Type 0} → (A → ℕ) → ℕ → ℕ → List A → Option ℕ
+find of n from [] = None
+find of n from (r ∷ rs) = pick (eqb (of r) n) (Some from) (find of n (from + 1) rs)
 
 abbrev pub row_at : Ledger → ℕ → Row
 row_at l i = get_or l.rows i unused_row

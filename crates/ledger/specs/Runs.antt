@@ -1,5 +1,5 @@
 -- Arrivals that come together: three numbers each, taken one by one.
-use Rattle.std.specs.Prelude.{ℕ, ◌≡◌, List, [], ◌∷◌, length, leb}
+use Rattle.std.specs.Prelude.{ℕ, ◌≡◌, List, [], ◌∷◌, length, leb, Result, Ok, Err}
 use Rattle.common.specs.Choice.{guard}
 use Rattle.common.specs.Answer.{Answer, refused, Nothing, wrote}
 use Rattle.common.specs.Buffer.{over}
@@ -7,8 +7,8 @@ use Rattle.field.specs.declared.Arrival.{Arrival}
 use Rattle.ledger.specs.Ledgers.{is_ledger}
 use Rattle.ledger.specs.Steps.{arrival_of}
 use Rattle.ledger.specs.declared.Ledger.{Ledger}
-use Rattle.ledger.specs.declared.Filled.{Filled}
-use Rattle.ledger.specs.declared.Filled.TheVariants.{Done, NotALedger, TooShort}
+use Rattle.ledger.specs.declared.RunRefused.{RunRefused}
+use Rattle.ledger.specs.declared.RunRefused.TheVariants.{NotALedger, TooShort}
 use Rattle.ledger.specs.declared.Ran.{Ran}
 
 -- "An arrival is alias, group, object"; one or two numbers at the end are none
@@ -52,10 +52,10 @@ run_of l run before =
     (guard (leb (length came) (length before)) (no_run l before 7)
     (record { says = wrote (length came); next = after_arrivals l came; holds = over (answer_numbers l came) before }))
 
-abbrev pub told_filled : Filled → Answer Nothing
-told_filled (Done count) = wrote count
-told_filled NotALedger = refused 14
-told_filled TooShort = refused 7
+abbrev pub told_filled : Result ℕ RunRefused → Answer Nothing
+told_filled (Ok count) = wrote count
+told_filled (Err NotALedger) = refused 14
+told_filled (Err TooShort) = refused 7
 
 pub record Runs (w : Run) (r : Ran) (after : List ℕ) : Type 0 where
   pub says : told_filled r.answer ≡ w.says

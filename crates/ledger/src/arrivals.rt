@@ -5,47 +5,30 @@ ghost use Rattle.ledger.specs.Answers.{told};
 ghost use Rattle.ledger.specs.Views.{view_of, came_of};
 ghost use Rattle.ledger.specs.Steps.{arrival_step, small_arrival};
 
-use crate::finding::find_row;
+use crate::finding::find_alias;
 use crate::subscribing::with_row;
-use crate::{Answer, Found, Key, Ledger, Taken};
+use crate::{Answer, Ledger, Taken};
 use field::Arrival;
-use row::Arriving;
+use row::NotCounted;
 
 // Whether no number of an arrival is above the greatest integer.
+#[tactic(auto, unfolding(crate::specs::Steps::small_arrival, row::specs::Places::small))]
 pub fn is_small(a: Arrival) -> bool
     ensures { result ≡ small_arrival a }
 {
-    if a.alias > integer::GREATEST {
-        return false;
-    }
-    let place = a.place;
-    row::is_small(place)
+    a.alias <= integer::GREATEST && row::is_small(a.place)
 }
 
 pub fn count(l: Ledger, a: Arrival) -> Taken
     requires { is_ledger l ≡ true }
     ensures { told result ≡ came_of (arrival_step (view_of l) a) }
 {
-    let place = a.place;
-    let Found::At(i) = find_row(l, Key::Alias, a.alias) else {
-        return Taken {
-            answer: Answer::NoRow,
-            ledger: l,
-        };
+    let Some(i) = find_alias(&l, a.alias) else {
+        return l.answers(Answer::NoRow);
     };
-    let row = l.rows[i];
-    match row::arrive(row, place) {
-        Arriving::Waiting => return Taken {
-            answer: Answer::StillPending,
-            ledger: l,
-        },
-        Arriving::Outside => return Taken {
-            answer: Answer::Outside,
-            ledger: l,
-        },
-        Arriving::Counted(counted) => return Taken {
-            answer: Answer::Counted,
-            ledger: with_row(l, i, counted),
-        },
+    match row::arrive(l.rows[i], a.place) {
+        Err(NotCounted::Waiting) => l.answers(Answer::StillPending),
+        Err(NotCounted::Outside) => l.answers(Answer::Outside),
+        Ok(counted) => with_row(l, i, counted).answers(Answer::Counted),
     }
 }

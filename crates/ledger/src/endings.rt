@@ -6,10 +6,10 @@ ghost use Rattle.ledger.specs.Views.{view_of, came_of};
 ghost use Rattle.ledger.specs.Steps.{by_id, end_at};
 ghost use Rattle.ledger.specs.Arrays.{freed};
 
-use crate::finding::find_row;
+use crate::finding::find_id;
 use crate::rules::breaks;
 use crate::subscribing::no_row;
-use crate::{Answer, Found, Key, Ledger, MOST_ROWS, Part, Rule, Taken};
+use crate::{Answer, Ledger, MOST_ROWS, Part, Rule, Taken};
 use row::Ending;
 
 // The last place for a row.
@@ -20,16 +20,11 @@ pub fn end(l: Ledger, by: Part, ending: Ending, id: u64) -> Taken
     requires { is_ledger l ≡ true }
     ensures { told result ≡ came_of (by_id (view_of l) by id (end_at ending)) }
 {
-    let Found::At(i) = find_row(l, Key::Id, id) else {
+    let Some(i) = find_id(&l, id) else {
         return no_row(l, by, id);
     };
-    let row = l.rows[i];
-    let state = row.state;
-    if row::may_end(ending, state) {
-        return Taken {
-            answer: Answer::Done,
-            ledger: without(l, i),
-        };
+    if row::may_end(ending, l.rows[i].state) {
+        return without(l, i).answers(Answer::Done);
     }
     breaks(l, by, Rule::R6)
 }
@@ -40,12 +35,7 @@ fn without(l: Ledger, at: usize) -> Ledger
     ensures { result ≡ freed l at }
 {
     let mut next = l;
-    let mut i = at;
-    while i < LAST {
-        let row = l.rows[i + 1];
-        next.rows[i] = row;
-        i += 1;
-    }
+    next.rows[at..].rotate_left(1);
     next.rows[LAST] = row::unused();
     next.used = l.used - 1;
     next

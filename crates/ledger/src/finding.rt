@@ -1,32 +1,31 @@
-// Where a row stands: by its ID, or by its alias.
+// Where a row in use stands: the first with this ID, or with this alias.
 ghost use Rattle.std.specs.Prelude.{◌≡◌, ◌≤◌};
 ghost use Rattle.ledger.specs.Ledgers.{most_rows, held};
-ghost use Rattle.ledger.specs.Arrays.{find, key_of};
+ghost use Rattle.ledger.specs.Steps.{id_of, alias_of};
+ghost use Rattle.ledger.specs.Arrays.{find};
 
-use crate::{Found, Key, Ledger};
+use crate::Ledger;
 use row::Row;
 
-fn key_of(row: Row, key: Key) -> u64
-    ensures { result ≡ key_of key row }
+// The rows in use.
+#[tactic(auto, unfolding(crate::specs::Ledgers::held))]
+pub fn held(l: &Ledger) -> &[Row]
+    requires { l.now.used ≤ most_rows }
+    ensures { result.now ≡ held l.now }
 {
-    match key {
-        Key::Id => row.id,
-        Key::Alias => row.alias,
-    }
+    &l.rows[..l.used]
 }
 
-pub fn find_row(l: Ledger, key: Key, n: u64) -> Found
-    requires { l.used ≤ most_rows }
-    ensures { result ≡ find (key_of key) n 0 (held l) }
+pub fn find_id(l: &Ledger, id: u64) -> Option<usize>
+    requires { l.now.used ≤ most_rows }
+    ensures { result ≡ find id_of id 0 (held l.now) }
 {
-    let used = l.used;
-    let mut i: usize = 0;
-    while i < used {
-        let row = l.rows[i];
-        if key_of(row, key) == n {
-            return Found::At(i);
-        }
-        i += 1;
-    }
-    Found::Missing
+    held(l).iter().position(|row| row.id == id)
+}
+
+pub fn find_alias(l: &Ledger, alias: u64) -> Option<usize>
+    requires { l.now.used ≤ most_rows }
+    ensures { result ≡ find alias_of alias 0 (held l.now) }
+{
+    held(l).iter().position(|row| row.alias == alias)
 }

@@ -3,21 +3,21 @@ ghost use Rattle.std.specs.Prelude.{◌≡◌};
 ghost use Rattle.ledger.specs.Answers.{no_rule, told_gate, gate_of};
 
 use crate::checks::is_ledger;
-use crate::{Answer, Gate, Ledger, Session};
+use crate::{Answer, Ledger, Session};
 
 // Sound is whether the message or the arrival holds no forbidden value.
-pub fn gate(l: Ledger, sound: bool) -> Gate
+#[tactic(auto, unfolding(crate::specs::Answers::gate_of, crate::specs::Answers::stops))]
+pub fn gate(l: Ledger, sound: bool) -> Result<(), Answer>
     ensures { told_gate result ≡ no_rule (gate_of l sound) }
 {
     if !is_ledger(l) {
-        return Gate::Stop(Answer::NotALedger);
+        return Err(Answer::NotALedger);
     }
     if !sound {
-        return Gate::Stop(Answer::Forbidden);
+        return Err(Answer::Forbidden);
     }
-    let session = l.session;
-    match session {
-        Session::Open => Gate::Pass,
-        Session::Closed(_) => Gate::Stop(Answer::AlreadyClosed),
+    match l.session {
+        Session::Open => Ok(()),
+        Session::Closed(_) => Err(Answer::AlreadyClosed),
     }
 }

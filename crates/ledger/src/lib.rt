@@ -2,6 +2,8 @@
 // message or an arrival is taken by a ledger, which hands back the next ledger and an answer.
 #![tactic(auto)]
 
+ghost use Rattle.std.specs.Prelude.{◌≡◌};
+
 mod arrivals;
 mod checks;
 mod endings;
@@ -23,7 +25,7 @@ pub use starting::start;
 pub const MOST_ROWS: usize = 64;
 
 // The end of a session that a ledger belongs to, or that sends a message.
-#[derive(Clone, Copy)]
+#[derive(Clone, Copy, PartialEq, Eq)]
 pub enum Part {
     Subscriber,
     Publisher,
@@ -60,6 +62,18 @@ pub struct Ledger {
     pub used: usize,
 }
 
+impl Ledger {
+    // What is said, with this ledger as the next.
+    fn answers(self, answer: Answer) -> Taken
+        ensures { result ≡ record { answer = answer; ledger = self } }
+    {
+        Taken {
+            answer,
+            ledger: self,
+        }
+    }
+}
+
 // What a ledger answers, in the order of document 01's numbers: 5, 8 to 19.
 #[derive(Clone, Copy)]
 pub enum Answer {
@@ -85,37 +99,16 @@ pub struct Taken {
     pub ledger: Ledger,
 }
 
-// What a run of arrivals answers: how many there were; that it is no ledger; or that there is no room for their
-// answers.
+// Why a run of arrivals is not taken: it is no ledger, or there is no room for the arrivals' answers.
 #[derive(Clone, Copy)]
-pub enum Filled {
-    Done(usize),
+pub enum RunRefused {
     NotALedger,
     TooShort,
 }
 
+// What a run of arrivals answers: how many there were.
 #[derive(Clone, Copy)]
 pub struct Ran {
-    pub answer: Filled,
+    pub answer: Result<usize, RunRefused>,
     pub ledger: Ledger,
-}
-
-// Whether a call goes on to its step, or what it is answered before.
-#[derive(Clone, Copy)]
-enum Gate {
-    Pass,
-    Stop(Answer),
-}
-
-// What a row is found by, and where it stands.
-#[derive(Clone, Copy)]
-enum Key {
-    Id,
-    Alias,
-}
-
-#[derive(Clone, Copy)]
-enum Found {
-    At(usize),
-    Missing,
 }

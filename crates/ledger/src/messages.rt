@@ -13,7 +13,7 @@ use crate::endings::end;
 use crate::gating::gate;
 use crate::rules::{break_rule, breaks};
 use crate::subscribing::{accept, add};
-use crate::{Answer, Gate, Ledger, Part, Rule, Taken};
+use crate::{Answer, Ledger, Part, Rule, Taken};
 use field::Arrival;
 use message::Message;
 use row::Ending;
@@ -67,11 +67,8 @@ impl Ledger {
     pub fn malformed(self) -> Taken
         ensures { told result ≡ malformed_of self }
     {
-        if let Gate::Stop(answer) = gate(self, true) {
-            return Taken {
-                answer,
-                ledger: self,
-            };
+        if let Err(answer) = gate(self, true) {
+            return self.answers(answer);
         }
         break_rule(self, false, Rule::R1)
     }
@@ -79,11 +76,8 @@ impl Ledger {
     pub fn arrival(self, a: Arrival) -> Taken
         ensures { told result ≡ arrival_of self a }
     {
-        if let Gate::Stop(answer) = gate(self, is_small(a)) {
-            return Taken {
-                answer,
-                ledger: self,
-            };
+        if let Err(answer) = gate(self, is_small(a)) {
+            return self.answers(answer);
         }
         count(self, a)
     }
@@ -92,15 +86,12 @@ impl Ledger {
     pub fn take(self, m: Message) -> Taken
         ensures { told result ≡ take_of self m }
     {
-        if let Gate::Stop(answer) = gate(self, message_writer::is_sound(m)) {
-            return Taken {
-                answer,
-                ledger: self,
-            };
+        if let Err(answer) = gate(self, message_writer::is_sound(m)) {
+            return self.answers(answer);
         }
         match m {
-            Message::Subscription(x) => return keep(self, x),
-            _ => return other(self),
+            Message::Subscription(x) => keep(self, x),
+            _ => other(self),
         }
     }
 }
@@ -111,28 +102,23 @@ fn keep(l: Ledger, m: SubscriptionMessage) -> Taken
     ensures { told result ≡ came_of (subscription_step (view_of l) m) }
 {
     match m {
-        SubscriptionMessage::Subscribe(x) => return add(l, x),
-        SubscriptionMessage::SubscribeOk(x) => return accept(l, x),
-        SubscriptionMessage::SubscribeError(x) => return end(
+        SubscriptionMessage::Subscribe(x) => add(l, x),
+        SubscriptionMessage::SubscribeOk(x) => accept(l, x),
+        SubscriptionMessage::SubscribeError(x) => end(
             l,
             Part::Publisher,
             Ending::SubscribeError,
             x.id,
         ),
-        SubscriptionMessage::SubscribeDone(x) => return end(
+        SubscriptionMessage::SubscribeDone(x) => end(
             l,
             Part::Publisher,
             Ending::SubscribeDone,
             x.id,
         ),
-        SubscriptionMessage::Unsubscribe(id) => return end(
-            l,
-            Part::Subscriber,
-            Ending::Unsubscribe,
-            id,
-        ),
-        SubscriptionMessage::MaxSubscribeId(id) => return raise(l, id),
-        _ => return other(l),
+        SubscriptionMessage::Unsubscribe(id) => end(l, Part::Subscriber, Ending::Unsubscribe, id),
+        SubscriptionMessage::MaxSubscribeId(id) => raise(l, id),
+        _ => other(l),
     }
 }
 
@@ -141,10 +127,7 @@ fn other(l: Ledger) -> Taken
     requires { is_ledger l ≡ true }
     ensures { told result ≡ came_of (unchanged (view_of l) 9) }
 {
-    Taken {
-        answer: Answer::NotKept,
-        ledger: l,
-    }
+    l.answers(Answer::NotKept)
 }
 
 // MAX_SUBSCRIBE_ID raises the maximum.
@@ -155,10 +138,5 @@ fn raise(l: Ledger, id: u64) -> Taken
     if id <= l.maximum {
         return breaks(l, Part::Publisher, Rule::R7);
     }
-    let mut next = l;
-    next.maximum = id;
-    Taken {
-        answer: Answer::Done,
-        ledger: next,
-    }
+    Ledger { maximum: id, ..l }.answers(Answer::Done)
 }

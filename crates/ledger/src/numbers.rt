@@ -28,10 +28,10 @@ pub fn number(answer: Answer) -> u8
 pub fn broken(answer: Answer) -> u8
     ensures { result ≡ (told_answer answer).rule }
 {
-    if let Answer::Breaks(rule) = answer {
-        return rule_number(rule);
+    match answer {
+        Answer::Breaks(rule) => rule_number(rule),
+        _ => 0,
     }
-    0
 }
 
 pub fn rule_number(rule: Rule) -> u8

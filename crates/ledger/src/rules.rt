@@ -11,16 +11,7 @@ use crate::{Answer, Ledger, Part, Rule, Session, Taken};
 fn is_own(part: Part, sender: Part) -> bool
     ensures { result ≡ is_own part sender }
 {
-    match part {
-        Part::Subscriber => match sender {
-            Part::Subscriber => true,
-            Part::Publisher => false,
-        },
-        Part::Publisher => match sender {
-            Part::Subscriber => false,
-            Part::Publisher => true,
-        },
-    }
+    part == sender
 }
 
 // A message that breaks a rule: this end's own leaves the ledger as it is, the peer's closes the session.
@@ -28,26 +19,15 @@ pub fn break_rule(l: Ledger, own: bool, rule: Rule) -> Taken
     requires { is_ledger l ≡ true }
     ensures { told result ≡ came_of (replied (view_of l) own (broken rule)) }
 {
-    if own {
-        return Taken {
-            answer: Answer::Breaks(rule),
-            ledger: l,
-        };
-    }
-    let rows = l.rows;
-    let part = l.part;
-    Taken {
-        answer: Answer::Breaks(rule),
-        ledger: Ledger {
-            rows,
-            part,
+    let next = if own {
+        l
+    } else {
+        Ledger {
             session: Session::Closed(rule),
-            capacity: l.capacity,
-            maximum: l.maximum,
-            next: l.next,
-            used: l.used,
-        },
-    }
+            ..l
+        }
+    };
+    next.answers(Answer::Breaks(rule))
 }
 
 // A message of the sender's that breaks a rule.
@@ -55,8 +35,7 @@ pub fn breaks(l: Ledger, sender: Part, rule: Rule) -> Taken
     requires { is_ledger l ≡ true }
     ensures { told result ≡ came_of (replied (view_of l) (is_own l.part sender) (broken rule)) }
 {
-    let part = l.part;
-    break_rule(l, is_own(part, sender), rule)
+    break_rule(l, is_own(l.part, sender), rule)
 }
 
 // The code that a session is closed with: table 1 of source document 004.
@@ -64,12 +43,8 @@ pub fn close_code(rule: Rule) -> u64
     ensures { result ≡ close_code rule }
 {
     match rule {
-        Rule::R1 => 0x3,
-        Rule::R2 => 0x3,
         Rule::R3 => 0x6,
         Rule::R4 => 0x4,
-        Rule::R5 => 0x3,
-        Rule::R6 => 0x3,
-        Rule::R7 => 0x3,
+        _ => 0x3,
     }
 }

@@ -1,8 +1,8 @@
 // A run of arrivals in one call: whether it is a ledger, and open, is looked at once, and the ledger stays in its
 // place.
-ghost use Rattle.std.specs.Prelude.{◌≡◌, true, map, ◌≤◌, length, take};
-ghost use Rattle.row.specs.Rows.{arrived_number, left_by};
-ghost use Rattle.ledger.specs.Ledgers.{most_rows, is_open};
+ghost use Rattle.std.specs.Prelude.{◌≡◌, true, map};
+ghost use Rattle.row.specs.Rows.{arrived_number};
+ghost use Rattle.ledger.specs.Ledgers.{is_open};
 ghost use Rattle.ledger.specs.Answers.{stops};
 ghost use Rattle.ledger.specs.Steps.{alias_of, small_arrival};
 ghost use Rattle.ledger.specs.Arrays.{find};
@@ -10,9 +10,9 @@ ghost use Rattle.ledger.specs.Runs.{run_of, Runs, itself};
 
 use crate::arrivals::is_small;
 use crate::checks::is_ledger;
-use crate::{Filled, Found, Ledger, MOST_ROWS, Ran, Session};
+use crate::{Ledger, MOST_ROWS, Ran, RunRefused, Session};
 use field::{Arrival, Place};
-use row::{Arriving, Row};
+use row::{NotCounted, Row};
 
 impl Ledger {
     // The run holds three numbers for each arrival: alias, group, object. Document 01's number for each is put at the
@@ -22,114 +22,90 @@ impl Ledger {
     {
         if !is_ledger(self) {
             return Ran {
-                answer: Filled::NotALedger,
+                answer: Err(RunRefused::NotALedger),
                 ledger: self,
             };
         }
-        let count = run.len() / 3;
-        if answers.len() < count {
+        let (came, _) = run.as_chunks::<3>();
+        if answers.len() < came.len() {
             return Ran {
-                answer: Filled::TooShort,
+                answer: Err(RunRefused::TooShort),
                 ledger: self,
             };
         }
-        let session = self.session;
-        let opened = is_open(session);
-        let used = self.used;
+        let opened = is_open(self.session);
         let names = aliases(self);
         let mut l = self;
-        let mut k: usize = 0;
-        while k < count {
-            let at = 3 * k;
-            let alias = run[at];
-            let group = run[at + 1];
-            let object = run[at + 2];
-            let place = Place { group, object };
-            let mut n = first(opened, Arrival { alias, place });
+        for (k, [alias, group, object]) in came.iter().enumerate() {
+            let place = Place {
+                group: *group,
+                object: *object,
+            };
+            let mut n = first(
+                opened,
+                Arrival {
+                    alias: *alias,
+                    place,
+                },
+            );
             if n == 0 {
                 n = 18;
-                if let Found::At(i) = find_name(&names, used, alias) {
+                if let Some(i) = find_name(&names[..self.used], *alias) {
                     let row = l.rows[i];
                     let came = row::arrive(row, place);
-                    l.rows[i] = left(row, came);
+                    l.rows[i] = came.unwrap_or(row);
                     n = arrived_number(came);
                 }
             }
             answers[k] = n;
-            k += 1;
         }
-        let answer = Filled::Done(count);
-        Ran { answer, ledger: l }
+        Ran {
+            answer: Ok(came.len()),
+            ledger: l,
+        }
     }
 }
 
 fn is_open(session: Session) -> bool
     ensures { result ≡ is_open session }
 {
-    match session {
-        Session::Open => true,
-        Session::Closed(_) => false,
-    }
+    matches!(session, Session::Open)
 }
 
 // An arrival at a ledger: 5, 10 in this order, or 0 where it is looked at.
+#[tactic(auto, unfolding(crate::specs::Answers::stops))]
 fn first(opened: bool, a: Arrival) -> u8
     ensures { result ≡ stops true (small_arrival a) opened }
 {
     if !is_small(a) {
-        return 5;
+        5
+    } else if !opened {
+        10
+    } else {
+        0
     }
-    if !opened {
-        return 10;
-    }
-    0
 }
 
 // The aliases of all rows.
 fn aliases(l: Ledger) -> [u64; MOST_ROWS]
     ensures { result ≡ map alias_of l.rows }
 {
-    let mut names = [0u64; MOST_ROWS];
-    let mut i: usize = 0;
-    while i < MOST_ROWS {
-        let row = l.rows[i];
-        names[i] = row.alias;
-        i += 1;
-    }
-    names
+    l.rows.map(|row| row.alias)
 }
 
-fn find_name(names: &[u64; MOST_ROWS], used: usize, alias: u64) -> Found
-    requires { (used ≤ most_rows) × (used ≤ length names.now) }
-    ensures { result ≡ find itself alias 0 (take used names.now) }
+fn find_name(names: &[u64], alias: u64) -> Option<usize>
+    ensures { result ≡ find itself alias 0 names.now }
 {
-    let mut i: usize = 0;
-    while i < used {
-        if names[i] == alias {
-            return Found::At(i);
-        }
-        i += 1;
-    }
-    Found::Missing
+    names.iter().position(|name| *name == alias)
 }
 
-// The row after an arrival, and document 01's number for it.
-fn left(row: Row, came: Arriving) -> Row
-    ensures { result ≡ left_by came row }
-{
-    match came {
-        Arriving::Waiting => row,
-        Arriving::Outside => row,
-        Arriving::Counted(next) => next,
-    }
-}
-
-fn arrived_number(came: Arriving) -> u8
+// Document 01's number for what an arrival came to.
+fn arrived_number(came: Result<Row, NotCounted>) -> u8
     ensures { result ≡ arrived_number came }
 {
     match came {
-        Arriving::Waiting => 19,
-        Arriving::Outside => 17,
-        Arriving::Counted(_) => 16,
+        Err(NotCounted::Waiting) => 19,
+        Err(NotCounted::Outside) => 17,
+        Ok(_) => 16,
     }
 }

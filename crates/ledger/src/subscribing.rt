@@ -7,10 +7,10 @@ ghost use Rattle.ledger.specs.Steps.{replied, no_row, subscribe_step, by_id, ok_
 ghost use Rattle.ledger.specs.Arrays.{added, changed};
 ghost use Rattle.ledger.specs.declared.Part.TheVariants.{Publisher};
 
-use crate::finding::find_row;
+use crate::finding::{find_alias, find_id};
 use crate::rules::breaks;
-use crate::{Answer, Found, Key, Ledger, Part, Rule, Taken};
-use row::{Opening, Row};
+use crate::{Answer, Ledger, Part, Rule, Taken};
+use row::Row;
 use subscription::{Subscribe, SubscribeOk};
 
 pub fn add(l: Ledger, m: Subscribe) -> Taken
@@ -23,36 +23,30 @@ pub fn add(l: Ledger, m: Subscribe) -> Taken
     if m.id >= l.maximum {
         return breaks(l, Part::Subscriber, Rule::R3);
     }
-    if let Found::At(_) = find_row(l, Key::Alias, m.alias) {
+    if find_alias(&l, m.alias).is_some() {
         return breaks(l, Part::Subscriber, Rule::R4);
     }
     if l.used >= l.capacity {
-        return Taken {
-            answer: Answer::Full,
-            ledger: l,
-        };
+        return l.answers(Answer::Full);
     }
-    let filter = m.filter;
-    Taken {
-        answer: Answer::Done,
-        ledger: with_last(l, row::pending(m.id, m.alias, row::asked(filter))),
-    }
+    with_last(l, row::pending(m.id, m.alias, row::asked(m.filter))).answers(Answer::Done)
 }
 
 // The row is added last, and its ID becomes the highest.
+#[tactic(auto, unfolding(crate::specs::Arrays::added))]
 fn with_last(l: Ledger, row: Row) -> Ledger
     requires { (l.used < most_rows) × (row.id < l.maximum) }
     ensures { result ≡ added l row }
 {
     let mut next = l;
-    let used = l.used;
-    next.rows[used] = row;
-    next.used = used + 1;
+    next.rows[l.used] = row;
+    next.used = l.used + 1;
     next.next = row.id + 1;
     next
 }
 
 // One row changed.
+#[tactic(auto, unfolding(crate::specs::Arrays::changed))]
 pub fn with_row(l: Ledger, i: usize, row: Row) -> Ledger
     requires { i < most_rows }
     ensures { result ≡ changed l i row }
@@ -68,10 +62,7 @@ pub fn no_row(l: Ledger, sender: Part, id: u64) -> Taken
     ensures { told result ≡ came_of (replied (view_of l) (is_own l.part sender) (no_row (standing_of l) id)) }
 {
     if id < l.next {
-        return Taken {
-            answer: Answer::Stale,
-            ledger: l,
-        };
+        return l.answers(Answer::Stale);
     }
     breaks(l, sender, Rule::R5)
 }
@@ -80,16 +71,11 @@ pub fn accept(l: Ledger, m: SubscribeOk) -> Taken
     requires { is_ledger l ≡ true }
     ensures { told result ≡ came_of (by_id (view_of l) Publisher m.id (ok_at m.content)) }
 {
-    let Found::At(i) = find_row(l, Key::Id, m.id) else {
+    let Some(i) = find_id(&l, m.id) else {
         return no_row(l, Part::Publisher, m.id);
     };
-    let content = m.content;
-    let row = l.rows[i];
-    let Opening::Opened(opened) = row::open(row, content) else {
+    let Some(opened) = row::open(l.rows[i], m.content) else {
         return breaks(l, Part::Publisher, Rule::R6);
     };
-    Taken {
-        answer: Answer::Done,
-        ledger: with_row(l, i, opened),
-    }
+    with_row(l, i, opened).answers(Answer::Done)
 }

@@ -1,4 +1,5 @@
 -- Numbers of a ledger name it again, and numbers that are unpacked are those of what they name. Assumes nothing.
+use Rattle.std.specs.Prelude.{Option, Some, None}
 use Prim.Native.Nat.{ℕ, zero, suc, ◌+◌}
 use mathlib.Core.Path.{◌≡◌, refl, sym, ap, ◌∙◌}
 use mathlib.Core.Bool.{Bool, true, false}
@@ -11,12 +12,11 @@ use lib.Dec.{eqb, leb}
 use Rattle.common.specs.Choice.{pick}
 use Rattle.common.specs.Buffer.{over}
 use Rattle.common.proofs.Tests.{both-each}
+use Rattle.field.specs.declared.Place.{Place}
 use Rattle.row.specs.declared.State.{State}
 use Rattle.row.specs.declared.State.TheVariants.{Pending, Active}
 use Rattle.row.specs.declared.Range.{Range}
 use Rattle.row.specs.declared.Range.TheVariants.{Unknown, Open, Closed}
-use Rattle.row.specs.declared.Greatest.{Greatest}
-use Rattle.row.specs.declared.Greatest.TheVariants.{Nowhere, At}
 use Rattle.row.specs.declared.Row.{Row}
 use Rattle.ledger.specs.Answers.{closing_rule}
 use Rattle.ledger.specs.Ledgers.{most_rows, is_ledger, bounded}
@@ -44,10 +44,10 @@ range-again Unknown = refl
 range-again (Open from) = refl
 range-again (Closed from last) = refl
 
-greatest-again : (g : Greatest) → greatest_named (get_or (greatest_numbers g) 0 0) (get_or (greatest_numbers g) 1 0) (get_or (greatest_numbers g) 2 0) ≡ g
+greatest-again : (g : Option Place) → greatest_named (get_or (greatest_numbers g) 0 0) (get_or (greatest_numbers g) 1 0) (get_or (greatest_numbers g) 2 0) ≡ g
 unfolding greatest_named
-greatest-again Nowhere = refl
-greatest-again (At place) = refl
+greatest-again None = refl
+greatest-again (Some place) = refl
 
 row-again : (r : Row) (rest : List ℕ) → row_named (numbers_of_row r ++ rest) 0 ≡ r
 unfolding row_named

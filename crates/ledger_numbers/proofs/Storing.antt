@@ -1,4 +1,5 @@
 -- The numbers of rows and of a ledger, stored one by one, one after the other. Assumes nothing.
+use Rattle.std.specs.Prelude.{Option, Some, None}
 use Prim.Native.Nat.{ℕ, ◌+◌, ◌*◌, ◌≤◌, ◌<◌}
 use mathlib.Core.Path.{◌≡◌, refl, ap, ◌∙◌}
 use mathlib.Core.List.{List, [], ◌∷◌}
@@ -10,10 +11,9 @@ use lib.Seq.{sets, sets-eq, drop-cons}
 use Rattle.common.specs.Buffer.{Put}
 use Rattle.common.proofs.Puts.{Room, lent, given, second_fits, both-fit, put_both, put-length}
 use Rattle.common.proofs.PutLoop.{Going, Next}
+use Rattle.field.specs.declared.Place.{Place}
 use Rattle.row.specs.declared.Range.{Range}
 use Rattle.row.specs.declared.Range.TheVariants.{Unknown, Open, Closed}
-use Rattle.row.specs.declared.Greatest.{Greatest}
-use Rattle.row.specs.declared.Greatest.TheVariants.{Nowhere, At}
 use Rattle.row.specs.declared.Row.{Row}
 use Rattle.ledger.specs.Answers.{closing_rule}
 use Rattle.ledger.specs.Ledgers.{most_rows}
@@ -33,9 +33,9 @@ four (Open from) e = rw e
 four (Closed from last) e = rw e
 
 -- those of a place, or of none, three
-three : (g : Greatest) {ns : List ℕ} → ns ≡ greatest_numbers g → greatest_numbers g ≡ get_or ns 0 0 ∷ get_or ns 1 0 ∷ get_or ns 2 0 ∷ []
-three Nowhere e = rw e
-three (At place) e = rw e
+three : (g : Option Place) {ns : List ℕ} → ns ≡ greatest_numbers g → greatest_numbers g ≡ get_or ns 0 0 ∷ get_or ns 1 0 ∷ get_or ns 2 0 ∷ []
+three None e = rw e
+three (Some place) e = rw e
 
 module _ (r : Row) {asked shown : List ℕ} {s : ℕ} (f : asked ≡ range_numbers r.range) (t : shown ≡ greatest_numbers r.greatest) (e : s ≡ state_number r.state) where
   -- a row's numbers, one by one

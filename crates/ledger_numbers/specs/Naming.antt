@@ -1,5 +1,5 @@
 -- The ledger that numbers name, and what is left of them after a call.
-use Rattle.std.specs.Prelude.{ℕ, zero, suc, ◌+◌, Bool, true, false, List, [], ◌∷◌, length, take, get_or, leb, eqb}
+use Rattle.std.specs.Prelude.{ℕ, zero, suc, ◌+◌, Bool, true, false, List, [], ◌∷◌, length, take, get_or, leb, eqb, Option, Some, None}
 use Rattle.common.specs.Choice.{pick, both}
 use Rattle.common.specs.Buffer.{over}
 use Rattle.field.specs.declared.Place.{Place}
@@ -7,8 +7,6 @@ use Rattle.row.specs.declared.State.{State}
 use Rattle.row.specs.declared.State.TheVariants.{Pending, Active}
 use Rattle.row.specs.declared.Range.{Range}
 use Rattle.row.specs.declared.Range.TheVariants.{Unknown, Open, Closed}
-use Rattle.row.specs.declared.Greatest.{Greatest}
-use Rattle.row.specs.declared.Greatest.TheVariants.{Nowhere, At}
 use Rattle.row.specs.declared.Row.{Row}
 use Rattle.ledger.specs.Ledgers.{most_rows, empty_ledger}
 use Rattle.ledger.specs.declared.Part.{Part}
@@ -32,8 +30,8 @@ unfoldable pub range_named : ℕ → ℕ → ℕ → ℕ → Range
 range_named n group object last =
     pick (eqb n 0) Unknown (pick (eqb n 1) (Open (place_named group object)) (Closed (place_named group object) last))
 
-unfoldable pub greatest_named : ℕ → ℕ → ℕ → Greatest
-greatest_named n group object = pick (eqb n 0) Nowhere (At (place_named group object))
+unfoldable pub greatest_named : ℕ → ℕ → ℕ → Option Place
+greatest_named n group object = pick (eqb n 0) None (Some (place_named group object))
 
 -- a row's numbers at an offset
 unfoldable pub row_named : List ℕ → ℕ → Row

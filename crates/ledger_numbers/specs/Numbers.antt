@@ -1,12 +1,11 @@
 -- A ledger as numbers: what it starts with, "its own end's part (subscriber or publisher), a row capacity and a maximum
 -- Subscribe ID", and its rows. "A row: ID, alias, pending or active, range, greatest place counted or none, count."
-use Rattle.std.specs.Prelude.{ℕ, ◌+◌, ◌*◌, List, [], ◌∷◌, ◌++◌}
+use Rattle.std.specs.Prelude.{ℕ, ◌+◌, ◌*◌, List, [], ◌∷◌, ◌++◌, Option, Some, None}
+use Rattle.field.specs.declared.Place.{Place}
 use Rattle.row.specs.declared.State.{State}
 use Rattle.row.specs.declared.State.TheVariants.{Pending, Active}
 use Rattle.row.specs.declared.Range.{Range}
 use Rattle.row.specs.declared.Range.TheVariants.{Unknown, Open, Closed}
-use Rattle.row.specs.declared.Greatest.{Greatest}
-use Rattle.row.specs.declared.Greatest.TheVariants.{Nowhere, At}
 use Rattle.row.specs.declared.Row.{Row}
 use Rattle.ledger.specs.Ledgers.{most_rows}
 use Rattle.ledger.specs.Answers.{closing_rule}
@@ -37,9 +36,9 @@ range_numbers (Open from) = 1 ∷ from.group ∷ from.object ∷ 0 ∷ []
 range_numbers (Closed from last) = 2 ∷ from.group ∷ from.object ∷ last ∷ []
 
 -- none, or one; where it is
-abbrev pub greatest_numbers : Greatest → List ℕ
-greatest_numbers Nowhere = 0 ∷ 0 ∷ 0 ∷ []
-greatest_numbers (At place) = 1 ∷ place.group ∷ place.object ∷ []
+abbrev pub greatest_numbers : Option Place → List ℕ
+greatest_numbers None = 0 ∷ 0 ∷ 0 ∷ []
+greatest_numbers (Some place) = 1 ∷ place.group ∷ place.object ∷ []
 
 unfoldable pub numbers_of_row : Row → List ℕ
 numbers_of_row r =

@@ -6,7 +6,7 @@ ghost use Rattle.ledger_numbers.specs.Naming.{state_named, range_named, greatest
 
 use crate::ROW_NUMBERS;
 use field::Place;
-use row::{Greatest, Range, Row, State};
+use row::{Range, Row, State};
 
 // ---- a row's numbers
 
@@ -29,12 +29,12 @@ fn range_numbers(range: Range) -> [u64; 4]
     }
 }
 
-fn greatest_numbers(greatest: Greatest) -> [u64; 3]
+fn greatest_numbers(greatest: Option<Place>) -> [u64; 3]
     ensures { result ≡ greatest_numbers greatest }
 {
     match greatest {
-        Greatest::Nowhere => [0, 0, 0],
-        Greatest::At(place) => [1, place.group, place.object],
+        None => [0, 0, 0],
+        Some(place) => [1, place.group, place.object],
     }
 }
 
@@ -84,12 +84,12 @@ fn range_of(n: u64, group: u64, object: u64, last: u64) -> Range
     }
 }
 
-fn greatest_of(n: u64, group: u64, object: u64) -> Greatest
+fn greatest_of(n: u64, group: u64, object: u64) -> Option<Place>
     ensures { result ≡ greatest_named n group object }
 {
     match n {
-        0 => Greatest::Nowhere,
-        _ => Greatest::At(Place { group, object }),
+        0 => None,
+        _ => Some(Place { group, object }),
     }
 }
 

@@ -1,4 +1,5 @@
 -- What an arrival makes of a row does not depend on the arrivals before it. Assumes nothing.
+use Rattle.std.specs.Prelude.{Some}
 use mathlib.Core.Path.{◌≡◌, refl, sym, ap, ◌∙◌}
 use mathlib.Core.Bool.{Bool, true, false, not}
 use Rattle.common.specs.Choice.{pick, both}
@@ -8,7 +9,6 @@ use Rattle.row.proofs.Ordering.{greater-either}
 use Rattle.row.specs.Ranges.{in_range}
 use Rattle.row.specs.Rows.{is_pending, AtRow, risen, counted_row, replying, arrive_of}
 use Rattle.row.specs.declared.Row.{Row}
-use Rattle.row.specs.declared.Greatest.TheVariants.{At}
 
 -- ---- what an arrival leaves as it was
 
@@ -61,7 +61,7 @@ counted-either : (r : Row) (p q : Place) → counted_row (counted_row r p) q ≡
 unfolding counted_row
 counted-either r p q =
     ap
-    (λ (x : Place). record { id = r.id; alias = r.alias; state = r.state; range = r.range; greatest = At x; count = risen (risen r.count) })
+    (λ (x : Place). record { id = r.id; alias = r.alias; state = r.state; range = r.range; greatest = Some x; count = risen (risen r.count) })
     (greater-either r.greatest p q)
 
 twice : (p q : Place) (r : Row) → after q (after p r) ≡ grown (grown r p (counts r p)) q (counts r q)

@@ -1,9 +1,8 @@
 -- The lines of a report.
-use Rattle.std.specs.Prelude.{ℕ, List, [], ◌∷◌}
+use Rattle.std.specs.Prelude.{ℕ, List, [], ◌∷◌, Option, Some, None}
+use Rattle.field.specs.declared.Place.{Place}
 use Rattle.row.specs.declared.State.{State}
 use Rattle.row.specs.declared.State.TheVariants.{Pending, Active}
-use Rattle.row.specs.declared.Greatest.{Greatest}
-use Rattle.row.specs.declared.Greatest.TheVariants.{Nowhere, At}
 use Rattle.row.specs.declared.Row.{Row}
 use Rattle.ledger.specs.Answers.{rule_number}
 use Rattle.ledger.specs.declared.Session.{Session}
@@ -26,13 +25,13 @@ state_item Pending = Word APending
 state_item Active = Word AnActive
 
 -- "A row with nothing counted shows `-` for group and object."
-abbrev pub group_item : Greatest → Item
-group_item Nowhere = Word Nothing
-group_item (At place) = Number place.group
+abbrev pub group_item : Option Place → Item
+group_item None = Word Nothing
+group_item (Some place) = Number place.group
 
-abbrev pub object_item : Greatest → Item
-object_item Nowhere = Word Nothing
-object_item (At place) = Number place.object
+abbrev pub object_item : Option Place → Item
+object_item None = Word Nothing
+object_item (Some place) = Number place.object
 
 abbrev pub row_line : Row → List Item
 row_line r =

@@ -4,7 +4,8 @@ ghost use Rattle.text.specs.Lines.{placed};
 ghost use Rattle.report.specs.Rows.{session_line, columns_line, state_item, group_item, object_item, row_line};
 
 use ledger::Session;
-use row::{Greatest, Row, State};
+use field::Place;
+use row::{Row, State};
 use text::{Item, Line, Word};
 
 pub fn session_line(session: Session, rows: u64) -> Line
@@ -36,21 +37,21 @@ fn state_item(state: State) -> Item
 }
 
 // A row with nothing counted has neither group nor object.
-fn group_item(g: Greatest) -> Item
+fn group_item(g: Option<Place>) -> Item
     ensures { result ≡ group_item g }
 {
     match g {
-        Greatest::Nowhere => Item::Word(Word::Nothing),
-        Greatest::At(place) => Item::Number(place.group),
+        None => Item::Word(Word::Nothing),
+        Some(place) => Item::Number(place.group),
     }
 }
 
-fn object_item(g: Greatest) -> Item
+fn object_item(g: Option<Place>) -> Item
     ensures { result ≡ object_item g }
 {
     match g {
-        Greatest::Nowhere => Item::Word(Word::Nothing),
-        Greatest::At(place) => Item::Number(place.object),
+        None => Item::Word(Word::Nothing),
+        Some(place) => Item::Number(place.object),
     }
 }
 

@@ -3,9 +3,9 @@ use Rattle.ledger.specs.Steps.{arrival_of}
 use Rattle.ledger.proofs.Gates.{stopped, went, went-ledger}
 use Rattle.ledger.proofs.Ledger.arrival.Goals as goal
 
-pub returns-in-Stop : goal.returns-in-Stop
+pub returns-in-Err : goal.returns-in-Err
 unfolding arrival_of
-returns-in-Stop c = stopped _ c.is_small.ensures c.gate.ensures _ c.in-Stop.is
+returns-in-Err c = rw c.answers.ensures (stopped _ c.is_small.ensures c.gate.ensures _ c.in-Err.is)
 
 pub count-requires : goal.count-requires
 unfolding arrival_of

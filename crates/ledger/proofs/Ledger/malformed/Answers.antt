@@ -4,9 +4,9 @@ use Rattle.ledger.specs.Steps.{malformed_of}
 use Rattle.ledger.proofs.Gates.{stopped, went, went-ledger}
 use Rattle.ledger.proofs.Ledger.malformed.Goals as goal
 
-pub returns-in-Stop : goal.returns-in-Stop
+pub returns-in-Err : goal.returns-in-Err
 unfolding malformed_of
-returns-in-Stop c = stopped _ refl c.gate.ensures _ c.in-Stop.is
+returns-in-Err c = rw c.answers.ensures (stopped _ refl c.gate.ensures _ c.in-Err.is)
 
 pub break_rule-requires : goal.break_rule-requires
 unfolding malformed_of

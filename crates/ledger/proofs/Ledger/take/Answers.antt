@@ -6,9 +6,9 @@ use Rattle.ledger.proofs.Gates.{stopped, went, went-ledger}
 use Rattle.ledger.proofs.CodePaths.{of_part, other-part}
 use Rattle.ledger.proofs.Ledger.take.Goals as goal
 
-pub returns-in-Stop : goal.returns-in-Stop
+pub returns-in-Err : goal.returns-in-Err
 unfolding take_of
-returns-in-Stop c = stopped _ c.is_sound.ensures c.gate.ensures _ c.in-Stop.is
+returns-in-Err c = rw c.answers.ensures (stopped _ c.is_sound.ensures c.gate.ensures _ c.in-Err.is)
 
 pub keep-requires : goal.keep-requires
 unfolding take_of

@@ -1,34 +1,28 @@
 -- `do_rise` meets its contract: the rows that are left give what all of them give. Assumes nothing.
-use mathlib.Core.Path.{◌≡◌}
+use mathlib.Core.Path.{ap, ◌∙◌}
 use native.Mathlib.Omega.{arith}
-use lib.ListN.{length}
-use Rattle.ledger.specs.Ledgers.{most_rows}
+use Rattle.ledger.specs.Ledgers.{rising}
 use Rattle.ledger.proofs.Checking.{rises, not-above, not-below, no-such-row, rises-on, all-rise}
 use Rattle.ledger.proofs.checks.do_rise.Goals as goal
-use Rattle.ledger.proofs.checks.do_rise.Goals.{Start}
+use Rattle.ledger.proofs.checks.do_rise.Goals.{then-row-low-via-then-row-low, then-row-low-via-else-row-low+then-row-l, then-row-low-via-else-row-low+else-row-l+then-not-is_row}
 
--- there are 64 places
-places : (c : Start) → length c.args.l.rows ≡ most_rows
-places c = c.well_formed.0.1.1.0.1.0.1
+pub loop-row-init : goal.loop-row-init
+loop-row-init c = rises _ _
 
-pub loop-i-init : goal.loop-i-init
-loop-i-init c = rises _
+pub returns-then-row-low : goal.returns-then-row-low
+returns-then-row-low c =
+    let a = c.loop-row.invariant in
+    (elim c.then-row-low.branch [
+      | then-row-low-via-then-row-low w ↦ not-above _ _ _ _ a _ (omega arith) w.if-row-low.true
+      | then-row-low-via-else-row-low+then-row-l w ↦ not-below _ _ _ _ a _ (omega arith) w.if-row-low.false w.if-row-l.true
+      | then-row-low-via-else-row-low+else-row-l+then-not-is_row w ↦ no-such-row _ _ _ _ a _ (omega arith) w.if-row-low.false w.if-row-l.false w.is_row.ensures w.if-not-is_row.true
+    ])
+    ∙ ap (rising 0 c.args.l.next) c.held-row-items.ensures
 
-pub returns-then-id-low : goal.returns-then-id-low
-returns-then-id-low c =
-    not-above _ _ _ (places (goal.at.returns-then-id-low c).Start) (omega arith) c.loop-i.invariant _ (omega arith) c.if-id-low.true
-
-pub returns-then-id-next : goal.returns-then-id-next
-returns-then-id-next c =
-    not-below _ _ _ (places (goal.at.returns-then-id-next c).Start) (omega arith) c.loop-i.invariant _ (omega arith) c.if-id-low.false c.if-id-next.true
-
-pub returns-then-not-is_row : goal.returns-then-not-is_row
-returns-then-not-is_row c =
-    no-such-row _ _ _ (places (goal.at.returns-then-not-is_row c).Start) (omega arith) c.loop-i.invariant _ (omega arith) c.if-id-low.false c.if-id-next.false c.is_row.ensures c.if-not-is_row.true
-
-pub loop-i-preserved : goal.loop-i-preserved
-loop-i-preserved c =
-    rises-on _ _ _ (places (goal.at.loop-i-preserved c).Start) (omega arith) c.loop-i.invariant _ (omega arith) c.if-id-low.false c.if-id-next.false c.is_row.ensures c.if-not-is_row.false
+pub loop-row-preserved : goal.loop-row-preserved
+loop-row-preserved c =
+    rises-on _ _ _ _ c.loop-row.invariant _ (omega arith) c.if-row-low.false c.if-row-l.false c.is_row.ensures c.if-not-is_row.false
 
 pub returns : goal.returns
-returns c = all-rise _ _ _ (places (goal.at.returns c).Start) (omega arith) c.loop-i.invariant (omega arith)
+returns c =
+    all-rise _ _ _ _ c.loop-row.invariant (omega arith) ∙ ap (rising 0 c.args.l.next) c.held-row-items.ensures

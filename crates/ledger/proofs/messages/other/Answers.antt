@@ -3,4 +3,4 @@ use Rattle.ledger.proofs.CodePaths.{stays}
 use Rattle.ledger.proofs.messages.other.Goals as goal
 
 pub returns : goal.returns
-returns c = stays _ c.requires 9
+returns c = rw c.answers.ensures (stays _ c.requires 9)

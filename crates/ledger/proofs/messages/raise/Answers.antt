@@ -6,4 +6,4 @@ pub returns-then-id-l : goal.returns-then-id-l
 returns-then-id-l c = not-larger _ c.requires _ c.if-id-l.true c.breaks.ensures
 
 pub returns : goal.returns
-returns c = raised _ c.requires _ c.if-id-l.false
+returns c = rw c.answers.ensures (raised _ c.requires _ c.if-id-l.false)

@@ -1,9 +1,11 @@
 -- `break_rule` meets its contract. Assumes nothing.
 use Rattle.ledger.proofs.CodePaths.{own-breaks, peer-breaks}
 use Rattle.ledger.proofs.rules.break_rule.Goals as goal
-
-pub returns-then-own : goal.returns-then-own
-returns-then-own c = rw c.if-own.true (own-breaks _ c.requires c.args.rule)
+use Rattle.ledger.proofs.rules.break_rule.Goals.{then-own, else-own}
 
 pub returns : goal.returns
-returns c = rw c.if-own.false (peer-breaks _ c.requires c.args.rule)
+returns c =
+    rw c.answers.ensures (elim c.if-own.branch [
+      | then-own w ↦ rw (w.next-is, w.if-own.true) (own-breaks _ c.requires c.args.rule)
+      | else-own w ↦ rw (w.next-is, w.if-own.false) (peer-breaks _ c.requires c.args.rule)
+    ])

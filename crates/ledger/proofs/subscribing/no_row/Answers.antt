@@ -7,7 +7,7 @@ use Rattle.ledger.proofs.subscribing.no_row.Goals as goal
 
 pub returns-then-id-l : goal.returns-then-id-l
 unfolding no_row
-returns-then-id-l c = stays _ c.requires _ ∙ rw (lt-leb _ _ c.if-id-l.true)
+returns-then-id-l c = rw c.answers.ensures (stays _ c.requires _ ∙ rw (lt-leb _ _ c.if-id-l.true))
 
 pub returns : goal.returns
 unfolding no_row

@@ -3,8 +3,8 @@ use Rattle.common.proofs.Telling.{told_of}
 use Rattle.report.specs.Rows.{group_item}
 use Rattle.report.proofs.lines.group_item.Goals as goal
 
-pub returns-in-Nowhere : goal.returns-in-Nowhere
-returns-in-Nowhere c = search (told_of group_item)
+pub returns-in-None : goal.returns-in-None
+returns-in-None c = search (told_of group_item)
 
-pub returns-in-At : goal.returns-in-At
-returns-in-At c = search (told_of group_item)
+pub returns-in-Some : goal.returns-in-Some
+returns-in-Some c = search (told_of group_item)
