@@ -52,20 +52,14 @@ fn number_of(kind: AnnounceKind) -> u64
     ensures { result ≡ number_of kind }
 {
     match kind {
-        AnnounceKind::Named(k) => match k {
-            Naming::AnnounceOk => 0x7,
-            Naming::Unannounce => 0x9,
-            Naming::SubscribeAnnouncesOk => 0x12,
-            Naming::UnsubscribeAnnounces => 0x14,
-        },
-        AnnounceKind::Asked(k) => match k {
-            Asking::Announce => 0x6,
-            Asking::SubscribeAnnounces => 0x11,
-        },
-        AnnounceKind::Refused(k) => match k {
-            Refusing::AnnounceError => 0x8,
-            Refusing::AnnounceCancel => 0xC,
-            Refusing::SubscribeAnnouncesError => 0x13,
-        },
+        AnnounceKind::Named(Naming::AnnounceOk) => 0x7,
+        AnnounceKind::Named(Naming::Unannounce) => 0x9,
+        AnnounceKind::Named(Naming::SubscribeAnnouncesOk) => 0x12,
+        AnnounceKind::Named(Naming::UnsubscribeAnnounces) => 0x14,
+        AnnounceKind::Asked(Asking::Announce) => 0x6,
+        AnnounceKind::Asked(Asking::SubscribeAnnounces) => 0x11,
+        AnnounceKind::Refused(Refusing::AnnounceError) => 0x8,
+        AnnounceKind::Refused(Refusing::AnnounceCancel) => 0xC,
+        AnnounceKind::Refused(Refusing::SubscribeAnnouncesError) => 0x13,
     }
 }

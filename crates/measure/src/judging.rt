@@ -110,6 +110,7 @@ impl Judge<'_> {
 }
 
 // Whether 01's sizes let entries hold that many bytes, and a name that many more.
+#[tactic(auto, unfolding(layout::specs::Permitted::within))]
 fn is_within(kind: Kind, held: usize, also: usize) -> bool
     ensures { result ≡ within kind (held + also) }
 {

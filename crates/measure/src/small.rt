@@ -13,6 +13,7 @@ fn is_short(p: Span) -> bool
     p.start > p.end || (p.end - p.start) as u64 <= integer::GREATEST
 }
 
+#[tactic(auto, unfolding(crate::specs::Small::small_piece))]
 fn is_small(p: Piece) -> bool
     ensures { result ≡ small_piece p }
 {

@@ -1,7 +1,6 @@
 -- `is_within` meets its contract: what is left of 4,096 is tested, so nothing wraps. Assumes nothing.
 use mathlib.Core.Path.{◌∙◌}
 use borrow.Author.Tests.{lt-leb}
-use Rattle.layout.specs.Permitted.{within}
 use Rattle.measure.proofs.Sizes.{namespace-over, namespace-left}
 use Rattle.measure.proofs.judging.is_within.Goals as goal
 
@@ -11,11 +10,3 @@ returns-then-held-le-LONGEST_TRACK c = namespace-left _ _ c.in-Namespace.is c.if
 pub returns-else-held-le-LONGEST_TRACK : goal.returns-else-held-le-LONGEST_TRACK
 returns-else-held-le-LONGEST_TRACK c =
     lt-leb _ _ c.if-held-le-LONGEST_TRACK.false ∙ namespace-over _ _ c.in-Namespace.is c.if-held-le-LONGEST_TRACK.false
-
-pub returns-in-Parameters : goal.returns-in-Parameters
-unfolding within
-returns-in-Parameters c = rw c.in-Parameters.is
-
-pub returns-in-Versions : goal.returns-in-Versions
-unfolding within
-returns-in-Versions c = rw c.in-Versions.is
