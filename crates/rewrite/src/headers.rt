@@ -1,4 +1,5 @@
-// Data headers.
+// Data headers. Each call stays a match of its own: a function over its reader, its writer and its type would be handed
+// all that it is.
 ghost use Rattle.std.specs.Prelude.{◌≡◌};
 ghost use Rattle.header.specs.Told.{datagram_typed, stream_typed};
 ghost use Rattle.rewrite.specs.Rewriting.{datagram_again, stream_again, subgroup_object_again, fetch_object_again, Does};
