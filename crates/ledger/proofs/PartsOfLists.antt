@@ -1,12 +1,14 @@
 -- A list's first n elements from the i-th on, as a loop over an array's first n elements sees them; and the rows in use, so.
 -- Assumes nothing.
-use Prim.Native.Nat.{ℕ, ◌+◌, ◌-◌, ◌≤◌, ◌<◌}
-use mathlib.Core.Path.{◌≡◌, ◌∙◌}
+use Rattle.std.specs.Simd.{first_chunks}
+use native.Mathlib.Nat.{mul-zero, mul-suc, add_comm}
+use Prim.Native.Nat.{ℕ, zero, suc, ◌+◌, ◌*◌, ◌-◌, ◌≤◌, ◌<◌}
+use mathlib.Core.Path.{◌≡◌, sym, ap, ◌∙◌}
 use mathlib.Core.List.{List, [], ◌∷◌}
 use native.Mathlib.Numerals.{add-one}
 use native.Mathlib.Omega.{arith}
 use lib.ListN.{length, take, drop, get_or, drop_of_length-le, length-drop}
-use lib.Seq.{take_all, drop-cons, length-take-le, get_or-take}
+use lib.Seq.{drop-drop, take_all, drop-cons, length-take-le, get_or-take}
 use Rattle.row.specs.declared.Row.{Row}
 use Rattle.ledger.specs.Ledgers.{most_rows, held}
 use Rattle.ledger.specs.declared.Ledger.{Ledger}
@@ -21,6 +23,14 @@ module _ {A : Type 0} (xs : List A) (i : ℕ) where
 -- all from the i-th on, as a slice has them
 pub from_on : {A : Type 0} (xs : List A) (i : ℕ) → take (length xs - i) (drop i xs) ≡ drop i xs
 from_on xs i = take_all (length xs - i) (drop i xs) (rw length-drop (omega arith))
+
+-- a piece of as many elements as all of them are cut into
+pub chunk : {A : Type 0} (m n k : ℕ) (xs : List A) → k < n → get_or (first_chunks m n xs) k [] ≡ take m (drop (m * k) xs)
+chunk m zero k xs h = absurd (omega arith)
+chunk m (suc n) zero xs h = rw mul-zero
+chunk m (suc n) (suc k) xs h =
+    chunk m n k (drop m xs) (omega arith)
+    ∙ ap (take m) (drop-drop (m * k) m xs ∙ ap (λ (i : ℕ). drop i xs) (sym (mul-suc m k ∙ add_comm (m * k) m)))
 
 -- the i-th of the first n, and those after it
 module _ {A : Type 0} (xs : List A) (n i : ℕ) (long : n ≤ length xs) where

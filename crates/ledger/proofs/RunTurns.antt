@@ -2,7 +2,7 @@
 use Rattle.std.specs.Prelude.{Option, Some, None, Result, Ok, Err}
 use Rattle.std.specs.Result.{result_unwrap_or}
 use Rattle.std.specs.Simd.{first_chunks}
-use Prim.Native.Nat.{ℕ, zero, suc, ◌+◌, ◌*◌, ◌/◌, ◌≤◌, ◌<◌}
+use Prim.Native.Nat.{ℕ, suc, ◌+◌, ◌*◌, ◌/◌, ◌≤◌, ◌<◌}
 use mathlib.Core.Path.{◌≡◌, refl, sym, ap, subst, ◌∙◌}
 use mathlib.Core.Bool.{Bool, true, false}
 use mathlib.Core.List.{List, [], ◌∷◌, ◌++◌, map, append-nil}
@@ -12,7 +12,7 @@ use native.Mathlib.Omega.{arith}
 use borrow.Author.Tests.{ne_eqb, eqb-true, le-leb, lt-leb}
 use lib.Dec.{leb, eqb}
 use lib.ListN.{length, take, drop, get_or, set, length-drop, length-append, length-map}
-use lib.Seq.{drop-drop, get_or-take, get_or-drop, drop-cons, set_at, append_snoc, map-set_same}
+use lib.Seq.{get_or-take, get_or-drop, drop-cons, set_at, append_snoc, map-set_same}
 use Rattle.common.specs.Answer.{wrote}
 use Rattle.common.proofs.Cases.{pick-by}
 use Rattle.field.specs.declared.Arrival.{Arrival}
@@ -28,6 +28,7 @@ use Rattle.ledger.specs.Arrays.{find, row_at, changed}
 use Rattle.ledger.specs.Runs.{arrivals_in, itself, after_arrivals, answer_numbers, run_of, Runs}
 use Rattle.ledger.specs.declared.Ledger.{Ledger}
 use Rattle.ledger.specs.declared.RunRefused.TheVariants.{NotALedger, TooShort}
+use Rattle.ledger.proofs.PartsOfLists.{chunk}
 use Rattle.ledger.proofs.Facts.{parts, ledger-used}
 use Rattle.ledger.proofs.Gates.{gate-passed}
 use Rattle.ledger.proofs.Finds.{found-used, by_place}
@@ -73,16 +74,9 @@ numbers-long l [] = refl
 numbers-long l (a ∷ came) = ap suc (numbers-long (arrival_of l a).next came)
 
 -- a third of them, as the code cuts them
-chunk : (n k : ℕ) (ns : List ℕ) → k < n → get_or (first_chunks 3 n ns) k [] ≡ take 3 (drop (3 * k) ns)
-chunk zero k ns h = absurd (omega arith)
-chunk (suc n) zero ns h = refl
-chunk (suc n) (suc k) ns h =
-    chunk n k (drop 3 ns) (omega arith)
-    ∙ ap (take 3) (drop-drop (3 * k) 3 ns ∙ ap (λ (m : ℕ). drop m ns) (let e : 3 + 3 * k ≡ 3 * suc k = omega arith in e))
-
 module _ (ns : List ℕ) (came : List (List ℕ)) (k : ℕ) (cut : came ≡ first_chunks 3 (length ns / 3) ns) (h : k < length ns / 3) where
   number : (j : ℕ) → j < 3 → get_or (get_or came k []) j 0 ≡ get_or ns (3 * k + j) 0
-  number j l = rw (cut, chunk (length ns / 3) k ns h, get_or-take 3 (drop (3 * k) ns) j 0 l) (get_or-drop (3 * k) ns j 0)
+  number j l = rw (cut, chunk 3 (length ns / 3) k ns h, get_or-take 3 (drop (3 * k) ns) j 0 l) (get_or-drop (3 * k) ns j 0)
 
   pub in-chunk : record { alias = get_or (get_or came k []) 0 0; place = record { group = get_or (get_or came k []) 1 0; object = get_or (get_or came k []) 2 0 } } ≡ arrival_at ns (3 * k)
   in-chunk = rw (number 0 (omega arith), number 1 (omega arith), number 2 (omega arith), add-zero (3 * k))

@@ -1,4 +1,5 @@
 -- What the calls on a ledger do, answer by answer. Assumes nothing.
+use Rattle.std.specs.Prelude.{Result}
 use Prim.Native.Nat.{ℕ, ◌≤◌, ◌<◌}
 use mathlib.Core.Path.{◌≡◌, refl, sym, ap, ◌∙◌}
 use mathlib.Core.Bool.{Bool, true, false}
@@ -26,7 +27,7 @@ use Rattle.ledger.specs.declared.Part.{Part}
 use Rattle.ledger.specs.declared.Part.TheVariants.{Subscriber, Publisher}
 use Rattle.ledger.specs.declared.Ledger.{Ledger}
 use Rattle.ledger.specs.declared.Taken.{Taken}
-use Rattle.ledger.specs.declared.Filled.{Filled}
+use Rattle.ledger.specs.declared.RunRefused.{RunRefused}
 use Rattle.ledger.specs.declared.Ran.{Ran}
 use Rattle.ledger_numbers.specs.Numbers.{ledger_numbers, numbers_of}
 use Rattle.ledger_numbers.specs.Naming.{part_named, unpack_of, kept_in}
@@ -146,7 +147,7 @@ read-else s before info r f says =
 
 -- ---- a run of arrivals
 
-pub ran : (run before answers : List ℕ) {l : Ledger} {t : Ran} {after held : List ℕ} {f : Filled} {n : ℕ} → l ≡ unpack_of before → Runs (run_of l run answers) t held → after ≡ kept_in before t.ledger → t.answer ≡ f → n ≡ number (told_filled f) → Does (arrivals_call run before answers) n after held
+pub ran : (run before answers : List ℕ) {l : Ledger} {t : Ran} {after held : List ℕ} {f : Result ℕ RunRefused} {n : ℕ} → l ≡ unpack_of before → Runs (run_of l run answers) t held → after ≡ kept_in before t.ledger → t.answer ≡ f → n ≡ number (told_filled f) → Does (arrivals_call run before answers) n after held
 unfolding arrivals_call
 ran run before answers {l} {t} e w keeps h says =
-    rw (← e) (record { says = says ∙ ap (λ (a : Filled). number (told_filled a)) (sym h) ∙ ap number w.says; leaves = keeps ∙ ap (kept_in before) w.next; tells = w.holds })
+    rw (← e) (record { says = says ∙ ap (λ (a : Result ℕ RunRefused). number (told_filled a)) (sym h) ∙ ap number w.says; leaves = keeps ∙ ap (kept_in before) w.next; tells = w.holds })

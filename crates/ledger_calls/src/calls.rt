@@ -1,11 +1,13 @@
 // A ledger, which the caller holds as numbers (the crate ledger_numbers says which). What is no ledger answers 14, and
 // stays as it is.
-ghost use Rattle.std.specs.Prelude.{◌≡◌, []};
+ghost use Rattle.std.specs.Prelude.{◌≡◌, [], Err};
+ghost use Rattle.common.specs.Answer.{number};
+ghost use Rattle.ledger.specs.Runs.{told_filled};
 ghost use Rattle.rewrite.specs.Rewriting.{Does};
 ghost use Rattle.ledger_calls.specs.Calls.{start_call, malformed_call, arrival_call, message_call, arrivals_call};
 
 use field::{Arrival, Place};
-use ledger::{Filled, Part};
+use ledger::{Part, RunRefused};
 
 // A new ledger, with no row in use. The part is 0 for the subscriber's end and 1 for the publisher's.
 pub fn start(part: u64, rows: u64, maximum: u64, numbers: &mut [u64]) -> u64
@@ -20,8 +22,7 @@ pub fn start(part: u64, rows: u64, maximum: u64, numbers: &mut [u64]) -> u64
         Part::Publisher
     };
     let started = ledger::start(own, rows as usize, maximum);
-    let answer = started.answer;
-    let said = ledger::number(answer) as u64;
+    let said = ledger::number(started.answer) as u64;
     if said != 8 {
         return said;
     }
@@ -44,8 +45,7 @@ pub fn take(s: &[u8], numbers: &mut [u64], info: &mut [u64]) -> u64
     };
     let l = ledger_numbers::unpack(numbers);
     let taken = l.take(m);
-    let answer = taken.answer;
-    let said = ledger::number(answer) as u64;
+    let said = ledger::number(taken.answer) as u64;
     if said == 14 {
         return 14;
     }
@@ -53,7 +53,7 @@ pub fn take(s: &[u8], numbers: &mut [u64], info: &mut [u64]) -> u64
         return 7;
     }
     info[0] = used as u64;
-    info[1] = ledger::broken(answer) as u64;
+    info[1] = ledger::broken(taken.answer) as u64;
     ledger_numbers::keep(numbers, taken.ledger);
     said
 }
@@ -62,11 +62,9 @@ pub fn take(s: &[u8], numbers: &mut [u64], info: &mut [u64]) -> u64
 pub fn malformed(numbers: &mut [u64]) -> u64
     ensures { Does (malformed_call numbers.old) result numbers.new [] }
 {
-    let l = ledger_numbers::unpack(numbers);
-    let closed = l.malformed();
-    let answer = closed.answer;
+    let closed = ledger_numbers::unpack(numbers).malformed();
     ledger_numbers::keep(numbers, closed.ledger);
-    ledger::number(answer) as u64
+    ledger::number(closed.answer) as u64
 }
 
 // An arrival.
@@ -75,11 +73,9 @@ pub fn arrival(alias: u64, group: u64, object: u64, numbers: &mut [u64]) -> u64
         numbers.old) result numbers.new [] }
 {
     let place = Place { group, object };
-    let l = ledger_numbers::unpack(numbers);
-    let counted = l.arrival(Arrival { alias, place });
-    let answer = counted.answer;
+    let counted = ledger_numbers::unpack(numbers).arrival(Arrival { alias, place });
     ledger_numbers::keep(numbers, counted.ledger);
-    ledger::number(answer) as u64
+    ledger::number(counted.answer) as u64
 }
 
 // A run of arrivals, three numbers each: 01's number of each at the front of `answers`.
@@ -87,13 +83,21 @@ pub fn arrivals(run: &[u64], numbers: &mut [u64], answers: &mut [u8]) -> u64
     ensures { Does (arrivals_call run.now numbers.old answers.old) result
         numbers.new answers.new }
 {
-    let l = ledger_numbers::unpack(numbers);
-    let ran = l.arrivals(run, answers);
-    let answer = ran.answer;
+    let ran = ledger_numbers::unpack(numbers).arrivals(run, answers);
     ledger_numbers::keep(numbers, ran.ledger);
-    match answer {
-        Filled::Done(_) => 0,
-        Filled::NotALedger => 14,
-        Filled::TooShort => 7,
+    match ran.answer {
+        Ok(_) => 0,
+        Err(why) => run_refusal(why),
+    }
+}
+
+// Document 01's number of a run that is not taken.
+#[tactic(auto, unfolding(common::specs::Answer::number))]
+fn run_refusal(why: RunRefused) -> u64
+    ensures { result ≡ number (told_filled (Err why)) }
+{
+    match why {
+        RunRefused::NotALedger => 14,
+        RunRefused::TooShort => 7,
     }
 }

@@ -1,14 +1,12 @@
 -- A ledger's own numbers and others, compared one by one. Assumes nothing.
-use Prim.Native.Nat.{ℕ, zero, suc, ◌+◌, ◌≤◌, ◌<◌}
+use Prim.Native.Nat.{ℕ, zero, suc, ◌+◌, ◌<◌}
 use mathlib.Core.Path.{◌≡◌, refl, sym, ap, ◌∙◌}
-use mathlib.Core.Bool.{Bool, true, false}
+use mathlib.Core.Bool.{Bool, true, false, ◌&&◌}
+use lib.Pointwise.{pointwise}
 use mathlib.Core.List.{List, [], ◌∷◌, append-nil}
 use native.Mathlib.Nat.{not-suc-le-zero}
-use native.Mathlib.Numerals.{add-one}
 use native.Mathlib.Omega.{arith}
-use borrow.Author.Tests.{eq-eqb, ne_eqb}
-use lib.ListN.{length, take, drop, get_or, replicate, length-take, drop_of_length-le}
-use lib.Seq.{drop-cons, get_or-take}
+use lib.ListN.{length, take, replicate, length-take, drop_of_length-le}
 use lib.Dec.{eqb}
 use Rattle.common.specs.Choice.{both}
 use Rattle.common.specs.Buffer.{Put}
@@ -18,26 +16,17 @@ use Rattle.ledger_numbers.specs.Numbers.{own_numbers, row_numbers, ledger_number
 use Rattle.ledger_numbers.specs.Naming.{rows_named, ledger_named, are_same, no_ledger, unpack_of}
 use Rattle.ledger_numbers.proofs.Storing.{numbers-length}
 
--- ---- a loop that compares
-
-module _ (own ns : List ℕ) (i : ℕ) (long : length own ≡ ledger_numbers) (enough : ledger_numbers ≤ length ns) where
-  -- a pair that is equal leaves it to the others,
-  pub same_next : i < ledger_numbers → get_or own i 0 ≡ get_or ns i 0 → are_same (drop (i + 1) own) (drop (i + 1) (take ledger_numbers ns)) ≡ are_same (drop i own) (drop i (take ledger_numbers ns))
-  unfolding are_same
-  same_next h e =
-      rw (add-one i, drop-cons own i 0 (omega arith), drop-cons (take ledger_numbers ns) i 0 (rw length-take (omega arith)), eq-eqb _ _ (e ∙ sym (get_or-take ledger_numbers ns i 0 h)))
-
-  -- one that is not ends it,
-  pub same_not : i < ledger_numbers → (get_or own i 0 ≡ get_or ns i 0 → ⊥) → are_same (drop i own) (drop i (take ledger_numbers ns)) ≡ false
-  unfolding are_same
-  same_not h e =
-      rw (drop-cons own i 0 (omega arith), drop-cons (take ledger_numbers ns) i 0 (rw length-take (omega arith)), ne_eqb _ _ (λ k. e (k ∙ get_or-take ledger_numbers ns i 0 h)))
-
-  -- and so does the end of both
-  pub same_end : ledger_numbers ≤ i → are_same (drop i own) (drop i (take ledger_numbers ns)) ≡ true
-  unfolding are_same
-  same_end h =
-      rw (drop_of_length-le own {i = i} (omega arith), drop_of_length-le (take ledger_numbers ns) {i = i} (rw length-take (omega arith)))
+-- two slices that are equal element by element
+pub same-slices : (ms ns : List ℕ) → pointwise eqb ms ns ≡ are_same ms ns
+unfolding are_same
+same-slices [] [] = refl
+same-slices [] (n ∷ ns) = refl
+same-slices (m ∷ ms) [] = refl
+same-slices (m ∷ ms) (n ∷ ns) = rw (same-slices ms ns) (go (eqb m n) (are_same ms ns))
+  where
+    go : (b c : Bool) → (b && c) ≡ both b c
+    go true c = refl
+    go false c = refl
 
 -- ---- what was put into an array that has no more room is all that it holds
 

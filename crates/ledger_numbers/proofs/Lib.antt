@@ -1,4 +1,5 @@
 pub mod Storing
+pub mod FromFn
 pub mod RowsNamed
 pub mod Comparing
 pub mod Again

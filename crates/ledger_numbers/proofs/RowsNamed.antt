@@ -1,14 +1,16 @@
 -- The rows that numbers name, one after the other. Assumes nothing.
-use Prim.Native.Nat.{ℕ, zero, suc, ◌+◌, ◌*◌, ◌≤◌, ◌<◌}
-use mathlib.Core.Path.{◌≡◌, sym, ap, ◌∙◌}
-use mathlib.Core.List.{List, [], ◌∷◌, ◌++◌}
-use native.Mathlib.Numerals.{add-one}
+use Rattle.std.specs.Simd.{first_chunks}
+use native.Mathlib.Nat.{add-zero}
+use Rattle.ledger.proofs.PartsOfLists.{chunk, from_on}
+use Prim.Native.Nat.{ℕ, zero, suc, ◌+◌, ◌-◌, ◌/◌, ◌*◌, ◌≤◌, ◌<◌}
+use mathlib.Core.Path.{◌≡◌, refl, ap, ◌∙◌}
+use mathlib.Core.List.{List, [], ◌∷◌}
 use native.Mathlib.Omega.{arith}
-use lib.ListN.{length, take, drop, set, length-set}
-use lib.Seq.{take_all, take-suc-set, get_or-drop}
+use lib.ListN.{length-drop, length, get_or, take, drop}
+use lib.Seq.{drop-drop, get_or-take, get_or-drop}
 use Rattle.row.specs.declared.Row.{Row}
 use Rattle.ledger.specs.Ledgers.{most_rows}
-use Rattle.ledger_numbers.specs.Numbers.{own_numbers, row_numbers}
+use Rattle.ledger_numbers.specs.Numbers.{ledger_numbers, own_numbers, row_numbers}
 use Rattle.ledger_numbers.specs.Naming.{row_named, rows_named}
 
 -- what stands before an offset does not count
@@ -18,30 +20,31 @@ row-behind ns at =
     let e : at + 0 ≡ at = omega arith in
     simp get_or-drop (rw e)
 
--- one more row is after the others
-pub rows_snoc : (i : ℕ) (ns : List ℕ) (at : ℕ) → rows_named (suc i) ns at ≡ rows_named i ns at ++ (row_named ns (at + row_numbers * i) ∷ [])
+-- rows that are each the one that its numbers name
+pub all-named : (n : ℕ) (ns : List ℕ) (at : ℕ) (rows : List Row) → length rows ≡ n → ((i : ℕ) (d : Row) → i < n → get_or rows i d ≡ row_named ns (at + row_numbers * i)) → rows ≡ rows_named n ns at
 unfolding rows_named
-rows_snoc zero ns at = let e : at + 0 ≡ at = omega arith in rw e
-rows_snoc (suc i) ns at =
-    let e : at + row_numbers + row_numbers * i ≡ at + row_numbers * suc i = omega arith in
-    ap (λ (t : List Row). row_named ns at ∷ t) (rw (← e) (rows_snoc i ns (at + row_numbers)))
+all-named zero ns at [] l each = refl
+all-named zero ns at (r ∷ rows) l each = absurd (omega arith)
+all-named (suc n) ns at [] l each = absurd (omega arith)
+all-named (suc n) ns at (r ∷ rows) l each =
+    let first : at + row_numbers * 0 ≡ at = omega arith in
+    let one : r ≡ row_named ns at = each zero r (omega arith) ∙ ap (row_named ns) first in
+    let on : (i : ℕ) → at + row_numbers * suc i ≡ at + row_numbers + row_numbers * i = λ i. omega arith in
+    let rest = all-named n ns (at + row_numbers) rows (omega arith) (λ i d h. each (suc i) d (omega arith) ∙ ap (row_named ns) (on i)) in
+    λ i. one i ∷ rest i
 
--- the first i of the rows are those that the numbers name
-pub record Filled (ns : List ℕ) (rows : List Row) (i : ℕ) : Type 0 where
-  pub to : i ≤ most_rows
-  pub long : length rows ≡ most_rows
-  pub so_far : take i rows ≡ rows_named i ns own_numbers
+-- the eleven numbers are all that a row reads
+row-front : (at : ℕ) (ns : List ℕ) → row_named (take row_numbers (drop at ns)) 0 ≡ row_named ns at
+unfolding row_named
+row-front at ns =
+    let n : (j : ℕ) → j < row_numbers → get_or (take row_numbers (drop at ns)) j 0 ≡ get_or ns (at + j) 0 = λ j h. get_or-take row_numbers (drop at ns) j 0 h ∙ get_or-drop at ns j 0 in
+    rw (n 0 (omega arith), n 1 (omega arith), n 2 (omega arith), n 3 (omega arith), n 4 (omega arith), n 5 (omega arith), n 6 (omega arith), n 7 (omega arith), n 8 (omega arith), n 9 (omega arith), n 10 (omega arith), add-zero at)
 
-module _ {ns : List ℕ} {rows : List Row} {i : ℕ} (n : Filled ns rows i) where
-  pub filled_next : {r : Row} → r ≡ row_named ns (own_numbers + row_numbers * i) → i < most_rows → Filled ns (set rows i r) (i + 1)
-  filled_next {r} e h =
-      record {
-        to = omega arith;
-        long = length-set rows i r ∙ n.long;
-        so_far = rw (add-one, take-suc-set rows i r (omega (arith, n.long)), n.so_far, e, rows_snoc i ns own_numbers);
-      }
-
-  pub all-filled : most_rows ≤ i → rows ≡ rows_named most_rows ns own_numbers
-  all-filled h =
-      let e : i ≡ most_rows = omega (arith, n.to) in
-      sym (take_all i rows (omega (arith, n.long))) ∙ n.so_far ∙ rw e
+-- a row's numbers, as they are cut from all
+pub row-cut : (ns : List ℕ) (i : ℕ) (parts : List (List ℕ)) → ledger_numbers ≤ length ns → (let rest = take (length ns - own_numbers) (drop own_numbers ns) in parts ≡ first_chunks row_numbers (length rest / row_numbers) rest) → i < most_rows → row_named (get_or parts i []) 0 ≡ row_named ns (own_numbers + row_numbers * i)
+row-cut ns i parts long cut h =
+    let rest : List ℕ = take (length ns - own_numbers) (drop own_numbers ns) in
+    let all : rest ≡ drop own_numbers ns = from_on ns own_numbers in
+    let enough : length rest ≡ length ns - own_numbers = ap length all ∙ length-drop own_numbers ns in
+    let within : i < length rest / row_numbers = omega arith in
+    rw (cut, chunk row_numbers (length rest / row_numbers) i rest within, all, drop-drop (row_numbers * i) own_numbers ns) (row-front (own_numbers + row_numbers * i) ns)

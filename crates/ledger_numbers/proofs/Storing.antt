@@ -2,12 +2,11 @@
 use Rattle.std.specs.Prelude.{Option, Some, None}
 use Prim.Native.Nat.{ℕ, ◌+◌, ◌*◌, ◌≤◌, ◌<◌}
 use mathlib.Core.Path.{◌≡◌, refl, ap, ◌∙◌}
-use mathlib.Core.List.{List, [], ◌∷◌}
+use mathlib.Core.List.{List, [], ◌∷◌, ◌++◌}
 use native.Mathlib.Numerals.{add-one}
-use native.Mathlib.Nat.{zero-add}
 use native.Mathlib.Omega.{arith}
 use lib.ListN.{length, get_or, drop, length-append, drop_of_length-le}
-use lib.Seq.{sets, sets-eq, drop-cons}
+use lib.Seq.{drop-cons}
 use Rattle.common.specs.Buffer.{Put}
 use Rattle.common.proofs.Puts.{Room, lent, given, second_fits, both-fit, put_both, put-length}
 use Rattle.common.proofs.PutLoop.{Going, Next}
@@ -19,10 +18,6 @@ use Rattle.ledger.specs.Answers.{closing_rule}
 use Rattle.ledger.specs.Ledgers.{most_rows}
 use Rattle.ledger.specs.declared.Ledger.{Ledger}
 use Rattle.ledger_numbers.specs.Numbers.{own_numbers, row_numbers, ledger_numbers, state_number, range_numbers, greatest_numbers, numbers_of_row, numbers_of_rows, part_number, numbers_of}
-
--- numbers stored one by one from the front on
-pub stored : (vs before : List ℕ) → length vs ≤ length before → Put vs before (length vs) (sets before 0 vs)
-stored vs before h = record { count = refl; holds = sets-eq vs before 0 (omega arith) ∙ rw zero-add }
 
 -- ---- a row
 
@@ -42,9 +37,6 @@ module _ (r : Row) {asked shown : List ℕ} {s : ℕ} (f : asked ≡ range_numbe
   pub row-numbers : numbers_of_row r ≡ r.id ∷ r.alias ∷ s ∷ get_or asked 0 0 ∷ get_or asked 1 0 ∷ get_or asked 2 0 ∷ get_or asked 3 0 ∷ get_or shown 0 0 ∷ get_or shown 1 0 ∷ get_or shown 2 0 ∷ r.count ∷ []
   unfolding numbers_of_row
   row-numbers = rw (four r.range f, three r.greatest t, ← e)
-
-  pub row_put : (before : List ℕ) → row_numbers ≤ length before → Put (numbers_of_row r) before row_numbers (sets before 0 (r.id ∷ r.alias ∷ s ∷ get_or asked 0 0 ∷ get_or asked 1 0 ∷ get_or asked 2 0 ∷ get_or asked 3 0 ∷ get_or shown 0 0 ∷ get_or shown 1 0 ∷ get_or shown 2 0 ∷ r.count ∷ []))
-  row_put before h = rw row-numbers (stored _ before h)
 
 pub row-length : (r : Row) → length (numbers_of_row r) ≡ row_numbers
 row-length r = ap length (row-numbers r refl refl refl)
@@ -82,7 +74,7 @@ unfolding numbers_of
 numbers-length l h = omega (arith, rows-length l.rows)
 
 module _ (l : Ledger) {p s : ℕ} (e : p ≡ part_number l.part) (f : s ≡ closing_rule l.session) (before : List ℕ) (fits : length (numbers_of l) ≤ length before) where
-  -- its own numbers, as they are stored
+  -- its own numbers, which are copied to the front,
   abbrev front : List ℕ
   front = p ∷ s ∷ l.capacity ∷ l.maximum ∷ l.next ∷ l.used ∷ []
 
@@ -90,21 +82,22 @@ module _ (l : Ledger) {p s : ℕ} (e : p ≡ part_number l.part) (f : s ≡ clos
   unfolding numbers_of
   front-room = record { joins = rw (e, f); fits = fits }
 
-  front-put : Put front before own_numbers (sets before 0 front)
-  front-put = stored front before (omega (arith, length-append front (numbers_of_rows l.rows), ap length front-room.joins))
+  module _ {copied : List ℕ} (own : copied ≡ front) where
+    front-put : Put front before own_numbers (copied ++ drop own_numbers before)
+    front-put = record { count = refl; holds = ap (λ (ns : List ℕ). ns ++ drop own_numbers before) own }
 
-  -- there is room for the rows after them,
-  pub rows_fit : length (numbers_of_rows l.rows) ≤ length (lent own_numbers (sets before 0 front))
-  rows_fit = second_fits front-room front-put
+    -- there is room for the rows after them,
+    pub rows_fit : length (numbers_of_rows l.rows) ≤ length (lent own_numbers (copied ++ drop own_numbers before))
+    rows_fit = second_fits front-room front-put
 
-  -- and for both,
-  pub ledger-sum : {n : ℕ} {t : List ℕ} → Put (numbers_of_rows l.rows) (lent own_numbers (sets before 0 front)) n t → own_numbers + n ≤ length before
-  ledger-sum q = both-fit front-room front-put q
+    -- and for both,
+    pub ledger-sum : {n : ℕ} {t : List ℕ} → Put (numbers_of_rows l.rows) (lent own_numbers (copied ++ drop own_numbers before)) n t → own_numbers + n ≤ length before
+    ledger-sum q = both-fit front-room front-put q
 
-  -- and then all of them stand there,
-  pub ledger-put : {n : ℕ} {t : List ℕ} → Put (numbers_of_rows l.rows) (lent own_numbers (sets before 0 front)) n t → Put (numbers_of l) before (own_numbers + n) (given own_numbers (sets before 0 front) t)
-  ledger-put q = put_both front-room front-put q
+    -- and then all of them stand there,
+    pub ledger-put : {n : ℕ} {t : List ℕ} → Put (numbers_of_rows l.rows) (lent own_numbers (copied ++ drop own_numbers before)) n t → Put (numbers_of l) before (own_numbers + n) (given own_numbers (copied ++ drop own_numbers before) t)
+    ledger-put q = put_both front-room front-put q
 
-  -- in a buffer as long as it was
-  pub ledger-length : {n : ℕ} {t : List ℕ} → Put (numbers_of_rows l.rows) (lent own_numbers (sets before 0 front)) n t → length (given own_numbers (sets before 0 front) t) ≡ length before
-  ledger-length q = put-length (ledger-put q) fits
+    -- in a buffer as long as it was
+    pub ledger-length : {n : ℕ} {t : List ℕ} → Put (numbers_of_rows l.rows) (lent own_numbers (copied ++ drop own_numbers before)) n t → length (given own_numbers (copied ++ drop own_numbers before) t) ≡ length before
+    ledger-length q = put-length (ledger-put q) fits

@@ -7,7 +7,7 @@ ghost use Rattle.ledger_numbers.specs.Naming.{kept_in};
 
 use crate::rows::put_row;
 use crate::{LEDGER_NUMBERS, OWN_NUMBERS};
-use ledger::{Ledger, MOST_ROWS, Part, Session};
+use ledger::{Ledger, Part, Session};
 
 fn part_number(part: Part) -> u64
     ensures { result ≡ part_number part }
@@ -33,12 +33,8 @@ fn put_rows(out: &mut [u64], l: Ledger) -> usize
     ensures { Put (numbers_of_rows l.rows) out.old result out.new }
 {
     let mut at: usize = 0;
-    let mut i: usize = 0;
-    while i < MOST_ROWS {
-        let row = l.rows[i];
-        let n = put_row(&mut out[at..], row);
-        at = at + n;
-        i += 1;
+    for row in &l.rows {
+        at += put_row(&mut out[at..], *row);
     }
     at
 }
@@ -48,27 +44,23 @@ pub fn put_ledger(out: &mut [u64], l: Ledger) -> usize
     requires { length (numbers_of l) ≤ length out.old }
     ensures { Put (numbers_of l) out.old result out.new }
 {
-    let part = l.part;
-    let session = l.session;
-    out[0] = part_number(part);
-    out[1] = session_number(session);
-    out[2] = l.capacity as u64;
-    out[3] = l.maximum;
-    out[4] = l.next;
-    out[5] = l.used as u64;
-    let n = put_rows(&mut out[OWN_NUMBERS..], l);
-    OWN_NUMBERS + n
+    let own = [
+        part_number(l.part),
+        session_number(l.session),
+        l.capacity as u64,
+        l.maximum,
+        l.next,
+        l.used as u64,
+    ];
+    out[..OWN_NUMBERS].copy_from_slice(&own);
+    OWN_NUMBERS + put_rows(&mut out[OWN_NUMBERS..], l)
 }
 
 // The numbers of the ledger that a call left; where it is none, or there is no room for it, what was there stays.
 pub fn keep(numbers: &mut [u64], next: Ledger)
     ensures { numbers.new ≡ kept_in numbers.old next }
 {
-    if next.capacity == 0 {
-        return;
+    if next.capacity != 0 && numbers.len() >= LEDGER_NUMBERS {
+        put_ledger(numbers, next);
     }
-    if numbers.len() < LEDGER_NUMBERS {
-        return;
-    }
-    put_ledger(numbers, next);
 }

@@ -38,32 +38,39 @@ fn greatest_numbers(greatest: Option<Place>) -> [u64; 3]
     }
 }
 
+#[tactic(auto, unfolding(crate::specs::Numbers::numbers_of_row))]
+fn numbers_of(row: Row) -> [u64; ROW_NUMBERS]
+    ensures { result ≡ numbers_of_row row }
+{
+    let [kind, start_group, start_object, last] = range_numbers(row.range);
+    let [shown, group, object] = greatest_numbers(row.greatest);
+    [
+        row.id,
+        row.alias,
+        state_number(row.state),
+        kind,
+        start_group,
+        start_object,
+        last,
+        shown,
+        group,
+        object,
+        row.count,
+    ]
+}
+
 // At the front of out.
 pub fn put_row(out: &mut [u64], row: Row) -> usize
     requires { row_numbers ≤ length out.old }
     ensures { Put (numbers_of_row row) out.old result out.new }
 {
-    let state = row.state;
-    let range = row.range;
-    let greatest = row.greatest;
-    let asked = range_numbers(range);
-    let shown = greatest_numbers(greatest);
-    out[0] = row.id;
-    out[1] = row.alias;
-    out[2] = state_number(state);
-    out[3] = asked[0];
-    out[4] = asked[1];
-    out[5] = asked[2];
-    out[6] = asked[3];
-    out[7] = shown[0];
-    out[8] = shown[1];
-    out[9] = shown[2];
-    out[10] = row.count;
+    out[..ROW_NUMBERS].copy_from_slice(&numbers_of(row));
     ROW_NUMBERS
 }
 
 // ---- the row that numbers name
 
+#[tactic(auto, unfolding(crate::specs::Naming::state_named))]
 fn state_of(n: u64) -> State
     ensures { result ≡ state_named n }
 {
@@ -73,6 +80,7 @@ fn state_of(n: u64) -> State
     }
 }
 
+#[tactic(auto, unfolding(crate::specs::Naming::range_named))]
 fn range_of(n: u64, group: u64, object: u64, last: u64) -> Range
     ensures { result ≡ range_named n group object last }
 {
@@ -84,6 +92,7 @@ fn range_of(n: u64, group: u64, object: u64, last: u64) -> Range
     }
 }
 
+#[tactic(auto, unfolding(crate::specs::Naming::greatest_named))]
 fn greatest_of(n: u64, group: u64, object: u64) -> Option<Place>
     ensures { result ≡ greatest_named n group object }
 {
@@ -93,20 +102,29 @@ fn greatest_of(n: u64, group: u64, object: u64) -> Option<Place>
     }
 }
 
-// At the front of numbers.
-pub fn row_in(numbers: &[u64]) -> Row
-    requires { row_numbers ≤ length numbers.now }
-    ensures { result ≡ row_named numbers.now 0 }
+#[tactic(auto, unfolding(crate::specs::Naming::row_named))]
+pub fn row_in(numbers: [u64; ROW_NUMBERS]) -> Row
+    ensures { result ≡ row_named numbers 0 }
 {
-    let state = state_of(numbers[2]);
-    let range = range_of(numbers[3], numbers[4], numbers[5], numbers[6]);
-    let greatest = greatest_of(numbers[7], numbers[8], numbers[9]);
-    Row {
-        id: numbers[0],
-        alias: numbers[1],
+    let [
+        id,
+        alias,
         state,
-        range,
-        greatest,
-        count: numbers[10],
+        kind,
+        start_group,
+        start_object,
+        last,
+        shown,
+        group,
+        object,
+        count,
+    ] = numbers;
+    Row {
+        id,
+        alias,
+        state: state_of(state),
+        range: range_of(kind, start_group, start_object, last),
+        greatest: greatest_of(shown, group, object),
+        count,
     }
 }

@@ -9,6 +9,7 @@ use crate::rows::row_in;
 use crate::{LEDGER_NUMBERS, OWN_NUMBERS, ROW_NUMBERS};
 use ledger::{Ledger, MOST_ROWS, Part, Rule, Session};
 use row::Row;
+use std::array;
 
 // Numbers that are no ledger's, and too few, are taken as a ledger that has no room for a row: every call on it answers
 // 14.
@@ -19,19 +20,17 @@ pub fn unpack(numbers: &[u64]) -> Ledger
         return none();
     }
     let l = ledger_in(numbers);
-    if !has_numbers(l, numbers) {
-        return none();
-    }
-    l
+    if has_numbers(l, numbers) { l } else { none() }
 }
 
+#[tactic(auto, unfolding(ledger::specs::Steps::start_of))]
 fn none() -> Ledger
     ensures { result ≡ no_ledger }
 {
-    let refused = ledger::start(Part::Subscriber, 0, 0);
-    refused.ledger
+    ledger::start(Part::Subscriber, 0, 0).ledger
 }
 
+#[tactic(auto, unfolding(crate::specs::Naming::part_named))]
 fn part_of(n: u64) -> Part
     ensures { result ≡ part_named n }
 {
@@ -41,6 +40,7 @@ fn part_of(n: u64) -> Part
     }
 }
 
+#[tactic(auto, unfolding(crate::specs::Naming::rule_named))]
 fn rule_of(n: u64) -> Rule
     ensures { result ≡ rule_named n }
 {
@@ -55,6 +55,7 @@ fn rule_of(n: u64) -> Rule
     }
 }
 
+#[tactic(auto, unfolding(crate::specs::Naming::session_named))]
 fn session_of(n: u64) -> Session
     ensures { result ≡ session_named n }
 {
@@ -68,27 +69,19 @@ fn rows_in(numbers: &[u64]) -> [Row; MOST_ROWS]
     requires { ledger_numbers ≤ length numbers.now }
     ensures { result ≡ rows_named most_rows numbers.now own_numbers }
 {
-    let mut rows = [row::unused(); MOST_ROWS];
-    let mut i: usize = 0;
-    while i < MOST_ROWS {
-        let at = OWN_NUMBERS + ROW_NUMBERS * i;
-        rows[i] = row_in(&numbers[at..]);
-        i += 1;
-    }
-    rows
+    let (parts, _) = numbers[OWN_NUMBERS..].as_chunks::<ROW_NUMBERS>();
+    array::from_fn(|i| row_in(parts[i]))
 }
 
+#[tactic(auto, unfolding(crate::specs::Naming::ledger_named))]
 fn ledger_in(numbers: &[u64]) -> Ledger
     requires { ledger_numbers ≤ length numbers.now }
     ensures { result ≡ ledger_named numbers.now }
 {
-    let rows = rows_in(numbers);
-    let part = part_of(numbers[0]);
-    let session = session_of(numbers[1]);
     Ledger {
-        rows,
-        part,
-        session,
+        rows: rows_in(numbers),
+        part: part_of(numbers[0]),
+        session: session_of(numbers[1]),
         capacity: numbers[2] as usize,
         maximum: numbers[3],
         next: numbers[4],
@@ -103,12 +96,5 @@ fn has_numbers(l: Ledger, numbers: &[u64]) -> bool
 {
     let mut own = [0u64; LEDGER_NUMBERS];
     put_ledger(&mut own, l);
-    let mut i: usize = 0;
-    while i < LEDGER_NUMBERS {
-        if own[i] != numbers[i] {
-            return false;
-        }
-        i += 1;
-    }
-    true
+    own[..] == numbers[..LEDGER_NUMBERS]
 }

@@ -8,4 +8,4 @@ pub returns : goal.returns
 unfolding arrival_call
 returns c =
     let a = c.args in
-    stepped _ c.unpack-l.ensures c.arrival-counted.result c.number.ensures c.keep.ensures (λ l. arrival_of l (record { alias = a.alias; place = record { group = a.group; object = a.object } })) c.arrival-counted.ensures
+    stepped _ c.unpack.ensures c.arrival-counted.result c.number.ensures c.keep.ensures (λ l. arrival_of l (record { alias = a.alias; place = record { group = a.group; object = a.object } })) c.arrival-counted.ensures

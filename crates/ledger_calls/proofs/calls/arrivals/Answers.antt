@@ -4,17 +4,11 @@ use Rattle.common.specs.Answer.{number}
 use Rattle.ledger_calls.proofs.CallsAnswered.{ran}
 use Rattle.ledger_calls.proofs.calls.arrivals.Goals as goal
 
-pub returns-in-Done : goal.returns-in-Done
+pub returns-in-Ok : goal.returns-in-Ok
 unfolding number
-returns-in-Done c =
-    ran _ _ _ c.unpack-l.ensures c.arrivals-ran.ensures c.keep.ensures c.in-Done.is refl
+returns-in-Ok c = ran _ _ _ c.unpack.ensures c.arrivals-ran.ensures c.keep.ensures c.in-Ok.is refl
 
-pub returns-in-NotALedger : goal.returns-in-NotALedger
+pub returns-in-Err : goal.returns-in-Err
 unfolding number
-returns-in-NotALedger c =
-    ran _ _ _ c.unpack-l.ensures c.arrivals-ran.ensures c.keep.ensures c.in-NotALedger.is refl
-
-pub returns-in-TooShort : goal.returns-in-TooShort
-unfolding number
-returns-in-TooShort c =
-    ran _ _ _ c.unpack-l.ensures c.arrivals-ran.ensures c.keep.ensures c.in-TooShort.is refl
+returns-in-Err c =
+    ran _ _ _ c.unpack.ensures c.arrivals-ran.ensures c.keep.ensures c.in-Err.is c.run_refusal.ensures

@@ -7,4 +7,4 @@ use Rattle.ledger_calls.proofs.calls.malformed.Goals as goal
 pub returns : goal.returns
 unfolding malformed_call
 returns c =
-    stepped _ c.unpack-l.ensures c.malformed-closed.result c.number.ensures c.keep.ensures malformed_of c.malformed-closed.ensures
+    stepped _ c.unpack.ensures c.malformed-closed.result c.number.ensures c.keep.ensures malformed_of c.malformed-closed.ensures

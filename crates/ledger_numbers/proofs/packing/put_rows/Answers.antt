@@ -13,31 +13,31 @@ use Rattle.ledger_numbers.proofs.packing.put_rows.Goals.{Start}
 places : (c : Start) → length c.args.l.rows ≡ most_rows
 places c = c.well_formed.1.0.1.1.0.1.0.1
 
-pub loop-i-init : goal.loop-i-init
-loop-i-init c = going_start _ _
+pub loop-row-init : goal.loop-row-init
+loop-row-init c = going_start _ _
 
 pub slice_bounds-put_row-count : goal.slice_bounds-put_row-count
-slice_bounds-put_row-count c = going-within c.loop-i.invariant c.requires
+slice_bounds-put_row-count c = going-within c.loop-row.invariant c.requires
 
 pub offset_bounds-out-at : goal.offset_bounds-out-at
 offset_bounds-out-at c =
-    omega (arith, at-within c.loop-i.invariant, rows-length c.args.l.rows, places (goal.at.offset_bounds-out-at c).Start)
+    omega (arith, at-within c.loop-row.invariant, rows-length c.args.l.rows, places (goal.at.offset_bounds-out-at c).Start)
 
-pub put_row-n-requires : goal.put_row-n-requires
-put_row-n-requires c =
-    row_fits _ (next_fits c.loop-i.invariant c.requires (row_next c.args.l.rows c.loop-i.i unused_row (omega (arith, places (goal.at.put_row-n-requires c).Start))))
+pub put_row-at-requires : goal.put_row-at-requires
+put_row-at-requires c =
+    row_fits _ (next_fits c.loop-row.invariant c.requires (row_next c.args.l.rows c.loop-row.row-index unused_row (omega (arith, places (goal.at.put_row-at-requires c).Start))))
 
 pub overflow_add-at : goal.overflow_add-at
 overflow_add-at c =
-    omega (arith, going-sum c.loop-i.invariant c.requires (row_next c.args.l.rows c.loop-i.i _ (omega (arith, places (goal.at.overflow_add-at c).Start))) c.put_row-n.ensures)
+    omega (arith, going-sum c.loop-row.invariant c.requires (row_next c.args.l.rows c.loop-row.row-index _ (omega (arith, places (goal.at.overflow_add-at c).Start))) c.put_row-at.ensures)
 
-pub loop-i-preserved : goal.loop-i-preserved
-loop-i-preserved c =
-    going_next c.loop-i.invariant c.requires (row_next c.args.l.rows c.loop-i.i _ (omega (arith, places (goal.at.loop-i-preserved c).Start))) c.put_row-n.ensures
+pub loop-row-preserved : goal.loop-row-preserved
+loop-row-preserved c =
+    going_next c.loop-row.invariant c.requires (row_next c.args.l.rows c.loop-row.row-index _ (omega (arith, places (goal.at.loop-row-preserved c).Start))) c.put_row-at.ensures
 
 pub shape_of-out : goal.shape_of-out
-shape_of-out c = going-length c.loop-i.invariant c.requires
+shape_of-out c = going-length c.loop-row.invariant c.requires
 
 pub returns : goal.returns
 returns c =
-    going_end c.loop-i.invariant c.requires (rows_end c.args.l.rows c.loop-i.i (omega (arith, places (goal.at.returns c).Start)))
+    going_end c.loop-row.invariant c.requires (rows_end c.args.l.rows c.loop-row.row-index (omega (arith, places (goal.at.returns c).Start)))

@@ -1,25 +1,15 @@
--- `rows_in` meets its contract: the rows so far are those that the numbers name. Assumes nothing.
-use Prim.Native.Nat.{ℕ, ◌+◌, ◌*◌}
-use mathlib.Core.Path.{refl, ap, ◌∙◌}
-use mathlib.Core.List.{List}
-use native.Mathlib.Omega.{arith}
-use Rattle.common.proofs.Parts.{to_end}
-use Rattle.ledger_numbers.specs.Numbers.{own_numbers, row_numbers}
-use Rattle.ledger_numbers.specs.Naming.{row_named, rows_named}
-use Rattle.ledger_numbers.proofs.RowsNamed.{row-behind, filled_next, all-filled}
+-- `rows_in` meets its contract: each row is the one that its numbers name. Assumes nothing.
+use Rattle.std.proofs.Common.{◌∙◌, get_or, [], rules, arith}
+use Rattle.ledger.specs.Ledgers.{most_rows}
+use Rattle.ledger_numbers.specs.Numbers.{own_numbers}
+use Rattle.ledger_numbers.specs.Naming.{row_named}
+use Rattle.ledger_numbers.proofs.FromFn.{from_calls}
+use Rattle.ledger_numbers.proofs.RowsNamed.{all-named, row-cut}
 use Rattle.ledger_numbers.proofs.unpacking.rows_in.Goals as goal
 
-pub loop-i-init : goal.loop-i-init
-unfolding rows_named
-loop-i-init c = record { to = omega arith; long = refl; so_far = refl }
-
-pub loop-i-preserved : goal.loop-i-preserved
-unfolding rows_named
-loop-i-preserved c =
-    let ns = c.args.numbers.now in
-    let at = own_numbers + row_numbers * c.loop-i.i in
-    filled_next c.loop-i.invariant (c.row_in.ensures ∙ ap (λ (s : List ℕ). row_named s 0) (to_end ns at) ∙ row-behind ns at) (omega arith)
-
 pub returns : goal.returns
-unfolding rows_named
-returns c = all-filled c.loop-i.invariant (omega arith)
+returns c =
+    let parts = c.as_chunks.result.0.now in
+    all-named most_rows c.args.numbers.now own_numbers c.from_fn.result c.from_fn.ensures.items.long (λ i d h.
+    from_calls (λ j. row_named (get_or parts j []) 0) _ c.from_fn.result (λ j y q k. search rules) 0 most_rows c.from_fn.ensures.items.each i d (omega arith) h
+    ∙ row-cut c.args.numbers.now i parts c.requires c.as_chunks.ensures.front h)
