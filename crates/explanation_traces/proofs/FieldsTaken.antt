@@ -13,20 +13,17 @@ use Rattle.replay.specs.declared.Event.{Event}
 use Rattle.replay.specs.declared.Progress.{Progress}
 use Rattle.replay.specs.declared.Stepped.{Stepped}
 use Rattle.replay.proofs.FieldSteps.{stands, stands-none, stepped-is}
-use Rattle.explanation.specs.Telling.{duly, message_begun}
 use Rattle.explanation_traces.specs.Traces.{explaining_by, explaining_in, taken_at}
-use Rattle.explanation.specs.declared.Due.TheVariants.{Nothing}
 use Rattle.explanation.specs.declared.Explaining.{Explaining}
-use Rattle.explanation_traces.specs.declared.FieldTaken.{FieldTaken}
 
 module _ (p : Progress) (s : List ℕ) (at : ℕ) {r : Option Field} (said : r ≡ field_of s at) where
-  -- where none is whole, nothing is,
-  pub none-taken : {e : Explaining} → r ≡ None → e ≡ duly (message_begun s p.offset) Nothing → ◌≡◌ {A = FieldTaken} (record { explaining = e; progress = p; used = at }) (taken_at p s at)
+  -- where none is whole, none is,
+  pub none-taken : r ≡ None → None ≡ taken_at p s at
   unfolding taken_at
-  none-taken cut none = rw (stands-none s at said cut, none)
+  none-taken cut = rw (stands-none s at said cut)
 
   -- and else it is explained by its step
-  pub one-taken : {f : Field} {e : Event} {t : Stepped} {d : Explaining} → r ≡ Some f → e ≡ event_of f.tag (take (f.end - f.start) (drop f.start s)) → told_step t ≡ step_of p e (f.end - at) → d ≡ explaining_by p.stage p.offset (take (f.end - at) (drop at s)) t.event (record { number = t.number; rule = t.rule }) → ◌≡◌ {A = FieldTaken} (record { explaining = d; progress = t.progress; used = f.end }) (taken_at p s at)
+  pub one-taken : {f : Field} {e : Event} {t : Stepped} {d : Explaining} → r ≡ Some f → e ≡ event_of f.tag (take (f.end - f.start) (drop f.start s)) → told_step t ≡ step_of p e (f.end - at) → d ≡ explaining_by p.stage p.offset (take (f.end - at) (drop at s)) t.event (record { number = t.number; rule = t.rule }) → Some (record { explaining = d; progress = t.progress; used = f.end }) ≡ taken_at p s at
   unfolding taken_at explaining_in
   one-taken {f} {e} {t} found is went shown =
       let w = stands s at said found in
@@ -34,4 +31,4 @@ module _ (p : Progress) (s : List ℕ) (at : ℕ) {r : Option Field} (said : r �
       let size : f.end - at ≡ field_size (drop at s) = omega (arith, w.ends) in
       let all : told_step t ≡ stepped_by p field = went ∙ ap (λ (x : Event). step_of p x (f.end - at)) is ∙ sym (stepped-is w p) in
       let goes = shown ∙ (λ i. explaining_by p.stage p.offset (take (size i) (drop at s)) (all i).event (all i).says) in
-      rw w.is (λ i. record { explaining = goes i; progress = (all i).next; used = w.ends i })
+      rw w.is (λ i. Some (record { explaining = goes i; progress = (all i).next; used = w.ends i }))

@@ -1,5 +1,5 @@
 -- A TRACE, field by field: each is taken as in a replay, and what is answered to it stands below its parts.
-use Rattle.std.specs.Prelude.{ℕ, ◌+◌, Bool, true, false, List, [], ◌++◌, length, drop, take, eqb}
+use Rattle.std.specs.Prelude.{ℕ, ◌+◌, Option, Some, None, Bool, true, false, List, [], ◌++◌, length, drop, take, eqb}
 use Rattle.common.specs.Choice.{pick}
 use Rattle.ledger.specs.Answers.{Verdict}
 use Rattle.text.specs.Lines.{line_of, fault_line as trace_fault}
@@ -11,7 +11,7 @@ use Rattle.replay.specs.declared.Stage.{Stage}
 use Rattle.replay.specs.declared.Stage.TheVariants.{Empty, Running, Faulty}
 use Rattle.replay.specs.declared.Progress.{Progress}
 use Rattle.explanation_lines.specs.Lines.{fault_line, cut_field_line}
-use Rattle.explanation.specs.Telling.{duly, field_begun, message_begun}
+use Rattle.explanation.specs.Telling.{duly, field_begun}
 use Rattle.explanation_lines.specs.declared.Word.TheVariants.{EndsInside, NoBytes}
 use Rattle.explanation.specs.declared.Reason.{Reason}
 use Rattle.explanation.specs.declared.Reason.TheVariants.{NoTag, NotFirst, SecondStart, NoStart, NoMessage, NoArrival}
@@ -59,17 +59,18 @@ explaining_in p field =
     let stepped = stepped_by p field in
     explaining_by p.stage p.offset field stepped.event stepped.says
 
--- the field at an offset; where none is whole, nothing
-unfoldable pub taken_at : Progress → List ℕ → ℕ → FieldTaken
+-- the field at an offset; where none is whole, none
+unfoldable pub taken_at : Progress → List ℕ → ℕ → Option FieldTaken
 taken_at p s at =
     let field = take (field_size (drop at s)) (drop at s) in
     pick (is_whole (drop at s))
+    (Some
     (record {
       explaining = explaining_in p field;
       progress = (stepped_by p field).next;
       used = at + field_size (drop at s);
-    })
-    (record { explaining = duly (message_begun s p.offset) Nothing; progress = p; used = at })
+    }))
+    None
 
 -- ---- the end of a trace, where these bytes are left of a field
 

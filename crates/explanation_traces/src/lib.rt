@@ -7,8 +7,7 @@ use explanation::Explaining;
 use replay::Progress;
 pub use traces::{put_end, tell};
 
-// A field that was taken: what is to be explained of it, the progress after it, and where it ends. Where no whole field
-// stands, nothing is used.
+// A field that was taken: what is to be explained of it, the progress after it, and where it ends.
 #[derive(Clone, Copy)]
 pub struct FieldTaken {
     pub explaining: Explaining,

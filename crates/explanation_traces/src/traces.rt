@@ -5,8 +5,6 @@ ghost use Rattle.std.specs.Prelude.{◌≡◌, []};
 ghost use Rattle.text.specs.Lines.{line_of, fault_line as trace_fault};
 ghost use Rattle.replay.specs.Progressing.{on_fault};
 ghost use Rattle.columns.specs.Pouring.{filling, pour};
-ghost use Rattle.explanation.specs.Telling.{duly, message_begun};
-ghost use Rattle.explanation.specs.declared.Due.TheVariants.{Nothing};
 ghost use Rattle.explanation_traces.specs.Traces.{is_empty, reason_of, ending_by, shown_in, explaining_by, taken_at, ends_inside, end_reason, end_text};
 
 use crate::FieldTaken;
@@ -57,26 +55,13 @@ fn explain(stage: Stage, offset: u64, field: &[u8], e: Event, number: u8, rule: 
     shown_in(stage, Explaining::begin_field(field, offset, ending))
 }
 
-// No field.
-fn explain_none(s: &[u8], offset: u64) -> Explaining
-    ensures { result ≡ duly (message_begun s.now offset) Nothing }
-{
-    Explaining::begin_message(s, offset).over()
-}
-
-// The field at an offset is taken.
-pub fn tell(p: Progress, s: &[u8], at: usize) -> FieldTaken
+// The field at an offset is taken, where a whole one stands there.
+pub fn tell(p: Progress, s: &[u8], at: usize) -> Option<FieldTaken>
     ensures { result ≡ taken_at p s.now at }
 {
-    let Some(f) = trace::field_at(s, at) else {
-        return FieldTaken {
-            explaining: explain_none(s, p.offset),
-            progress: p,
-            used: at,
-        };
-    };
+    let f = trace::field_at(s, at)?;
     let stepped = p.step(replay::event_of(f.tag, &s[f.start..f.end]), f.end - at);
-    FieldTaken {
+    Some(FieldTaken {
         explaining: explain(
             p.stage,
             p.offset,
@@ -87,7 +72,7 @@ pub fn tell(p: Progress, s: &[u8], at: usize) -> FieldTaken
         ),
         progress: stepped.progress,
         used: f.end,
-    }
+    })
 }
 
 // Why the trace's end is at fault, where rest is left of a field.

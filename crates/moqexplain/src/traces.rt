@@ -55,18 +55,16 @@ fn print_fields(rt: &(impl Print + Eprint), mut progress: Progress, s: &[u8]) ->
     let mut at: usize = 0;
     let mut used: usize = 0;
     loop {
-        let taken = explanation_traces::tell(progress, s, used);
-        let next = taken.used;
-        if next == used {
+        let Some(taken) = explanation_traces::tell(progress, s, used) else {
             let written = write(rt, &out[..at]);
             return Printed {
                 progress,
                 used,
                 written,
             };
-        }
-        let explaining = taken.explaining;
-        let Putting::Done(end) = print(rt, &mut out, at, &s[used..next], explaining) else {
+        };
+        let field = &s[used..taken.used];
+        let Putting::Done(end) = print(rt, &mut out, at, field, taken.explaining) else {
             return Printed {
                 progress,
                 used,
@@ -74,7 +72,7 @@ fn print_fields(rt: &(impl Print + Eprint), mut progress: Progress, s: &[u8]) ->
             };
         };
         at = end;
-        used = next;
+        used = taken.used;
         progress = taken.progress;
     }
 }
