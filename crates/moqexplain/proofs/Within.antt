@@ -2,7 +2,8 @@
 use Rattle.std.proofs.Common.{◌≡◌, ℕ, ◌+◌, ◌-◌, ◌<◌, ◌≤◌, Bool, true, false, List, length, take, drop, sym, refl, ap, ◌∙◌, arith, length-drop, length-take-le}
 use Rattle.text.specs.declared.Putting.TheVariants.{Done, TooShort}
 use Rattle.message.specs.Reading.{read_of, told}
-use Rattle.std.specs.Prelude.{Ok}
+use Rattle.std.specs.Prelude.{Option, Some, None, Result, Ok}
+use Rattle.types.specs.declared.Refusal.{Refusal}
 use Rattle.message.specs.declared.Message.{Message}
 use Rattle.message_writer.proofs.Theorems.{used-there}
 use Rattle.trace.specs.Fields.{field_size, is_whole}
@@ -37,11 +38,11 @@ pub refused-within : (at size : ℕ) → Within Refused at size
 refused-within at size end e = absurd (let z : ◌≡◌ {A = ℕ} 0 1 = cc in omega arith)
 
 -- and one that was read whole takes some bytes, all of which are there
-pub read-there : (s : List ℕ) (at : ℕ) {m : Message} {used : ℕ} → at ≤ length s
-    → told (Ok (m, used)) ≡ read_of (take (length s - at) (drop at s)) → (2 ≤ used) × (at + used ≤ length s)
-read-there s at h said =
+pub read-there : (s : List ℕ) (at : ℕ) {r : Result (Message × ℕ) Refusal} {m : Message} {used : ℕ} → at ≤ length s
+    → told r ≡ read_of (take (length s - at) (drop at s)) → r ≡ Ok (m, used) → (2 ≤ used) × (at + used ≤ length s)
+read-there s at h said is =
     let rest : length (drop at s) ≡ length s - at = length-drop at s in
-    let there = used-there (take (length s - at) (drop at s)) (sym said) in
+    let there = used-there (take (length s - at) (drop at s)) (sym said ∙ ap told is) in
     (there.0, omega (arith, there.1, length-take-le (length s - at) (drop at s) (omega (arith, rest))))
 
 pub whole-within : {at used size : ℕ} → 2 ≤ used → at + used ≤ size → Within (Whole (at + used)) at size
@@ -49,20 +50,19 @@ whole-within {at} {used} h k end e = let same : at + used ≡ end = cc in (omega
 
 -- ---- a field that was taken ends within the bytes, behind where it begins
 
-module _ (p : Progress) (s : List ℕ) (at : ℕ) {r : FieldTaken} (said : r ≡ taken_at p s at) where
-  taken-size : is_whole (drop at s) ≡ true → r.used ≡ at + field_size (drop at s)
-  unfolding taken_at
-  taken-size e = ap (λ (x : FieldTaken). x.used) (rw e at said)
+-- where it ends, if one was taken, and 0 if none was
+abbrev used_in : Option FieldTaken → ℕ
+used_in None = 0
+used_in (Some f) = f.used
 
-  none-taken : is_whole (drop at s) ≡ false → r.used ≡ at
-  unfolding taken_at
-  none-taken e = ap (λ (x : FieldTaken). x.used) (rw e at said)
-
-  pub taken-goes : (r.used ≡ at → ⊥) → (at < r.used) × (r.used ≤ length s)
-  taken-goes more = go (is_whole (drop at s)) refl
+module _ (p : Progress) (s : List ℕ) (at : ℕ) {r : Option FieldTaken} {f : FieldTaken} (said : r ≡ taken_at p s at) (is : r ≡ Some f) where
+  pub taken-goes : (at < f.used) × (f.used ≤ length s)
+  unfolding taken_at field_size
+  taken-goes = go (is_whole (drop at s)) refl
     where
-      go : (b : Bool) → is_whole (drop at s) ≡ b → (at < r.used) × (r.used ≤ length s)
+      go : (b : Bool) → is_whole (drop at s) ≡ b → (at < f.used) × (f.used ≤ length s)
       go true e =
+          let size : f.used ≡ at + field_size (drop at s) = ap used_in (sym is ∙ rw e at said) in
           let fits = whole-fits (drop at s) e in
-          (omega (arith, taken-size e, size-head (drop at s)), omega (arith, taken-size e, fits.0, fits.1, length-drop at s))
-      go false e = absurd (more (none-taken e))
+          (omega (arith, size, size-head (drop at s)), omega (arith, size, fits.0, fits.1, length-drop at s))
+      go false e = let none : Some f ≡ None = sym is ∙ rw e at said in absurd (let z : ◌≡◌ {A = ℕ} 0 1 = cc in omega arith)

@@ -5,10 +5,10 @@ use Rattle.moqexplain.proofs.streams.find.Goals as goal
 
 pub overflow_add-result : goal.overflow_add-result
 overflow_add-result c =
-    let there = read-there c.args.s.now c.args.at c.requires c.in-Ok.ensures in
+    let there = read-there c.args.s.now c.args.at c.requires c.read.ensures c.in-Ok.is in
     omega (arith, there.1)
 
-pub returns : goal.returns
-returns c =
-    let there = read-there c.args.s.now c.args.at c.requires c.in-Ok.ensures in
+pub returns-in-Ok : goal.returns-in-Ok
+returns-in-Ok c =
+    let there = read-there c.args.s.now c.args.at c.requires c.read.ensures c.in-Ok.is in
     whole-within there.0 there.1
