@@ -1,5 +1,5 @@
 // The shortest form of a field is put at the front of what is lent. Each writer lends on what is left after what it
-// put, so out is another slice at each call, and stays apart from bytes, which it is never one value with.
+// put: so out is another slice at each call, and no struct keeps it beside bytes.
 ghost use Rattle.std.specs.Prelude.{◌≡◌, true, ◌++◌, ◌-◌, ◌≤◌, length};
 ghost use Rattle.common.specs.Answer.{Leaves};
 ghost use Rattle.common.specs.Buffer.{Put};
