@@ -45,10 +45,8 @@ pub fn write_header(
     ensures { Leaves (bare_of bytes.now (headed front.now middle back.now)
         out.old) (told_writing result) out.new }
 {
-    let judge = Judge {
-        bytes,
-        room: out.len(),
-    };
+    let room = out.len();
+    let judge = Judge { bytes, room };
     let behind = judge.join(judge.measure_middle(middle), judge.measure_all(back));
     match judge.join(judge.measure_all(front), behind) {
         Err(Unfit::Forbidden) => Err(Refusal::Forbidden),

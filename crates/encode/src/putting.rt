@@ -128,10 +128,8 @@ pub fn put_piece(out: &mut [u8], bytes: &[u8], p: Piece) -> usize
 pub fn put(out: &mut [u8], bytes: &[u8], p: Piece) -> Result<usize, Unfit>
     ensures { Leaves (put_field bytes.now p out.old) (told_measured result) out.new }
 {
-    let judge = Judge {
-        bytes,
-        room: out.len(),
-    };
+    let room = out.len();
+    let judge = Judge { bytes, room };
     let n = judge.measure(p)?;
     put_piece(out, bytes, p);
     Ok(n)

@@ -1,5 +1,5 @@
-// What a field is, before a byte of it is written: judged, and measured in its shortest form; alone, in its place among
-// the fields of a message, and in a header.
+// What a field is, before a byte of it is written: judged, and measured in its shortest form; alone, among the fields
+// of a message, and in a header.
 #![tactic(auto)]
 
 ghost use Rattle.std.specs.Prelude.{◌≡◌, take};
