@@ -30,8 +30,8 @@ filling-start {s} {ps} before h = record { going = going_start (encode_all s ps)
 -- ---- one at a time
 
 -- a part, as a field, and those after it
-pub left-more : {A B : Type 0} (f : A → B) (xs : List A) (i : ℕ) (d : A) → i < length xs → map f (drop i xs) ≡ f (get_or xs i d) ∷ map f (drop (i + 1) xs)
-left-more f xs i d h = rw (drop-cons xs i d h, add-one i)
+pub left-more : {A B : Type 0} (f : A → B) (xs : List A) (i : ℕ) {x : A} → i < length xs → x ≡ get_or xs i x → map f (drop i xs) ≡ f x ∷ map f (drop (i + 1) xs)
+left-more f xs i {x} h is = rw (drop-cons xs i x h, add-one i, ← is)
 
 module _ {s all before out : List ℕ} {at : ℕ} {ps : List Piece} (g : Filling s all before out at ps) (fits : length all ≤ length before) where
   -- none is left

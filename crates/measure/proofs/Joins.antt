@@ -62,8 +62,8 @@ module _ (s : List ℕ) where
 -- ---- several, one after the other
 
 -- a part more, as a field
-pub front-more : {A B : Type 0} (f : A → B) (xs : List A) (i : ℕ) (d : A) → i < length xs → map f (take (i + 1) xs) ≡ map f (take i xs) ++ f (get_or xs i d) ∷ []
-front-more f xs i d h = rw (take_more xs i d h) (map-append f (take i xs) (get_or xs i d ∷ []))
+pub front-more : {A B : Type 0} (f : A → B) (xs : List A) (i : ℕ) {x : A} → i < length xs → x ≡ get_or xs i x → map f (take (i + 1) xs) ≡ map f (take i xs) ++ f x ∷ []
+front-more f xs i {x} h is = rw (take_more xs i x h, ← is) (map-append f (take i xs) (x ∷ []))
 
 module _ (s : List ℕ) (room : ℕ) where
   -- none takes no bytes,

@@ -1,5 +1,4 @@
 -- `put_all` meets its contract. What was put, and the parts from the index on, are all of them. Assumes nothing.
-use mathlib.Core.Path.{sym}
 use native.Mathlib.Omega.{arith}
 use lib.ListN.{drop_of_length-le}
 use Rattle.common.proofs.PutLoop.{going-length, going-within}
@@ -15,19 +14,16 @@ slice_bounds-put_in-count g c = going-within c.loop-part.invariant.going c.requi
 
 pub put_in-at-requires : goal.put_in-at-requires
 put_in-at-requires g c =
-    let more = left-more g.P.AsPiece.piece c.args.parts.now c.loop-part.part-index c.part-item.result c.loop-part-test.true in
-    let h = field-asks c.loop-part.invariant c.requires.in_bounds (rw (sym c.part-item.is) at more) in
+    let h = field-asks c.loop-part.invariant c.requires.in_bounds (left-more g.P.AsPiece.piece _ _ c.loop-part-test.true c.part-item.is) in
     record { value = h.0; in_bounds = h.1 }
 
 pub overflow_add-at : goal.overflow_add-at
 overflow_add-at g c =
-    let more = left-more g.P.AsPiece.piece c.args.parts.now c.loop-part.part-index c.part-item.result c.loop-part-test.true in
-    is-counted (field-sum c.loop-part.invariant c.requires.in_bounds (rw (sym c.part-item.is) at more) c.put_in-at.ensures) (omega arith)
+    is-counted (field-sum c.loop-part.invariant c.requires.in_bounds (left-more g.P.AsPiece.piece _ _ c.loop-part-test.true c.part-item.is) c.put_in-at.ensures) (omega arith)
 
 pub loop-part-preserved : goal.loop-part-preserved
 loop-part-preserved g c =
-    let more = left-more g.P.AsPiece.piece c.args.parts.now c.loop-part.part-index c.part-item.result c.loop-part-test.true in
-    field_next c.loop-part.invariant c.requires.in_bounds (rw (sym c.part-item.is) at more) c.put_in-at.ensures
+    field_next c.loop-part.invariant c.requires.in_bounds (left-more g.P.AsPiece.piece _ _ c.loop-part-test.true c.part-item.is) c.put_in-at.ensures
 
 pub shape_of-out : goal.shape_of-out
 shape_of-out g c = going-length c.loop-part.invariant.going c.requires.in_bounds

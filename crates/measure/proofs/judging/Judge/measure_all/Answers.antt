@@ -9,10 +9,9 @@ loop-part-init g c = none-judged _ _
 
 pub loop-part-preserved : goal.loop-part-preserved
 loop-part-preserved g c =
-    let i = c.loop-part.part-index in
     let one = judgement _ _ _ {r = c.measure_by.result} c.measure_by.ensures in
     let next = judgement-joined _ _ _ {r = c.join-found.result} c.join-found.ensures in
-    rw (front-more g.P.AsPiece.piece c.args.parts.now i c.part-item.result c.loop-part-test.true, ← c.part-item.is) (one-more _ _ _ _ c.loop-part.invariant one next)
+    rw (front-more g.P.AsPiece.piece _ _ c.loop-part-test.true c.part-item.is) (one-more _ _ _ _ c.loop-part.invariant one next)
 
 pub returns : goal.returns
 returns g c = measured-all _ _ _ (rw (take_all _ _ c.loop-part-test.false) at c.loop-part.invariant)
