@@ -35,7 +35,8 @@ pub data Tiles : ℕ → List Part → ℕ → Type 0 where
 -- what is told from a cursor on, one part at a time
 pub data Tells (s : List ℕ) : Cursor → Explained → Type 0 where
   part : {c d : Cursor} {p : Part} {e : Explained} → next_of s c ≡ going p d → Tells s d e → Tells s c (first p e)
-  before : {c : Cursor} {why : Refusal} → next_of s c ≡ staying (IsRefused why) c → Tells s c (refusing (refusal_number why))
+  before : {c : Cursor} {why : Refusal} → next_of s c ≡ staying (IsRefused why) c
+      → Tells s c (refusing (refusal_number why))
   here : {c : Cursor} {p : Part} {why : Refusal} → next_of s c ≡ staying (Faulty p why) c
       → Tells s c (first p (refusing (refusal_number why)))
   all : {c : Cursor} {used : ℕ} → next_of s c ≡ staying (Whole used) c → Tells s c (taking used)

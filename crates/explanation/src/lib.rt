@@ -26,14 +26,14 @@ pub enum Reason {
 // field is at fault. Below those of a message in a control stream, what the reader answered.
 #[derive(Clone, Copy)]
 pub enum Ending {
-    // numbers: the ledger, whose answers they are, is not below this crate
+    // It stays two numbers, which are what is printed: an enum of them would be the ledger's, and that isn't below.
     Answered(u8, u8),
     Fault(Reason),
     Read,
 }
 
-// Which line comes next: that of a field; that of the part at the cursor; the ending, and what the reader refused, if it
-// did; or none.
+// Which line comes next: that of a field; that of the part at the cursor; the ending, and what the reader refused, if
+// anything; or none.
 #[derive(Clone, Copy)]
 pub enum Due {
     Field,

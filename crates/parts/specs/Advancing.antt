@@ -73,11 +73,13 @@ entries_left c form left held at = pick (ltb 0 left) (onward c (Entry left held)
 
 -- "Sizes (6, never 5)": a count is judged before an entry is looked for,
 unfoldable pub counted_by : Cursor → Form → Kind → ℕ → ℕ → Cursor
-counted_by c form kind count at = guard (few kind count) (onward c (Stopped refusal.Oversize) at) (entries_left c form count 0 at)
+counted_by c form kind count at =
+    guard (few kind count) (onward c (Stopped refusal.Oversize) at) (entries_left c form count 0 at)
 
 -- and a length in a track by how many of its bytes are held
 unfoldable pub bounded_by : Cursor → ℕ → ℕ → Stage → ℕ → Cursor
-bounded_by c held n stage at = guard (leb n (most_of true Namespace held)) (onward c (Stopped refusal.Oversize) at) (onward c stage at)
+bounded_by c held n stage at =
+    guard (leb n (most_of true Namespace held)) (onward c (Stopped refusal.Oversize) at) (onward c stage at)
 
 -- how many bytes are held with n more; past the size of a track it makes no difference
 abbrev pub held_with : ℕ → ℕ → ℕ

@@ -103,7 +103,7 @@ impl Cursor {
         self.entries_left(form, count, 0, at)
     }
 
-    // That many entries are left, when the ones before hold that many bytes. Behind a track's namespace stands its name.
+    // That many entries are left, when those before hold that many bytes. Behind a track's namespace stands its name.
     fn entries_left(self, form: Form, left: u64, held: usize, at: usize) -> Cursor
         ensures { result ≡ entries_left self form left held at }
     {

@@ -1,5 +1,5 @@
--- The refusals by document 01's numbers: "1 more bytes needed", "2 unknown type", "3 body too long", "4 fields don't fill
--- the body", "5 forbidden field value", "6 over a size".
+-- The refusals by document 01's numbers: "1 more bytes needed", "2 unknown type", 3 a body over the limit, "4 fields
+-- don't fill the body exactly, or a cut datagram header", "5 forbidden value", "6 size".
 use Rattle.std.specs.Prelude.{ℕ}
 use Rattle.field.specs.declared.Fault.{Fault}
 use Rattle.field.specs.declared.Fault.TheVariants.{Cut as FieldCut, Forbidden as FieldForbidden, Oversize as FieldOversize}
