@@ -14,22 +14,20 @@ use Rattle.types.specs.Letters.{letters}
 use Rattle.types.specs.Table.{TypeRow, InTable, on_listed, messages, type_row_in, type_row_of, name_of}
 use Rattle.text.specs.Decimals.{decimal_of}
 use Rattle.text.specs.Words.{word_of}
-use Rattle.text.specs.Lines.{item_of, ended_of, is_none, line_of, most_items, longest_item, longest_line, items_of}
+use Rattle.text.specs.Lines.{item_of, ended_of, is_none, line_of, most_items, longest_item, longest_line}
 use Rattle.text.specs.declared.Word.{Word as Wording}
 use Rattle.text.specs.declared.Word.TheVariants.{Open, Closed, Columns, Pending, Active, Nothing, TraceFaultAt, Start, Malformed, Arrival}
 use Rattle.text.specs.declared.Item.{Item}
 use Rattle.text.specs.declared.Item.TheVariants.{Number, Word, Rule, Name}
-use Rattle.text.specs.declared.Line.{Line}
 use Rattle.text.proofs.Decimals.{decimal-few}
-use Rattle.text.proofs.ItemsInLine.{items-count}
 
 -- twenty digits
 pub number_bound : (n : ℕ) → length (decimal_of n) ≤ 20
 unfolding decimal_of
 number_bound n = decimal-few 20 n
 
-pub number-few : (n : ℕ) {k : ℕ} → k ≡ length (decimal_of n) → k ≤ 20
-number-few n e = omega (arith, number_bound n)
+pub number_few : (n : ℕ) {k : ℕ} → k ≡ length (decimal_of n) → k ≤ 20
+number_few n e = omega (arith, number_bound n)
 
 -- the longest of the words are the columns
 pub word_bound : (word : Wording) → length (word_of word) ≤ longest_item
@@ -85,5 +83,5 @@ line-bound (item ∷ rest) =
     omega (arith, length-append (ended_of item last) (line_of rest), length-append (item_of item) (pick last 10 32 ∷ []), item-bound item, line-bound rest)
 
 -- so no line is longer
-pub longest-bound : (line : Line) → length line.at ≡ most_items → length (line_of (items_of line)) ≤ longest_line
-longest-bound line l = omega (arith, line-bound (items_of line), items-count line l)
+pub longest_bound : (items : List Item) → length items ≤ most_items → length (line_of items) ≤ longest_line
+longest_bound items h = omega (arith, line-bound items)

@@ -25,7 +25,7 @@ decimal-few (suc k) n =
     (λ e. omega (arith, decimal-few k (n / 10), length-append (decimal_in k (n / 10)) ((48 + n % 10) ∷ [])))
 
 -- one, of a number below ten
-one-digit : (k n : ℕ) → n < 10 → length (decimal_in (suc k) n) ≡ 1
+pub one-digit : (k n : ℕ) → n < 10 → length (decimal_in (suc k) n) ≡ 1
 unfolding decimal_in
 one-digit k n h = rw (lt-ltb n 10 h)
 
@@ -34,36 +34,14 @@ more-digits : (k n : ℕ) → 10 ≤ n → length (decimal_in (suc k) n) ≡ len
 unfolding decimal_in
 more-digits k n h = rw (le-ltb n 10 h, length-append)
 
--- The loop that counts: that many were counted, one more for what is left than it has digits after its first; and there are still enough.
-pub record Counting (n count left : ℕ) : Type 0 where
-  pub more : ℕ
-  pub enough : left < 10 ^ suc more
-  pub few : count + more ≡ 20
-  pub all : count + length (decimal_in (suc more) left) ≡ length (decimal_of n) + 1
-
--- at the start one was counted
-pub counting-start : (n : ℕ) → n < 2 ^ 64 → Counting n 1 n
-unfolding decimal_of
-counting-start n h = record { more = 19; enough = omega arith; few = refl; all = omega arith }
-
--- what is left has more than one digit
-module _ {n count left : ℕ} (c : Counting n count left) (h : 10 ≤ left) where
-  next : (more : ℕ) → left < 10 ^ suc more → count + more ≡ 20 → count + length (decimal_in (suc more) left) ≡ length (decimal_of n) + 1 → Counting n (count + 1) (left / 10)
-  next zero lt f e = absurd (let z : left < 10 = lt in omega arith)
-  next (suc m) lt f e =
-      record {
-        more = m;
-        enough = (div-lt_iff_lt-mul (zero-lt-suc 9)).1 (rw pow-suc at lt);
-        few = omega arith;
-        all = omega (arith, more-digits (suc m) left h);
-      }
-
-  pub counting-next : Counting n (count + 1) (left / 10)
-  counting-next = next c.more c.enough c.few c.all
-
--- what is left is one digit
-pub counting-end : {n count left : ℕ} → Counting n count left → left < 10 → count ≡ length (decimal_of n)
-counting-end {left = left} c h = omega (arith, c.all, one-digit c.more left h)
+-- one more than the number's logarithm, if those are enough
+pub digits-by_log : (more log n : ℕ) → log ≤ more → 10 ^ log ≤ n → n < 10 * 10 ^ log → length (decimal_in (suc more) n) ≡ log + 1
+digits-by_log more zero n h low high = one-digit more n (omega arith)
+digits-by_log zero (suc log) n h low high = absurd (omega arith)
+digits-by_log (suc more) (suc log) n h low high =
+    let a = rw pow-suc at low in
+    let b = rw pow-suc at high in
+    omega (arith, more-digits (suc more) n (omega arith), digits-by_log more log (n / 10) (omega arith) (omega arith) (omega arith))
 
 -- ---- that many digits of a number, as they are put: the last one first
 

@@ -1,7 +1,4 @@
-pub mod Placing
 pub mod Decimals
-pub mod Copied
-pub mod TextParts
 pub mod Ended
 pub mod ItemsInLine
 pub mod Counted

@@ -9,8 +9,7 @@ use Rattle.common.specs.Answer.{refused, wrote, Written, Leaves}
 use Rattle.common.proofs.Cases.{pick-le, apart}
 use Rattle.common.specs.Buffer.{Put}
 use Rattle.text.specs.Lines.{put_text, told_putting}
-use Rattle.text.specs.declared.Putting.{Putting}
-use Rattle.text.specs.declared.Putting.TheVariants.{Done, TooShort}
+use Rattle.std.specs.Prelude.{Option, Some, None}
 
 same_count : {m n : ℕ} → wrote m ≡ wrote n → m ≡ n
 same_count e = cc
@@ -42,12 +41,12 @@ module _ (text before : List ℕ) where
         (λ h l. (h, l.holds))
 
 -- two answers with the same number and values are the same
-pub told-putting-once : (a b : Putting) → told_putting a ≡ told_putting b → a ≡ b
-told-putting-once (Done m) (Done n) e = cc
-told-putting-once (Done m) TooShort e = absurd (apart (sym e))
-told-putting-once TooShort (Done n) e = absurd (apart e)
-told-putting-once TooShort TooShort e = refl
+pub told-putting-once : (a b : Option ℕ) → told_putting a ≡ told_putting b → a ≡ b
+told-putting-once (Some m) (Some n) e = cc
+told-putting-once (Some m) None e = absurd (apart (sym e))
+told-putting-once None (Some n) e = absurd (apart e)
+told-putting-once None None e = refl
 
 -- So two calls of `put` with the same line and the same buffer answer the same, and leave the same.
-pub leaves-once : {w : Written} {a b : Putting} {x y : List ℕ} → Leaves w (told_putting a) x → Leaves w (told_putting b) y → (a ≡ b) × (x ≡ y)
+pub leaves-once : {w : Written} {a b : Option ℕ} {x y : List ℕ} → Leaves w (told_putting a) x → Leaves w (told_putting b) y → (a ≡ b) × (x ≡ y)
 leaves-once {a = a} {b = b} l m = (told-putting-once a b (l.says ∙ sym m.says), l.holds ∙ sym m.holds)

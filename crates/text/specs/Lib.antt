@@ -1,4 +1,3 @@
 pub mod Decimals
 pub mod Words
-pub mod Parts
 pub mod Lines

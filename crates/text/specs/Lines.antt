@@ -1,9 +1,8 @@
 -- A line is its items, with a space between two and a newline at the end.
-use Rattle.std.specs.Prelude.{ℕ, ◌+◌, ◌*◌, Bool, true, false, List, [], ◌∷◌, ◌++◌, map, length, take, leb}
+use Rattle.std.specs.Prelude.{ℕ, ◌+◌, ◌*◌, Bool, true, false, List, [], ◌∷◌, ◌++◌, Option, Some, None, length, leb}
 use Rattle.common.specs.Choice.{guard, pick}
 use Rattle.common.specs.Answer.{unwritten, Answer, refused, Nothing, wrote, Written}
 use Rattle.common.specs.Buffer.{over}
-use Rattle.common.specs.Lists.{up_to}
 use Rattle.types.specs.Letters.{letters}
 use Rattle.types.specs.Table.{name_of}
 use Rattle.text.specs.Decimals.{decimal_of}
@@ -11,10 +10,6 @@ use Rattle.text.specs.Words.{word_of}
 use Rattle.text.specs.declared.Item.{Item}
 use Rattle.text.specs.declared.Item.TheVariants.{Number, Word, Rule, Name}
 use Rattle.text.specs.declared.Word.TheVariants.{TraceFaultAt}
-use Rattle.text.specs.declared.Slot.{Slot}
-use Rattle.text.specs.declared.Line.{Line}
-use Rattle.text.specs.declared.Putting.{Putting}
-use Rattle.text.specs.declared.Putting.TheVariants.{Done, TooShort}
 
 -- the bytes of an item
 unfoldable pub item_of : Item → List ℕ
@@ -47,22 +42,6 @@ longest_item = 33
 abbrev pub longest_line : ℕ
 longest_line = most_items * (longest_item + 1)
 
--- ---- the items in their places
-
-abbrev pub slot : Slot → Item
-slot s = s.item
-
-abbrev pub in_slot : Item → Slot
-in_slot item = record { item = item }
-
--- A LINE'S ITEMS, each in its place; a place that is not used holds the number 0
-unfoldable pub placed : List Item → Line
-placed items = record { at = map in_slot (up_to most_items (Number 0) items); used = length items }
-
--- and back: those that are used
-unfoldable pub items_of : Line → List Item
-items_of line = map slot (take line.used line.at)
-
 -- where a trace is at fault: "prints only `trace fault at N`"
 abbrev pub fault_line : ℕ → List Item
 fault_line at = Word TraceFaultAt ∷ Number at ∷ []
@@ -76,6 +55,6 @@ put_text text before =
     (record { says = wrote (length text); holds = over text before })
 
 -- 01's number and values of what is answered
-abbrev pub told_putting : Putting → Answer Nothing
-told_putting (Done used) = wrote used
-told_putting TooShort = refused 7
+abbrev pub told_putting : Option ℕ → Answer Nothing
+told_putting (Some used) = wrote used
+told_putting None = refused 7

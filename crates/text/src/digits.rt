@@ -7,13 +7,10 @@ ghost use Rattle.text.specs.Decimals.{decimal_of};
 pub fn places(n: u64) -> usize
     ensures { result ≡ length (decimal_of n) }
 {
-    let mut count: usize = 1;
-    let mut left = n;
-    while left >= 10 {
-        left = left / 10;
-        count += 1;
+    match n.checked_ilog10() {
+        Some(log) => log as usize + 1,
+        None => 1,
     }
-    count
 }
 
 // The digits of n at the front of out, the last one first.
@@ -23,11 +20,9 @@ pub fn put_number(out: &mut [u8], n: u64) -> usize
 {
     let count = places(n);
     let mut left = n;
-    let mut i = count;
-    while i > 0 {
-        i -= 1;
-        out[i] = 48 + (left % 10) as u8;
-        left = left / 10;
+    for i in (0..count).rev() {
+        out[i] = b'0' + (left % 10) as u8;
+        left /= 10;
     }
     count
 }

@@ -5,7 +5,10 @@ mod digits;
 mod lines;
 mod words;
 
-pub use lines::{fault_line, measure, of0, of1, of2, of3, of4, of5, of6, put};
+use common::Few;
+pub use digits::places;
+pub use lines::{fault_line, measure, put};
+pub use words::name;
 
 // How many items a line has at most, how many bytes an item takes, and how many a line, with one after each item.
 pub const MOST_ITEMS: usize = 6;
@@ -38,22 +41,11 @@ pub enum Item {
     Name(u64),
 }
 
-// A place for one item, in a struct of its own: when it was written, a struct could hold no array of enums.
-#[derive(Clone, Copy)]
-pub struct Slot {
-    pub item: Item,
+impl Default for Item {
+    fn default() -> Self {
+        Item::Number(0)
+    }
 }
 
-// The items of a line, in their order, and how many are used.
-#[derive(Clone, Copy)]
-pub struct Line {
-    pub at: [Slot; MOST_ITEMS],
-    pub used: usize,
-}
-
-// How many bytes were put; or that the output is too short.
-#[derive(Clone, Copy)]
-pub enum Putting {
-    Done(usize),
-    TooShort,
-}
+// The items of a line, in their order. One of no items has no bytes.
+pub type Line = Few<Item, MOST_ITEMS>;

@@ -1,19 +1,15 @@
--- `places` meets its contract. Assumes nothing.
+-- `places` meets its contract: one digit more than the logarithm. Assumes nothing.
 use native.Mathlib.Omega.{arith}
-use Rattle.text.proofs.Decimals.{counting-start, counting-next, counting-end}
+use Rattle.text.specs.Decimals.{decimal_of}
+use Rattle.text.proofs.Decimals.{one-digit, digits-by_log}
 use Rattle.text.proofs.digits.places.Goals as goal
 
-pub loop-left-init : goal.loop-left-init
-loop-left-init c = counting-start _ (omega arith)
+pub returns-in-Some : goal.returns-in-Some
+unfolding decimal_of
+returns-in-Some c =
+    let e = c.in-Some.ensures in
+    omega (arith, digits-by_log 19 c.in-Some.log c.args.n (omega (arith, e.bound)) e.power_le e.next_power_gt)
 
-pub overflow_add-count : goal.overflow_add-count
-overflow_add-count c = omega (arith, c.loop-left.invariant.few)
-
-pub loop-left-smaller : goal.loop-left-smaller
-loop-left-smaller c = omega arith
-
-pub loop-left-preserved : goal.loop-left-preserved
-loop-left-preserved c = counting-next c.loop-left.invariant c.loop-left-test.true
-
-pub returns : goal.returns
-returns c = counting-end c.loop-left.invariant (omega arith)
+pub returns-in-None : goal.returns-in-None
+unfolding decimal_of
+returns-in-None c = omega (arith, one-digit 19 c.args.n (omega (arith, c.in-None.ensures.none)))

@@ -1,4 +1,3 @@
-use Prim.Native.Nat.{◌≤◌}
 use mathlib.Core.Path.{◌≡◌}
 use mathlib.Core.List.{◌++◌}
 use lib.ListN.{length, drop}
@@ -7,7 +6,4 @@ use Rattle.text.proofs.digits.put_number.Given as goal
 
 abbrev pub invariant-loop-i : goal.invariant-loop-i
 invariant-loop-i l =
-    (l.i ≤ l.count) × (length l.out ≡ length l.initial.out) × (last_of l.i l.left ++ drop l.i l.out ≡ last_of l.count l.n ++ drop l.count l.initial.out)
-
-abbrev pub decreases-loop-i : goal.decreases-loop-i
-decreases-loop-i l = l.i
+    (length l.out ≡ length l.initial.out) × (last_of l.i l.left ++ drop l.i l.out ≡ last_of l.count l.n ++ drop l.count l.initial.out)

@@ -1,11 +1,7 @@
-use Prim.Native.Nat.{◌-◌}
 use lib.ListN.{drop}
-use Rattle.text.specs.Lines.{line_of, items_of}
+use Rattle.text.specs.Lines.{line_of}
 use Rattle.text.proofs.Counted.{Counted}
 use Rattle.text.proofs.lines.measure.Given as goal
 
-abbrev pub invariant-loop-i : goal.invariant-loop-i
-invariant-loop-i l = Counted (line_of (items_of l.line)) l.sum (line_of (drop l.i (items_of l.line)))
-
-abbrev pub decreases-loop-i : goal.decreases-loop-i
-decreases-loop-i l = l.n - l.i
+abbrev pub invariant-loop-item : goal.invariant-loop-item
+invariant-loop-item l = Counted (line_of l.item-items) l.sum (line_of (drop l.item-index l.item-items))
