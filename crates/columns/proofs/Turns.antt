@@ -1,21 +1,27 @@
 -- What the loops meet at a turn: the next byte, and the others. Assumes nothing.
 use Prim.Native.Nat.{ℕ, zero, suc, ◌+◌, ◌-◌, ◌≤◌, ◌<◌}
-use mathlib.Core.Path.{◌≡◌, sym, ◌∙◌}
-use mathlib.Core.Bool.{true, false}
+use mathlib.Core.Path.{◌≡◌, refl, ◌∙◌}
+use mathlib.Core.Bool.{Bool, true, false, ◌&&◌}
+use native.Mathlib.Omega.{arith}
 use mathlib.Core.List.{List, [], ◌∷◌}
 use native.Mathlib.Nat.{not-suc-le-zero}
-use native.Mathlib.Numerals.{add-one, sub-one}
+use native.Mathlib.Numerals.{add-one}
 use borrow.Author.Tests.{le-leb, lt-leb}
-use lib.ListN.{length, get_or, drop, drop_of_length-le}
+use lib.ListN.{length, get_or, take, drop, drop_of_length-le, length-drop}
+use Rattle.std.proofs.lemmas.List.{take_all}
 use lib.Seq.{drop-cons}
 use Rattle.common.specs.Choice.{both}
 use Rattle.common.proofs.PutLoop.{Next}
 use Rattle.common.proofs.Tests.{both_false}
-use Rattle.columns.specs.Columns.{spaces, hex_byte, hex_after, is_printable, is_text}
+use Rattle.columns.specs.Columns.{spaces, hex_byte, hex_after, hex_bytes, is_printable, is_text}
+use Rattle.columns.proofs.HexDigits.{hex-some}
+use Rattle.std.specs.List.{list_all}
 
-pub space-next : (n : ℕ) → 0 < n → Next (32 ∷ []) (spaces (n - 1)) (spaces n)
-space-next zero h = absurd (not-suc-le-zero h)
-space-next (suc n) h = record { joins = rw sub-one }
+-- one space fewer is left
+pub space-next : (count i : ℕ) → i < count → Next (32 ∷ []) (spaces (count - (i + 1))) (spaces (count - i))
+space-next count i h =
+    let e : count - i ≡ suc (count - (i + 1)) = omega arith in
+    record { joins = rw e }
 
 module _ (s : List ℕ) (i : ℕ) where
   module _ (h : i < length s) where
@@ -29,21 +35,6 @@ module _ (s : List ℕ) (i : ℕ) where
     unfolding hex_after
     hex-next = record { joins = rw next }
 
-    -- what is text so far goes on with a printable byte, and ends with another
-    module _ (inv : is_text (drop i s) ≡ is_text s) where
-      text-is : is_text s ≡ both (is_printable (get_or s i 0)) (is_text (drop (i + 1) s))
-      unfolding is_text
-      text-is = sym inv ∙ rw next
-
-      pub text-next : 32 ≤ get_or s i 0 → get_or s i 0 ≤ 126 → is_text (drop (i + 1) s) ≡ is_text s
-      text-next l m = rw (text-is, le-leb 32 (get_or s i 0) l, le-leb (get_or s i 0) 126 m)
-
-      pub below-text : get_or s i 0 < 32 → false ≡ is_text s
-      below-text l = rw (text-is, lt-leb 32 (get_or s i 0) l)
-
-      pub above-text : 126 < get_or s i 0 → false ≡ is_text s
-      above-text m = rw (text-is, lt-leb (get_or s i 0) 126 m, both_false)
-
   -- none is left
   module _ (h : length s ≤ i) where
     pub byte_last : drop i s ≡ []
@@ -53,6 +44,16 @@ module _ (s : List ℕ) (i : ℕ) where
     unfolding hex_after
     hex-last = rw byte_last
 
-    pub text-last : is_text (drop i s) ≡ is_text s → true ≡ is_text s
-    unfolding is_text
-    text-last inv = rw byte_last at inv
+-- the first byte, and the others
+pub hex-first : (s : List ℕ) → 0 < length s → Next (hex_byte (get_or s 0 0)) (hex_after (take (length s - 1) (drop 1 s))) (hex_bytes s)
+hex-first s h = record { joins = hex-some s h ∙ rw (take_all (length s - 1) (drop 1 s) (omega (arith, length-drop 1 s))) }
+
+-- bytes are text where each is printable
+pub all-printable : (s : List ℕ) → list_all is_printable s ≡ is_text s
+unfolding is_text
+all-printable [] = refl
+all-printable (b ∷ s) = rw (← all-printable s) (joined (is_printable b) (list_all is_printable s))
+  where
+    joined : (a b : Bool) → (a && b) ≡ both a b
+    joined true b = refl
+    joined false b = refl

@@ -4,7 +4,7 @@ ghost use Rattle.text.specs.Lines.{item_of};
 ghost use Rattle.columns.specs.Pouring.{filling, pour};
 ghost use Rattle.columns.specs.Columns.{spaces, gap};
 
-use text::{Item, Putting};
+use text::{Item, Line};
 
 pub fn put_byte(out: &mut [u8], at: usize, b: u8) -> usize
     ensures { filling out.new result ≡ pour (filling out.old at) (b ∷ []) }
@@ -19,24 +19,25 @@ pub fn put_byte(out: &mut [u8], at: usize, b: u8) -> usize
 pub fn put_bytes(out: &mut [u8], at: usize, s: &[u8]) -> usize
     ensures { filling out.new result ≡ pour (filling out.old at) s.now }
 {
-    let n = s.len();
     let mut end = at;
-    let mut i: usize = 0;
-    while i < n {
-        end = put_byte(out, end, s[i]);
-        i += 1;
+    for b in s {
+        end = put_byte(out, end, *b);
     }
     end
+}
+
+pub fn put_str(out: &mut [u8], at: usize, s: &str) -> usize
+    ensures { filling out.new result ≡ pour (filling out.old at) s.now }
+{
+    put_bytes(out, at, s.as_bytes())
 }
 
 pub fn put_spaces(out: &mut [u8], at: usize, count: usize) -> usize
     ensures { filling out.new result ≡ pour (filling out.old at) (spaces count) }
 {
     let mut end = at;
-    let mut left = count;
-    while left > 0 {
+    for _i in 0..count {
         end = put_byte(out, end, b' ');
-        left -= 1;
     }
     end
 }
@@ -45,10 +46,7 @@ pub fn put_spaces(out: &mut [u8], at: usize, count: usize) -> usize
 pub fn gap(width: usize, size: usize) -> usize
     ensures { result ≡ gap width size }
 {
-    if size < width {
-        return width - size;
-    }
-    1
+    width.saturating_sub(size).max(1)
 }
 
 // An item of a line of text, without what stands after it there.
@@ -56,7 +54,7 @@ pub fn put_item(out: &mut [u8], at: usize, item: Item) -> usize
     ensures { filling out.new result ≡ pour (filling out.old at) (item_of item) }
 {
     let mut line = [0u8; text::LONGEST_ITEM + 1];
-    let Putting::Done(end) = text::put(&mut line, text::of1(item)) else {
+    let Some(end) = text::put(&mut line, &Line::of([item])) else {
         return at;
     };
     put_bytes(out, at, &line[..end - 1])

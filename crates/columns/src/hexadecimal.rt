@@ -10,10 +10,7 @@ fn hex_digit(d: u8) -> u8
     requires { d < 16 }
     ensures { result ≡ hex_digit d }
 {
-    if d < 10 {
-        return 48 + d;
-    }
-    55 + d
+    if d < 10 { b'0' + d } else { b'A' + (d - 10) }
 }
 
 // The two digits of a byte.
@@ -28,16 +25,13 @@ fn put_hex_byte(out: &mut [u8], at: usize, b: u8) -> usize
 pub fn put_hex(out: &mut [u8], at: usize, s: &[u8]) -> usize
     ensures { filling out.new result ≡ pour (filling out.old at) (hex_bytes s.now) }
 {
-    let n = s.len();
-    if n == 0 {
+    let [first, others @ ..] = s else {
         return at;
-    }
-    let mut end = put_hex_byte(out, at, s[0]);
-    let mut i: usize = 1;
-    while i < n {
+    };
+    let mut end = put_hex_byte(out, at, *first);
+    for b in others {
         let next = put_byte(out, end, b' ');
-        end = put_hex_byte(out, next, s[i]);
-        i += 1;
+        end = put_hex_byte(out, next, *b);
     }
     end
 }
@@ -46,14 +40,10 @@ pub fn put_hex(out: &mut [u8], at: usize, s: &[u8]) -> usize
 fn shown_size(s: &[u8]) -> usize
     ensures { result ≡ length (shown_bytes s.now) }
 {
-    let count = s.len();
-    if count == 0 {
-        return 0;
-    }
-    if count > MOST_SHOWN {
+    if s.len() > MOST_SHOWN {
         return 3 * MOST_SHOWN + 1;
     }
-    3 * count - 1
+    (3 * s.len()).saturating_sub(1)
 }
 
 // Of more than eight bytes the first eight.

@@ -6,7 +6,7 @@ mod bytes;
 mod hexadecimal;
 mod texts;
 
-pub use bytes::{put_byte, put_bytes, put_item, put_spaces};
+pub use bytes::{put_byte, put_bytes, put_item, put_spaces, put_str};
 pub use hexadecimal::{put_bytes_column, put_hex, put_hexadecimal};
 pub use texts::{put_content, put_offset, put_size};
 

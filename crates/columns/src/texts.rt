@@ -1,6 +1,5 @@
 // Offsets, sizes, and bytes as text.
-ghost use Rattle.std.specs.Prelude.{◌≡◌, length};
-ghost use Rattle.text.specs.Decimals.{decimal_of};
+ghost use Rattle.std.specs.Prelude.{◌≡◌};
 ghost use Rattle.columns.specs.Pouring.{filling, pour};
 ghost use Rattle.columns.specs.Columns.{offset_column, size_text, is_text, text_or, content_text};
 
@@ -9,18 +8,11 @@ use crate::hexadecimal::put_hex;
 use crate::{MOST_TEXT, OFFSET_WIDTH};
 use text::Item;
 
-// How many digits n has.
-fn digits(n: u64) -> usize
-    ensures { result ≡ length (decimal_of n) }
-{
-    text::measure(text::of1(Item::Number(n))) - 1
-}
-
 pub fn put_offset(out: &mut [u8], at: usize, n: u64) -> usize
     ensures { filling out.new result ≡ pour (filling out.old at) (offset_column n) }
 {
     let next = put_item(out, at, Item::Number(n));
-    put_spaces(out, next, gap(OFFSET_WIDTH, digits(n)))
+    put_spaces(out, next, gap(OFFSET_WIDTH, text::places(n)))
 }
 
 // So many bytes.
@@ -38,19 +30,7 @@ pub fn put_size(out: &mut [u8], at: usize, n: u64) -> usize
 fn is_text(s: &[u8]) -> bool
     ensures { result ≡ is_text s.now }
 {
-    let n = s.len();
-    let mut i: usize = 0;
-    while i < n {
-        let b = s[i];
-        if b < 32 {
-            return false;
-        }
-        if b > 126 {
-            return false;
-        }
-        i += 1;
-    }
-    true
+    s.iter().all(|b| *b >= 32 && *b <= 126)
 }
 
 fn put_text_or(out: &mut [u8], at: usize, printable: bool, s: &[u8]) -> usize

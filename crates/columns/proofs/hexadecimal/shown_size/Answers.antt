@@ -3,11 +3,8 @@ use native.Mathlib.Omega.{arith}
 use Rattle.columns.proofs.HexDigits.{all-length, some-length}
 use Rattle.columns.proofs.hexadecimal.shown_size.Goals as goal
 
-pub returns-then-count-eq0 : goal.returns-then-count-eq0
-returns-then-count-eq0 c = let s = c.args.s.now in omega (arith, all-length s (omega arith))
-
-pub returns-then-count-gt-MOST_SHOWN : goal.returns-then-count-gt-MOST_SHOWN
-returns-then-count-gt-MOST_SHOWN c = let s = c.args.s.now in omega (arith, some-length s (omega arith))
+pub returns-then-s-gt-MOST_SHOWN : goal.returns-then-s-gt-MOST_SHOWN
+returns-then-s-gt-MOST_SHOWN c = omega (arith, some-length c.args.s.now (omega arith))
 
 pub returns : goal.returns
-returns c = let s = c.args.s.now in omega (arith, all-length s (omega arith))
+returns c = omega (arith, all-length c.args.s.now (omega arith))

@@ -7,4 +7,4 @@ use Rattle.columns.proofs.texts.put_offset.Goals as goal
 pub returns : goal.returns
 unfolding offset_column item_of
 returns c =
-    column-poured _ _ _ c.put_item-next.ensures c.digits.ensures c.gap.ensures c.put_spaces.ensures
+    column-poured _ _ _ c.put_item-next.ensures c.places.ensures c.gap.ensures c.put_spaces.ensures
