@@ -1,4 +1,2 @@
-pub mod PouredParts
-pub mod WordsFound
-pub mod Beyond
 pub mod TextBounds
+pub mod FieldWords

@@ -7,7 +7,7 @@ use mathlib.Core.List.{List, [], ◌∷◌}
 use native.Mathlib.Omega.{arith}
 use borrow.Author.Tests.{leb-true}
 use lib.Dec.{leb}
-use lib.ListN.{length, get_or, length-append}
+use lib.ListN.{length, get_or, get_or-eq_default, length-append}
 use Rattle.common.specs.Choice.{both}
 use Rattle.common.proofs.Tests.{both_first, both-second}
 use Rattle.types.specs.Letters.{letters}
@@ -35,6 +35,11 @@ within n (text ∷ texts) (suc i) h = within n texts i (both-second (leb (length
 pub meaning-bound : (number : ℕ) → length (meaning_of number) ≤ 41
 unfolding meaning_of meanings are_within letters
 meaning-bound number = within 41 meanings number refl
+
+-- beyond them there is none
+pub meaningless : (number : ℕ) → 20 ≤ number → meaning_of number ≡ []
+unfolding meaning_of meanings letters
+meaningless number h = rw (get_or-eq_default meanings "" h)
 
 -- ---- labels
 

@@ -1,4 +1,3 @@
 pub mod Labels
 pub mod Meanings
-pub mod Standing
-pub mod LabelText
+pub mod Said

@@ -1,8 +1,7 @@
 -- WHAT A NUMBER MEANS, in document 01's words, with the limit that K8 has for a body.
-use Rattle.std.specs.Prelude.{ℕ, List, [], ◌∷◌, map, get_or}
+use Rattle.std.specs.Prelude.{ℕ, List, [], ◌∷◌, get_or}
 use Prim.Native.String.{String}
 use Rattle.types.specs.Letters.{letters}
-use Rattle.text.specs.Parts.{in_one_text}
 
 -- its table of "Numbers that are answered", from 0 on; with a 13 its rule is told behind these words
 unfoldable pub meanings : List String
@@ -31,7 +30,3 @@ meanings =
 -- another number has none
 unfoldable pub meaning_of : ℕ → List ℕ
 meaning_of number = letters (get_or meanings number "")
-
--- all of them, one after the other, as the code keeps them
-unfoldable pub meanings_text : List ℕ
-meanings_text = in_one_text (map letters meanings)
