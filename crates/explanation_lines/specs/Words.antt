@@ -1,7 +1,6 @@
 -- The words that say why a trace is at fault.
-use Rattle.std.specs.Prelude.{ℕ, List, [], ◌∷◌, map}
+use Rattle.std.specs.Prelude.{ℕ, List}
 use Rattle.types.specs.Letters.{letters}
-use Rattle.text.specs.Parts.{in_one_text}
 use Rattle.explanation_lines.specs.declared.Word.{Word}
 use Rattle.explanation_lines.specs.declared.Word.TheVariants.{NoTag, NotFirst, SecondStart, NoStart, NoMessage, NoArrival, EndsInside, NoBytes}
 
@@ -14,10 +13,3 @@ word_of NoMessage = letters "not one whole message"
 word_of NoArrival = letters "not one alias, group and object"
 word_of EndsInside = letters "the trace ends inside this field"
 word_of NoBytes = letters "no bytes"
-
--- all of them in one text, as the code keeps them
-unfoldable pub words : List Word
-words = NoTag ∷ NotFirst ∷ SecondStart ∷ NoStart ∷ NoMessage ∷ NoArrival ∷ EndsInside ∷ NoBytes ∷ []
-
-unfoldable pub words_text : List ℕ
-words_text = in_one_text (map word_of words)

@@ -9,7 +9,6 @@ mod steps;
 mod values;
 mod words;
 
-pub use clamping::at_most;
 pub use lines::{put_answer, put_cut_field, put_field_line, put_reason};
 pub use numbers::put_field_value;
 pub use steps::put_step;

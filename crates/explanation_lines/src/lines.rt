@@ -6,10 +6,9 @@ ghost use Rattle.types.specs.Refusals.{number_of as refusal_number};
 ghost use Rattle.explanation_lines.specs.Lines.{newline, tag_words, field_line, called, part_line, faulty_line, left_line, numbered, mark_line, rule_text, answer_line, fault_line, cut_field_line};
 
 use crate::Word;
-use crate::clamping::{first_byte, put_margin, size_between};
+use crate::clamping::{first_byte, put_margin};
 use crate::values::{put_fault, put_value};
-use crate::words::put_word;
-use columns::{put_byte, put_bytes, put_item, put_size, put_spaces};
+use columns::{put_byte, put_item, put_size, put_spaces, put_str};
 use labels::{put_label, put_meaning};
 use layout::FieldName;
 use parts::{Part, What};
@@ -22,11 +21,11 @@ fn put_tag(out: &mut [u8], at: usize, tag: u8) -> usize
     ensures { filling out.new result ≡ pour (filling out.old at) (tag_words tag) }
 {
     match tag {
-        1 => put_bytes(out, at, b"start"),
-        2 => put_bytes(out, at, b"message"),
-        3 => put_bytes(out, at, b"arrival"),
+        1 => put_str(out, at, "start"),
+        2 => put_str(out, at, "message"),
+        3 => put_str(out, at, "arrival"),
         _ => {
-            let next = put_bytes(out, at, b"tag ");
+            let next = put_str(out, at, "tag ");
             put_item(out, next, Item::Number(tag as u64))
         }
     }
@@ -47,8 +46,8 @@ pub fn put_field_line(out: &mut [u8], at: usize, offset: u64, field: &[u8]) -> u
 {
     let margin = put_margin(out, at, offset, field, 0, 3);
     let tagged = put_tag(out, margin, first_byte(field));
-    let next = put_bytes(out, tagged, b", ");
-    put_sized(out, next, size_between(3, field.len()))
+    let next = put_str(out, tagged, ", ");
+    put_sized(out, next, field.len().saturating_sub(3))
 }
 
 // ---- a part
@@ -60,10 +59,8 @@ fn put_called(out: &mut [u8], at: usize, offset: u64, s: &[u8], part: Part) -> u
 {
     let margin = put_margin(out, at, offset, s, part.start, part.end);
     let indented = put_spaces(out, margin, 2);
-    let name = part.name;
-    let what = part.what;
-    let labelled = put_label(out, indented, name, what);
-    put_bytes(out, labelled, b": ")
+    let labelled = put_label(out, indented, part.name, part.what);
+    put_str(out, labelled, ": ")
 }
 
 pub fn put_part_line(
@@ -87,8 +84,7 @@ pub fn put_faulty_line(out: &mut [u8], at: usize, offset: u64, s: &[u8], part: P
         (faulty_line offset s.now part) }
 {
     let called = put_called(out, at, offset, s, part);
-    let what = part.what;
-    let next = put_fault(out, called, what, size_between(part.start, part.end));
+    let next = put_fault(out, called, part.what, part.end.saturating_sub(part.start));
     put_byte(out, next, b'\n')
 }
 
@@ -116,7 +112,7 @@ fn put_numbered(out: &mut [u8], at: usize, number: u8) -> usize
     ensures { filling out.new result ≡ pour (filling out.old at) (numbered number) }
 {
     let first = put_item(out, at, Item::Number(number as u64));
-    let next = put_bytes(out, first, b", ");
+    let next = put_str(out, first, ", ");
     put_meaning(out, next, number)
 }
 
@@ -124,7 +120,7 @@ fn put_numbered(out: &mut [u8], at: usize, number: u8) -> usize
 pub fn put_mark(out: &mut [u8], at: usize, why: Refusal) -> usize
     ensures { filling out.new result ≡ pour (filling out.old at) (mark_line (refusal_number why)) }
 {
-    let marked = put_bytes(out, at, b"                                 ^ ");
+    let marked = put_str(out, at, "                                 ^ ");
     let next = put_numbered(out, marked, why.number());
     put_byte(out, next, b'\n')
 }
@@ -143,7 +139,7 @@ fn put_rule(out: &mut [u8], at: usize, rule: u8) -> usize
 pub fn put_answer(out: &mut [u8], at: usize, number: u8, rule: u8) -> usize
     ensures { filling out.new result ≡ pour (filling out.old at) (answer_line number rule) }
 {
-    let answered = put_bytes(out, at, b"     answered ");
+    let answered = put_str(out, at, "     answered ");
     let told = put_numbered(out, answered, number);
     let next = put_rule(out, told, rule);
     put_byte(out, next, b'\n')
@@ -153,8 +149,8 @@ pub fn put_answer(out: &mut [u8], at: usize, number: u8, rule: u8) -> usize
 pub fn put_reason(out: &mut [u8], at: usize, reason: Word) -> usize
     ensures { filling out.new result ≡ pour (filling out.old at) (fault_line reason) }
 {
-    let fault = put_bytes(out, at, b"     fault: ");
-    let next = put_word(out, fault, reason);
+    let fault = put_str(out, at, "     fault: ");
+    let next = put_str(out, fault, reason.as_str());
     put_byte(out, next, b'\n')
 }
 
@@ -164,6 +160,6 @@ pub fn put_cut_field(out: &mut [u8], at: usize, offset: u64, rest: &[u8]) -> usi
         (cut_field_line offset rest.now) }
 {
     let margin = put_margin(out, at, offset, rest, 0, rest.len());
-    let next = put_bytes(out, margin, b"cut field, ");
+    let next = put_str(out, margin, "cut field, ");
     put_sized(out, next, rest.len())
 }

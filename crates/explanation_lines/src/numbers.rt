@@ -1,5 +1,5 @@
 // The values that a trace has itself: a start's, and an arrival's.
-ghost use Rattle.std.specs.Prelude.{◌≡◌, false, [], ◌∷◌, ◌++◌};
+ghost use Rattle.std.specs.Prelude.{◌≡◌, false};
 ghost use Rattle.columns.specs.Pouring.{filling, pour};
 ghost use Rattle.parts.specs.Telling.{part_of};
 ghost use Rattle.parts.specs.declared.What.TheVariants.{Number};
@@ -8,7 +8,7 @@ ghost use Rattle.explanation_lines.specs.Lines.{part_line, cut_lines, number_lin
 
 use crate::clamping::{first_byte, put_margin};
 use crate::lines::{put_faulty_line, put_left_line, put_mark, put_part_line};
-use columns::{put_byte, put_bytes, put_item};
+use columns::{put_byte, put_item, put_str};
 use layout::FieldName;
 use parts::{Part, What};
 use text::Item;
@@ -54,57 +54,41 @@ fn put_number_line(
     put_part_line(out, at, offset, s, false, part)
 }
 
+// Numbers, one after the other from start on, and what is left after them.
+fn put_numbers(
+    out: &mut [u8],
+    at: usize,
+    offset: u64,
+    s: &[u8],
+    names: &[FieldName],
+    start: usize,
+) -> usize
+    ensures { filling out.new result ≡ pour (filling out.old at)
+        (number_lines names.now offset s.now start) }
+{
+    let mut line = at;
+    let mut next = start;
+    for name in names {
+        let Ok((n, end)) = field::read_number(s, next) else {
+            return put_cut(out, line, offset, s, *name, next);
+        };
+        line = put_number_line(out, line, offset, s, *name, n, next, end);
+        next = end;
+    }
+    put_left_line(out, line, offset, s, next)
+}
+
 // Alias, group and object.
 pub fn put_arrival(out: &mut [u8], at: usize, offset: u64, s: &[u8]) -> usize
     ensures { filling out.new result ≡ pour (filling out.old at)
         (arrival_lines offset s.now) }
 {
-    let Ok((alias, group_at)) = field::read_number(s, 0) else {
-        return put_cut(out, at, offset, s, FieldName::TrackAlias, 0);
-    };
-    let first = put_number_line(
-        out,
-        at,
-        offset,
-        s,
+    let names = [
         FieldName::TrackAlias,
-        alias,
-        0,
-        group_at,
-    );
-    let Ok((group, object_at)) = field::read_number(s, group_at) else {
-        return put_cut(out, first, offset, s, FieldName::GroupId, group_at);
-    };
-    let second = put_number_line(
-        out,
-        first,
-        offset,
-        s,
         FieldName::GroupId,
-        group,
-        group_at,
-        object_at,
-    );
-    put_last(out, second, offset, s, FieldName::ObjectId, object_at)
-}
-
-// The last number of a value, and what is left after it.
-fn put_last(
-    out: &mut [u8],
-    at: usize,
-    offset: u64,
-    s: &[u8],
-    name: FieldName,
-    start: usize,
-) -> usize
-    ensures { filling out.new result ≡ pour (filling out.old at)
-        (number_lines (name ∷ []) offset s.now start) }
-{
-    let Ok((n, end)) = field::read_number(s, start) else {
-        return put_cut(out, at, offset, s, name, start);
-    };
-    let next = put_number_line(out, at, offset, s, name, n, start, end);
-    put_left_line(out, next, offset, s, end)
+        FieldName::ObjectId,
+    ];
+    put_numbers(out, at, offset, s, &names, 0)
 }
 
 // A part and a maximum.
@@ -113,14 +97,14 @@ pub fn put_start(out: &mut [u8], at: usize, offset: u64, s: &[u8]) -> usize
         (start_lines offset s.now) }
 {
     let margin = put_margin(out, at, offset, s, 0, 1);
-    let called = put_bytes(out, margin, b"  Part: ");
-    if s.len() == 0 {
-        let next = put_bytes(out, called, b"cut\n");
+    let called = put_str(out, margin, "  Part: ");
+    if s.is_empty() {
+        let next = put_str(out, called, "cut\n");
         return put_mark(out, next, Refusal::More);
     }
     let part = put_item(out, called, Item::Number(first_byte(s) as u64));
     let next = put_byte(out, part, b'\n');
-    put_last(out, next, offset, s, FieldName::MaximumSubscribeId, 1)
+    put_numbers(out, next, offset, s, &[FieldName::MaximumSubscribeId], 1)
 }
 
 // The value of a start, or of an arrival; a message's is told part by part.

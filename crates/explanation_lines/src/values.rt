@@ -1,32 +1,25 @@
 // What a part holds.
-ghost use Rattle.std.specs.Prelude.{◌≡◌, length};
-ghost use Rattle.types.specs.Table.{name_of};
+ghost use Rattle.std.specs.Prelude.{◌≡◌};
 ghost use Rattle.columns.specs.Pouring.{filling, pour};
 ghost use Rattle.explanation_lines.specs.Lines.{type_text, shortest_text, number_text, held_by, value_text, fault_text};
 
 use crate::Held;
-use crate::clamping::{put_content_between, size_between};
-use columns::{put_byte, put_bytes, put_hexadecimal, put_item, put_size};
+use crate::clamping::between;
+use columns::{put_byte, put_content, put_hexadecimal, put_item, put_size, put_str};
 use parts::{Part, What};
 use text::Item;
-
-// How many letters the name of a type has: none, where it is unknown.
-fn name_size(n: u64) -> usize
-    ensures { result ≡ length (name_of n) }
-{
-    text::measure(text::of1(Item::Name(n))) - 1
-}
 
 // A type, in hexadecimal, with its name if it has one.
 fn put_type(out: &mut [u8], at: usize, n: u64) -> usize
     ensures { filling out.new result ≡ pour (filling out.old at) (type_text n) }
 {
-    if name_size(n) == 0 {
-        let next = put_bytes(out, at, b"0x");
+    let name = text::name(n);
+    if name.is_empty() {
+        let next = put_str(out, at, "0x");
         return put_hexadecimal(out, next, n);
     }
-    let named = put_item(out, at, Item::Name(n));
-    let opened = put_bytes(out, named, b" (0x");
+    let named = put_str(out, at, name);
+    let opened = put_str(out, named, " (0x");
     let next = put_hexadecimal(out, opened, n);
     put_byte(out, next, b')')
 }
@@ -39,7 +32,7 @@ fn put_shortest(out: &mut [u8], at: usize, used: usize, n: u64) -> usize
     if used == size {
         return at;
     }
-    let next = put_bytes(out, at, b", shortest form ");
+    let next = put_str(out, at, ", shortest form ");
     let mut form = [0u8; 8];
     let _ = integer::write(&mut form, n);
     columns::put_hex(out, next, &form[..size])
@@ -61,14 +54,10 @@ fn held_by(what: What) -> Held
     ensures { result ≡ held_by what }
 {
     match what {
-        What::Number => Held::Number,
-        What::Length => Held::Number,
-        What::Count => Held::Number,
-        What::EntryNumber => Held::Number,
-        What::EntryLength => Held::Number,
+        What::Number | What::Length | What::Count => Held::Number,
+        What::EntryNumber | What::EntryLength => Held::Number,
         What::Byte => Held::Byte,
-        What::Content => Held::Bytes,
-        What::EntryContent => Held::Bytes,
+        What::Content | What::EntryContent => Held::Bytes,
         What::Left => Held::Left,
     }
 }
@@ -78,13 +67,11 @@ pub fn put_value(out: &mut [u8], at: usize, typed: bool, s: &[u8], part: Part) -
     ensures { filling out.new result ≡ pour (filling out.old at)
         (value_text (held_by part.what) typed s.now part) }
 {
-    let what = part.what;
-    let held = held_by(what);
-    let size = size_between(part.start, part.end);
-    match held {
+    let size = part.end.saturating_sub(part.start);
+    match held_by(part.what) {
         Held::Number => put_number(out, at, typed, size, part.value),
         Held::Byte => put_item(out, at, Item::Number(part.value)),
-        Held::Bytes => put_content_between(out, at, s, part.start, part.end),
+        Held::Bytes => put_content(out, at, between(s, part.start, part.end)),
         Held::Left => put_size(out, at, size as u64),
     }
 }
@@ -94,9 +81,8 @@ pub fn put_fault(out: &mut [u8], at: usize, what: What, size: usize) -> usize
     ensures { filling out.new result ≡ pour (filling out.old at)
         (fault_text (held_by what) size) }
 {
-    let held = held_by(what);
-    match held {
+    match held_by(what) {
         Held::Left => put_size(out, at, size as u64),
-        _ => put_bytes(out, at, b"cut"),
+        _ => put_str(out, at, "cut"),
     }
 }

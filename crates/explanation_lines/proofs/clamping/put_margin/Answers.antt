@@ -6,4 +6,4 @@ use Rattle.explanation_lines.proofs.clamping.put_margin.Goals as goal
 
 pub returns : goal.returns
 unfolding margin offset_of
-returns c = rw (← c.wrapping_add_u64.ensures.value) (search poured-both)
+returns c = rw (← c.between.ensures) (poured-both _ _ _ c.put_offset-next.ensures c.put_bytes_column.ensures)

@@ -7,4 +7,4 @@ use Rattle.explanation_lines.proofs.lines.put_answer.Goals as goal
 pub returns : goal.returns
 unfolding letters answer_line
 returns c =
-    poured-four _ _ _ _ c.put_bytes-answered.ensures c.put_numbered-told.ensures c.put_rule-next.ensures _ c.put_byte.ensures
+    poured-four _ _ _ _ c.put_str-answered.ensures c.put_numbered-told.ensures c.put_rule-next.ensures _ c.put_byte.ensures

@@ -5,4 +5,4 @@ use Rattle.explanation_lines.proofs.lines.put_faulty_line.Goals as goal
 
 pub returns : goal.returns
 unfolding faulty_line
-returns c = rw (← c.size_between.ensures) (search poured-three)
+returns c = rw (← c.saturating_sub.ensures) (search poured-three)

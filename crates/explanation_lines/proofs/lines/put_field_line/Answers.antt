@@ -7,4 +7,4 @@ use Rattle.explanation_lines.proofs.lines.put_field_line.Goals as goal
 
 pub returns : goal.returns
 unfolding letters field_line
-returns c = rw (← c.first_byte.ensures, ← c.size_between.ensures) (search (poured-three, poured-size))
+returns c = rw (← c.first_byte.ensures, ← c.saturating_sub.ensures) (search (poured-three, poured-size))

@@ -6,4 +6,4 @@ use Rattle.explanation_lines.proofs.lines.put_reason.Goals as goal
 
 pub returns : goal.returns
 unfolding letters fault_line
-returns c = poured-three _ _ _ _ c.put_bytes-fault.ensures c.put_word-next.ensures c.put_byte.ensures
+returns c = rw (← c.as_str.ensures) (poured-three _ _ _ _ c.put_str-fault.ensures c.put_str-next.ensures c.put_byte.ensures)

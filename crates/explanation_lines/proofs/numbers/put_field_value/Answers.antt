@@ -1,5 +1,5 @@
 -- `put_field_value` meets its contract. Assumes nothing.
-use Rattle.std.proofs.Common.{ne_eqb}
+use Rattle.std.proofs.Common.{◌≡◌, ne_eqb, arith}
 use Rattle.columns.specs.Pouring.{pour}
 use Rattle.explanation_lines.specs.Lines.{value_lines}
 use Rattle.explanation_lines.proofs.numbers.put_field_value.Goals as goal
@@ -14,4 +14,4 @@ returns-in-3 c = rw c.in-3.is c.put_arrival.ensures
 
 pub returns-in_default : goal.returns-in_default
 unfolding pour value_lines
-returns-in_default c = rw (ne_eqb _ _ c.in_default.in_default-own.rest.0.1, ne_eqb _ _ c.in_default.in_default-own.rest.1)
+returns-in_default c = rw (ne_eqb c.args.tag 1 (λ (e : c.args.tag ≡ 1). omega arith), ne_eqb c.args.tag 3 (λ (e : c.args.tag ≡ 3). omega arith))

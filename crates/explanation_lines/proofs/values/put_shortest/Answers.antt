@@ -10,7 +10,7 @@ use Rattle.explanation_lines.proofs.values.put_shortest.Goals as goal
 pub returns : goal.returns
 unfolding letters shortest_text
 returns c =
-    rw (ne_eqb _ _ (λ e. c.if-used-size.false (e ∙ sym c.size-size.ensures)), ← form-written _ _ (omega arith) c.write.ensures, ← c.size-size.ensures) (poured-both _ _ _ c.put_bytes-next.ensures c.put_hex.ensures)
+    rw (ne_eqb _ _ (λ e. c.if-used-size.false (e ∙ sym c.size-size.ensures)), ← form-written _ _ (omega arith) c.write.ensures, ← c.size-size.ensures) (poured-both _ _ _ c.put_str-next.ensures c.put_hex.ensures)
 
 pub slice_bounds-put_hex-end : goal.slice_bounds-put_hex-end
 unfolding letters shortest_text
