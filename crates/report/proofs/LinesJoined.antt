@@ -7,9 +7,8 @@ use Rattle.common.specs.Buffer.{Put}
 use Rattle.common.proofs.Puts.{lent, given, Room, first_fits, ends-within, second_fits, both-fit, put_both}
 use Rattle.ledger.specs.Ledgers.{held}
 use Rattle.ledger.specs.declared.Ledger.{Ledger}
-use Rattle.text.specs.Lines.{line_of, placed, items_of}
-use Rattle.text.specs.declared.Line.{Line}
-use Rattle.text.proofs.Placing.{items-placed}
+use Rattle.text.specs.Lines.{line_of}
+use Rattle.text.specs.declared.Item.{Item}
 use Rattle.report.specs.Rows.{session_line, columns_line}
 use Rattle.report.specs.Report.{rows_text, ledger_text}
 
@@ -29,25 +28,25 @@ module _ (l : Ledger) (before : List ℕ) (fits : length (ledger_text l) ≤ len
   front-room = record { joins = refl; fits = first_fits all_room }
 
   -- a line is put as its items are known,
-  module _ {line : Line} (is : line ≡ placed (session_line l.session l.used)) where
-    pub session-fits : length (line_of (items_of line)) ≤ length before
-    session-fits = rw (items-placed _ is) (first_fits front-room)
+  module _ {line : List Item} (is : line ≡ session_line l.session l.used) where
+    pub session-fits : length (line_of line) ≤ length before
+    session-fits = rw is (first_fits front-room)
 
-    module _ {n : ℕ} {after : List ℕ} (p : Put (line_of (items_of line)) before n after) where
+    module _ {n : ℕ} {after : List ℕ} (p : Put (line_of line) before n after) where
       first : Put (session l) before n after
-      first = rw (← items-placed _ is) p
+      first = rw (← is) p
 
       pub session-ends : n ≤ length after
       session-ends = ends-within front-room first
 
       -- the columns after it,
-      module _ {other : Line} (are : other ≡ placed columns_line) where
-        pub columns-fit : length (line_of (items_of other)) ≤ length (lent n after)
-        columns-fit = rw (items-placed _ are) (second_fits front-room first)
+      module _ {other : List Item} (are : other ≡ columns_line) where
+        pub columns-fit : length (line_of other) ≤ length (lent n after)
+        columns-fit = rw are (second_fits front-room first)
 
-        module _ {m : ℕ} {t : List ℕ} (q : Put (line_of (items_of other)) (lent n after) m t) where
+        module _ {m : ℕ} {t : List ℕ} (q : Put (line_of other) (lent n after) m t) where
           second : Put columns (lent n after) m t
-          second = rw (← items-placed _ are) q
+          second = rw (← are) q
 
           front : Put (session l ++ columns) before (n + m) (given n after t)
           front = put_both front-room first second

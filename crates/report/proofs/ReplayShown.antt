@@ -5,9 +5,8 @@ use mathlib.Core.List.{List}
 use native.Mathlib.Omega.{arith}
 use lib.ListN.{length}
 use Rattle.common.specs.Answer.{Answer, Nothing, Leaves}
-use Rattle.text.specs.Lines.{line_of, placed, items_of, fault_line, put_text}
-use Rattle.text.specs.declared.Line.{Line}
-use Rattle.text.proofs.Placing.{items-placed}
+use Rattle.text.specs.Lines.{line_of, fault_line, put_text}
+use Rattle.text.specs.declared.Item.{Item}
 use Rattle.replay.specs.Progressing.{begun, fed, finish_of, replay_of, fed_of}
 use Rattle.replay.proofs.WhatIsLeft.{rest-few}
 use Rattle.replay.specs.declared.Fed.{Fed}
@@ -16,17 +15,17 @@ use Rattle.replay.specs.declared.Progress.{Progress}
 use Rattle.report.specs.Report.{ledger_text, text_of, report_of}
 
 module _ (p q : Progress) (e : q ≡ p) (before : List ℕ) {r : Answer Nothing} {after : List ℕ} where
-  pub shows_nothing : (line : Line) → q.stage ≡ Empty → line ≡ placed (fault_line 0) → Leaves (put_text (line_of (items_of line)) before) r after → Leaves (put_text (text_of p) before) r after
+  pub shows_nothing : (line : List Item) → q.stage ≡ Empty → line ≡ fault_line 0 → Leaves (put_text (line_of line) before) r after → Leaves (put_text (text_of p) before) r after
   unfolding text_of
-  shows_nothing line s f w = rw (← e, s, ← items-placed _ f) w
+  shows_nothing line s f w = rw (← e, s, ← f) w
 
   pub shows-ledger : q.stage ≡ Running → Leaves (put_text (ledger_text q.ledger) before) r after → Leaves (put_text (text_of p) before) r after
   unfolding text_of
   shows-ledger s w = rw (← e, s) w
 
-  pub shows-fault : (at : ℕ) (line : Line) → q.stage ≡ Faulty at → line ≡ placed (fault_line at) → Leaves (put_text (line_of (items_of line)) before) r after → Leaves (put_text (text_of p) before) r after
+  pub shows-fault : (at : ℕ) (line : List Item) → q.stage ≡ Faulty at → line ≡ fault_line at → Leaves (put_text (line_of line) before) r after → Leaves (put_text (text_of p) before) r after
   unfolding text_of
-  shows-fault at line s f w = rw (← e, s, ← items-placed _ f) w
+  shows-fault at line s f w = rw (← e, s, ← f) w
 
 -- a trace that was fed whole, and ends
 module _ (s : List ℕ) (p : Progress) (r : Fed) (b : p ≡ begun) (e : r ≡ fed_of p s) where

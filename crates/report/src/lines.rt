@@ -1,30 +1,29 @@
 // The lines of a report.
 ghost use Rattle.std.specs.Prelude.{◌≡◌};
-ghost use Rattle.text.specs.Lines.{placed};
 ghost use Rattle.report.specs.Rows.{session_line, columns_line, state_item, group_item, object_item, row_line};
 
-use ledger::Session;
 use field::Place;
+use ledger::Session;
 use row::{Row, State};
 use text::{Item, Line, Word};
 
 pub fn session_line(session: Session, rows: u64) -> Line
-    ensures { result ≡ placed (session_line session rows) }
+    ensures { result ≡ session_line session rows }
 {
     match session {
-        Session::Open => text::of2(Item::Word(Word::Open), Item::Number(rows)),
-        Session::Closed(rule) => text::of3(
+        Session::Open => Line::of([Item::Word(Word::Open), Item::Number(rows)]),
+        Session::Closed(rule) => Line::of([
             Item::Word(Word::Closed),
             Item::Rule(ledger::rule_number(rule) as u64),
             Item::Number(rows),
-        ),
+        ]),
     }
 }
 
 pub fn columns_line() -> Line
-    ensures { result ≡ placed columns_line }
+    ensures { result ≡ columns_line }
 {
-    text::of1(Item::Word(Word::Columns))
+    Line::of([Item::Word(Word::Columns)])
 }
 
 fn state_item(state: State) -> Item
@@ -37,35 +36,26 @@ fn state_item(state: State) -> Item
 }
 
 // A row with nothing counted has neither group nor object.
-fn group_item(g: Option<Place>) -> Item
-    ensures { result ≡ group_item g }
+fn place_items(greatest: Option<Place>) -> (Item, Item)
+    ensures group { result.0 ≡ group_item greatest }
+    ensures object { result.1 ≡ object_item greatest }
 {
-    match g {
-        None => Item::Word(Word::Nothing),
-        Some(place) => Item::Number(place.group),
+    match greatest {
+        None => (Item::Word(Word::Nothing), Item::Word(Word::Nothing)),
+        Some(place) => (Item::Number(place.group), Item::Number(place.object)),
     }
 }
 
-fn object_item(g: Option<Place>) -> Item
-    ensures { result ≡ object_item g }
+pub fn row_line(row: &Row) -> Line
+    ensures { result ≡ row_line row.now }
 {
-    match g {
-        None => Item::Word(Word::Nothing),
-        Some(place) => Item::Number(place.object),
-    }
-}
-
-pub fn row_line(row: Row) -> Line
-    ensures { result ≡ placed (row_line row) }
-{
-    let state = row.state;
-    let g = row.greatest;
-    text::of6(
+    let (group, object) = place_items(row.greatest);
+    Line::of([
         Item::Number(row.id),
         Item::Number(row.alias),
-        state_item(state),
-        group_item(g),
-        object_item(g),
+        state_item(row.state),
+        group,
+        object,
         Item::Number(row.count),
-    )
+    ])
 }
