@@ -5,7 +5,7 @@ use mathlib.Core.Path.{◌≡◌, refl}
 use mathlib.Core.List.{List, []}
 use Rattle.common.specs.Answer.{Leaves}
 use Rattle.text.specs.Lines.{put_text, told_putting}
-use Rattle.text.specs.declared.Putting.{Putting}
+use Rattle.std.specs.Prelude.{Option}
 use Rattle.text.proofs.Outcomes.{leaves-once}
 use Rattle.trace.specs.Feeding.{Held, feed}
 use Rattle.replay.specs.Progressing.{step, begun, fed}
@@ -14,7 +14,7 @@ use Rattle.answers.specs.Answers.{SoFar, add_line, with_text, answers_of}
 use Rattle.answers.proofs.FedAlike.{feed-alike}
 
 -- Two calls of `of_trace` with the same trace and the same buffer answer the same, and leave the same.
-pub of-trace-once : (s before : List ℕ) {a b : Putting} {x y : List ℕ} → Leaves (put_text (answers_of s) before) (told_putting a) x → Leaves (put_text (answers_of s) before) (told_putting b) y → (a ≡ b) × (x ≡ y)
+pub of-trace-once : (s before : List ℕ) {a b : Option ℕ} {x y : List ℕ} → Leaves (put_text (answers_of s) before) (told_putting a) x → Leaves (put_text (answers_of s) before) (told_putting b) y → (a ≡ b) × (x ≡ y)
 of-trace-once s before l m = leaves-once l m
 
 -- The progress after the whole fields of a trace, and what is left, are those of its run.

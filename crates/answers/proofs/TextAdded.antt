@@ -16,8 +16,7 @@ use Rattle.common.proofs.Parts.{to_end, back}
 use Rattle.common.proofs.Puts.{lent, given, put-length}
 use Rattle.common.proofs.PutLoop.{Next}
 use Rattle.text.specs.Lines.{put_text, told_putting}
-use Rattle.text.specs.declared.Putting.{Putting}
-use Rattle.text.specs.declared.Putting.TheVariants.{Done, TooShort}
+use Rattle.std.specs.Prelude.{Option, Some, None}
 use Rattle.text.proofs.Outcomes.{line-short}
 use Rattle.answers.specs.Adding.{Adds}
 
@@ -152,7 +151,7 @@ module _ {all : List ℕ} {room : ℕ} {before out : List ℕ} {at : ℕ} {left 
 -- ---- two passes
 
 -- the first is lent no bytes, and gives back none
-module _ (all before : List ℕ) (q : Putting) {t : List ℕ} (a : Adds all 0 (length before) [] (told_putting q) t) where
+module _ (all before : List ℕ) (q : Option ℕ) {t : List ℕ} (a : Adds all 0 (length before) [] (told_putting q) t) where
   same_bytes : t ++ before ≡ before
   same_bytes = ap (λ (l : List ℕ). l ++ before) (empty t a.keeps)
     where
@@ -161,11 +160,11 @@ module _ (all before : List ℕ) (q : Putting) {t : List ℕ} (a : Adds all 0 (l
       empty (x ∷ l) e = absurd (omega arith)
 
   -- there is no room,
-  pub passes-short : q ≡ TooShort → Leaves (put_text all before) (refused 7) (t ++ before)
+  pub passes-short : q ≡ None → Leaves (put_text all before) (refused 7) (t ++ before)
   passes-short e = rw same_bytes (line-short all before (omega (arith, said-short (0 + length all) (length before) (sym (ap told_putting e) ∙ a.says))))
 
   -- or the second leaves all of it there
-  pub passes-done : {n : ℕ} → q ≡ Done n → {said : Answer Nothing} {after : List ℕ} → Adds all 0 (length before) (t ++ before) said after → Leaves (put_text all before) said after
+  pub passes-done : {n : ℕ} → q ≡ Some n → {said : Answer Nothing} {after : List ℕ} → Adds all 0 (length before) (t ++ before) said after → Leaves (put_text all before) said after
   unfolding put_text
   passes-done {n} e {said} {after} b =
       let fits : length all ≤ length before = omega (arith, (said-done n (0 + length all) (length before) (sym (ap told_putting e) ∙ a.says)).1) in

@@ -1,15 +1,15 @@
 -- The text that is left at an offset of a trace: the line of the field that stands there, and the text that is left after it.
 -- Assumes nothing.
 use Prim.Native.Nat.{ℕ, ◌+◌, ◌-◌, ◌≤◌, ◌<◌}
-use mathlib.Core.Path.{◌≡◌, refl, sym, ap, ◌∙◌}
+use mathlib.Core.Path.{◌≡◌, refl, sym, ap, subst, ◌∙◌}
 use mathlib.Core.Bool.{Bool, true, false}
 use mathlib.Core.List.{List, [], ◌++◌, append-nil, append_assoc}
 use native.Mathlib.Omega.{arith}
 use lib.ListN.{length, take, drop, length-drop}
 use lib.Seq.{drop-drop}
 use Rattle.common.proofs.PutLoop.{Next}
-use Rattle.text.specs.Lines.{line_of, placed, items_of}
-use Rattle.text.proofs.Placing.{items-placed}
+use Rattle.text.specs.Lines.{line_of}
+use Rattle.std.specs.Prelude.{Option, Some, None}
 use Rattle.trace.specs.Fields.{field_size, is_whole}
 use Rattle.trace.specs.Feeding.{Held, feed}
 use Rattle.trace.proofs.Fed.{size-head, whole-fits, fed-field, fed-none}
@@ -64,46 +64,51 @@ none_left p s e = ap last_text (fed-none add_line (with_text p []) s e)
 pub record Goes (p : Progress) (s : List ℕ) (at : ℕ) (r : FieldLine) : Type 0 where
   pub after : at < r.used
   pub within : r.used ≤ length s
-  pub text : Next (line_of (items_of r.line)) (left_text r.progress (drop r.used s)) (left_text p (drop at s))
+  pub text : Next (line_of r.line) (left_text r.progress (drop r.used s)) (left_text p (drop at s))
 
 -- the field that stands there
 abbrev field_at : List ℕ → ℕ → List ℕ
 field_at s at = take (field_size (drop at s)) (drop at s)
 
-module _ (p : Progress) (s : List ℕ) (at : ℕ) (r : FieldLine) (said : r ≡ taken_at p s at) where
-  whole_is : is_whole (drop at s) ≡ true → r ≡ record { line = placed (line_in p (field_at s at)); progress = (stepped_by p (field_at s at)).next; used = at + field_size (drop at s) }
-  unfolding taken_at
-  whole_is e = rw e at said
+module _ (p : Progress) (s : List ℕ) (at : ℕ) where
+  abbrev taken : FieldLine
+  taken =
+      record { line = line_in p (field_at s at); progress = (stepped_by p (field_at s at)).next; used = at + field_size (drop at s) }
 
-  cut-is : is_whole (drop at s) ≡ false → r.used ≡ at
+  whole_is : is_whole (drop at s) ≡ true → taken_at p s at ≡ Some taken
   unfolding taken_at
-  cut-is e = ap (λ (x : FieldLine). x.used) (rw e at said)
+  whole_is e = rw e
 
-  whole-goes : is_whole (drop at s) ≡ true → Goes p s at r
+  cut-is : is_whole (drop at s) ≡ false → taken_at p s at ≡ None
+  unfolding taken_at
+  cut-is e = rw e
+
+  whole-goes : is_whole (drop at s) ≡ true → Goes p s at taken
   whole-goes e =
-      let told = whole_is e in
       let size = field_size (drop at s) in
-      let used : r.used ≡ at + size = ap (λ (x : FieldLine). x.used) told in
-      let items = items-placed (line_in p (field_at s at)) (ap (λ (x : FieldLine). x.line) told) in
       let fits = whole-fits (drop at s) e in
-      let rest : drop size (drop at s) ≡ drop r.used s = drop-drop size at s ∙ ap (λ (n : ℕ). drop n s) (sym used) in
       record {
-        after = omega (arith, used, size-head (drop at s));
-        within = omega (arith, used, fits.0, fits.1, length-drop at s);
-        text = record { joins = first-left p (drop at s) e ∙ (λ i. line_of (sym items i) ++ left_text (sym told i).progress (rest i)) };
+        after = omega (arith, size-head (drop at s));
+        within = omega (arith, fits.0, fits.1, length-drop at s);
+        text = record { joins = first-left p (drop at s) e ∙ ap (λ (x : List ℕ). line_of (line_in p (field_at s at)) ++ left_text (stepped_by p (field_at s at)).next x) (drop-drop size at s) };
       }
 
-  pub told-goes : (r.used ≡ at → ⊥) → Goes p s at r
-  told-goes more = go (is_whole (drop at s)) refl
-    where
-      go : (b : Bool) → is_whole (drop at s) ≡ b → Goes p s at r
-      go true e = whole-goes e
-      go false e = absurd (more (cut-is e))
+  module _ {t : Option FieldLine} (said : t ≡ taken_at p s at) where
+    -- one stood there,
+    pub told-goes : {r : FieldLine} → t ≡ Some r → Goes p s at r
+    told-goes {r} some = go (is_whole (drop at s)) refl
+      where
+        go : (b : Bool) → is_whole (drop at s) ≡ b → Goes p s at r
+        go true e =
+            let same : ◌≡◌ {A = Option FieldLine} (Some taken) (Some r) = sym (whole_is e) ∙ sym said ∙ some in
+            let is : taken ≡ r = cc in
+            subst (λ (x : FieldLine). Goes p s at x) is (whole-goes e)
+        go false e = absurd (let none : ◌≡◌ {A = Option FieldLine} None (Some r) = sym (cut-is e) ∙ sym said ∙ some in cc)
 
-  -- and where none stood
-  pub told-ends : r.used ≡ at → left_text p (drop at s) ≡ line_of (end_items p (length s - at))
-  told-ends last = go (is_whole (drop at s)) refl
-    where
-      go : (b : Bool) → is_whole (drop at s) ≡ b → left_text p (drop at s) ≡ line_of (end_items p (length s - at))
-      go true e = absurd (omega (arith, (whole-goes e).after))
-      go false e = none_left p (drop at s) e ∙ ap (λ (n : ℕ). line_of (end_items p n)) (length-drop at s)
+    -- or none
+    pub told-ends : t ≡ None → left_text p (drop at s) ≡ line_of (end_items p (length s - at))
+    told-ends none = go (is_whole (drop at s)) refl
+      where
+        go : (b : Bool) → is_whole (drop at s) ≡ b → left_text p (drop at s) ≡ line_of (end_items p (length s - at))
+        go true e = absurd (let some : ◌≡◌ {A = Option FieldLine} (Some taken) None = sym (whole_is e) ∙ sym said ∙ none in cc)
+        go false e = none_left p (drop at s) e ∙ ap (λ (n : ℕ). line_of (end_items p n)) (length-drop at s)

@@ -1,11 +1,11 @@
 -- The answers of a trace: a line for each field as it goes, with the offset of its tag, what it is, and the answer.
-use Rattle.std.specs.Prelude.{ℕ, ◌+◌, List, [], ◌∷◌, ◌++◌, length, drop, take, eqb}
+use Rattle.std.specs.Prelude.{ℕ, ◌+◌, List, [], ◌∷◌, ◌++◌, Option, Some, None, length, drop, take, eqb}
 use Rattle.common.specs.Choice.{pick}
 use Rattle.message.specs.Types.{typed_of}
 use Rattle.ledger.specs.Answers.{Verdict}
 use Rattle.trace.specs.Fields.{field_size, is_whole}
 use Rattle.trace.specs.Feeding.{Held, feed}
-use Rattle.text.specs.Lines.{line_of, placed, fault_line}
+use Rattle.text.specs.Lines.{line_of, fault_line}
 use Rattle.text.specs.declared.Item.{Item}
 use Rattle.text.specs.declared.Item.TheVariants.{Number, Word, Rule, Name}
 use Rattle.text.specs.declared.Word.TheVariants.{Start as AStart, Malformed as AMalformed, Arrival as AnArrival}
@@ -72,14 +72,14 @@ answers_of s = last_text (feed add_line (record { so_far = with_text begun []; r
 
 -- ---- what `tell` hands back
 
--- the field at an offset; where none is whole, nothing
-unfoldable pub taken_at : Progress → List ℕ → ℕ → FieldLine
+-- the field at an offset, where a whole one stands
+unfoldable pub taken_at : Progress → List ℕ → ℕ → Option FieldLine
 taken_at p s at =
     let field = take (field_size (drop at s)) (drop at s) in
     pick (is_whole (drop at s))
-    (record {
-      line = placed (line_in p field);
+    (Some (record {
+      line = line_in p field;
       progress = (stepped_by p field).next;
       used = at + field_size (drop at s);
-    })
-    (record { line = placed []; progress = p; used = at })
+    }))
+    None

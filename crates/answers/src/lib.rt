@@ -9,9 +9,8 @@ use replay::Progress;
 use text::Line;
 pub use writing::of_trace;
 
-// A field that was taken: the line that tells what it was answered, the progress after it, and where it ends. Where no
-// whole field stands, the line has no items, and nothing is used.
-#[derive(Clone, Copy)]
+// A field that was taken: the line that tells what it was answered, the progress after it, and where it ends.
+#[derive(Drop)]
 pub struct FieldLine {
     pub line: Line,
     pub progress: Progress,

@@ -14,4 +14,4 @@ pub returns-in-Arrived : goal.returns-in-Arrived
 returns-in-Arrived c = rw c.in-Arrived.is c.answer_line-in-Arrived.ensures
 
 pub returns-in-Fault : goal.returns-in-Fault
-returns-in-Fault c = rw c.in-Fault.is c.of0.ensures
+returns-in-Fault c = rw c.in-Fault.is c.of.ensures

@@ -4,4 +4,4 @@ use Rattle.answers.proofs.lines.tell_end.Goals as goal
 
 pub returns : goal.returns
 unfolding end_items
-returns c = rw (← c.finish-ended.ensures) c.fault_line.ensures
+returns c = rw (← c.finish.ensures) c.fault_line.ensures
