@@ -4,8 +4,6 @@ ghost use Rattle.report.specs.Report.{report_of};
 ghost use Rattle.answers.specs.Answers.{answers_of};
 ghost use Rattle.exports.specs.Texts.{text_put};
 
-use text::Putting;
-
 // The report.
 pub fn moq_report(trace: &[u8], out: &mut [u8], info: &mut [u64]) -> u64
     ensures { Does (text_put (report_of trace.now) out.old info.old) result
@@ -14,7 +12,7 @@ pub fn moq_report(trace: &[u8], out: &mut [u8], info: &mut [u64]) -> u64
     if info.len() < 1 {
         return 7;
     }
-    let Putting::Done(n) = report::of_trace(trace, out) else {
+    let Some(n) = report::of_trace(trace, out) else {
         return 7;
     };
     info[0] = n as u64;
@@ -29,7 +27,7 @@ pub fn moq_answers(trace: &[u8], out: &mut [u8], info: &mut [u64]) -> u64
     if info.len() < 1 {
         return 7;
     }
-    let Putting::Done(n) = answers::of_trace(trace, out) else {
+    let Some(n) = answers::of_trace(trace, out) else {
         return 7;
     };
     info[0] = n as u64;

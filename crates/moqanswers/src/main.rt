@@ -9,7 +9,7 @@ ghost use Rattle.moqanswers.specs.Ending.{Ends};
 use replay::Progress;
 use std::io;
 use std::io::Read;
-use text::{Line, Putting};
+use text::Line;
 
 // How far some bytes were told of: the progress after their whole fields, how many bytes those took, and whether all
 // lines were written.
@@ -103,19 +103,8 @@ fn print_fields(rt: &(impl Print + Eprint), mut progress: Progress, s: &[u8]) ->
     let mut out = [0u8; 65536];
     let mut at: usize = 0;
     let mut used: usize = 0;
-    loop {
-        let told = answers::tell(progress, s, used);
-        let next = told.used;
-        if next == used {
-            let written = write(rt, &out[..at]);
-            return Printed {
-                progress,
-                used,
-                written,
-            };
-        }
-        let line = told.line;
-        let Putting::Done(end) = print_line(rt, &mut out, at, line) else {
+    while let Some(told) = answers::tell(progress, s, used) {
+        let Some(end) = print_line(rt, &mut out, at, &told.line) else {
             return Printed {
                 progress,
                 used,
@@ -123,29 +112,35 @@ fn print_fields(rt: &(impl Print + Eprint), mut progress: Progress, s: &[u8]) ->
             };
         };
         at = end;
-        used = next;
+        used = told.used;
         progress = told.progress;
+    }
+    let written = write(rt, &out[..at]);
+    Printed {
+        progress,
+        used,
+        written,
     }
 }
 
 // A line after at bytes of text. Where it has no room there, those are written, and it goes to the front.
-fn print_line(rt: &(impl Print + Eprint), out: &mut [u8], at: usize, line: Line) -> Putting
+fn print_line(rt: &(impl Print + Eprint), out: &mut [u8], at: usize, line: &Line) -> Option<usize>
     requires { at ≤ length out.old }
     ensures { Ends result (length out.old) }
 {
-    let Putting::Done(n) = text::put(&mut out[at..], line) else {
+    let Some(n) = text::put(&mut out[at..], line) else {
         return print_front(rt, out, at, line);
     };
-    Putting::Done(at + n)
+    Some(at + n)
 }
 
-// at bytes of text are written, and a line is put in their place; too short means that they could not be written.
-fn print_front(rt: &(impl Print + Eprint), out: &mut [u8], at: usize, line: Line) -> Putting
+// at bytes of text are written, and a line is put in their place; none where they could not be written.
+fn print_front(rt: &(impl Print + Eprint), out: &mut [u8], at: usize, line: &Line) -> Option<usize>
     requires { at ≤ length out.old }
     ensures { Ends result (length out.old) }
 {
     if !write(rt, &out[..at]) {
-        return Putting::TooShort;
+        return None;
     }
     text::put(out, line)
 }
@@ -154,7 +149,7 @@ fn print_front(rt: &(impl Print + Eprint), out: &mut [u8], at: usize, line: Line
 fn print_end(rt: &(impl Print + Eprint), p: Progress, left: usize) {
     let mut out = [0u8; text::LONGEST_LINE];
     let line = answers::tell_end(p, left);
-    text::put(&mut out, line);
-    let n = text::measure(line);
+    text::put(&mut out, &line);
+    let n = text::measure(&line);
     write(rt, &out[..n]);
 }

@@ -1,6 +1,6 @@
 -- Text ends within the buffers of the program, and messages within the bytes that were read. Assumes nothing.
 use Rattle.std.proofs.Common.{◌≡◌, ℕ, ◌+◌, ◌-◌, ◌<◌, ◌≤◌, Bool, true, false, List, length, take, drop, sym, refl, ap, ◌∙◌, arith, length-drop, length-take-le}
-use Rattle.text.specs.declared.Putting.TheVariants.{Done, TooShort}
+use Rattle.std.specs.Prelude.{Some, None}
 use Rattle.message.specs.Reading.{read_of, told}
 use Rattle.std.specs.Prelude.{Option, Some, None, Result, Ok}
 use Rattle.types.specs.declared.Refusal.{Refusal}
@@ -16,18 +16,18 @@ use Rattle.moqexplain.specs.Ending.{Ends, Rooms, Within}
 use Rattle.moqexplain.specs.declared.Found.TheVariants.{Whole, More, Refused}
 
 -- what was not put has no end,
-pub short-ends : (room : ℕ) → Ends TooShort room
+pub short-ends : (room : ℕ) → Ends None room
 short-ends room n e = absurd (let z : ◌≡◌ {A = ℕ} 0 1 = cc in omega arith)
 
 -- and what was put the one that is said
-pub done-ends : {end : ℕ} (room : ℕ) → end ≤ room → Ends (Done end) room
+pub done-ends : {end : ℕ} (room : ℕ) → end ≤ room → Ends (Some end) room
 done-ends {end} room h n e = let same : end ≡ n = cc in omega arith
 
 -- there is room behind it
-pub short-rooms : (room : ℕ) → Rooms TooShort room
+pub short-rooms : (room : ℕ) → Rooms None room
 short-rooms room n e = absurd (let z : ◌≡◌ {A = ℕ} 0 1 = cc in omega arith)
 
-pub done-rooms : {end : ℕ} (room : ℕ) → end ≤ room → (longest_lines ≤ room → end + longest_lines ≤ room) → Rooms (Done end) room
+pub done-rooms : {end : ℕ} (room : ℕ) → end ≤ room → (longest_lines ≤ room → end + longest_lines ≤ room) → Rooms (Some end) room
 done-rooms {end} room h k n e = let same : end ≡ n = cc in (omega arith, λ l. omega (arith, k l))
 
 -- a message that is not all there, or is refused, has no end,

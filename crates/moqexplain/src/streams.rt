@@ -6,7 +6,6 @@ use crate::Found;
 use crate::reading::read_behind;
 use crate::writing::{print, write};
 use explanation::Explaining;
-use text::Putting;
 use types::Refusal;
 
 // How far some bytes were told of: how many they are, and whether more can come.
@@ -62,7 +61,7 @@ fn print_messages(rt: &(impl Print + Eprint), s: &[u8], offset: u64, last: bool)
             let more = print_rest(rt, &mut out, at, &s[used..], first, last);
             return Printed { used, more };
         };
-        let Putting::Done(next) = print_message(rt, &mut out, at, &s[used..end], first) else {
+        let Some(next) = print_message(rt, &mut out, at, &s[used..end], first) else {
             return Printed { used, more: false };
         };
         at = next;
@@ -77,7 +76,7 @@ fn print_message(
     at: usize,
     s: &[u8],
     offset: u64,
-) -> Putting
+) -> Option<usize>
     requires { at ≤ length out.old }
     ensures { Ends result (length out.old) }
 {
@@ -99,7 +98,7 @@ fn print_rest(
     if !is_shown(s, last) {
         return write(rt, &out[..at]) && !last;
     }
-    let Putting::Done(end) = print_message(rt, out, at, s, offset) else {
+    let Some(end) = print_message(rt, out, at, s, offset) else {
         return false;
     };
     write(rt, &out[..end]);

@@ -4,7 +4,6 @@ ghost use Rattle.std.specs.Prelude.{◌≤◌, length};
 use crate::reading::read_behind;
 use crate::writing::{print, write};
 use replay::Progress;
-use text::Putting;
 
 // How far some bytes were told of: the progress after their whole fields, how many bytes those took, and whether all
 // lines were written.
@@ -64,7 +63,7 @@ fn print_fields(rt: &(impl Print + Eprint), mut progress: Progress, s: &[u8]) ->
             };
         };
         let field = &s[used..taken.used];
-        let Putting::Done(end) = print(rt, &mut out, at, field, taken.explaining) else {
+        let Some(end) = print(rt, &mut out, at, field, taken.explaining) else {
             return Printed {
                 progress,
                 used,

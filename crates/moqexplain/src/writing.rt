@@ -4,7 +4,6 @@ ghost use Rattle.moqexplain.specs.Ending.{Ends, Rooms};
 
 use crate::fail;
 use explanation::Explaining;
-use text::Putting;
 
 // Whether text was written; where it wasn't, that is said.
 pub fn write(rt: &(impl Print + Eprint), s: &[u8]) -> bool {
@@ -18,18 +17,18 @@ pub fn write(rt: &(impl Print + Eprint), s: &[u8]) -> bool {
 }
 
 // Room for the next lines after at bytes of text. Where there is none, those are written, and the lines go to the
-// front; too short means that they could not be written.
-fn make_room(rt: &(impl Print + Eprint), out: &mut [u8], at: usize) -> Putting
+// front; none where they could not be written.
+fn make_room(rt: &(impl Print + Eprint), out: &mut [u8], at: usize) -> Option<usize>
     requires { at ≤ length out.old }
     ensures { Rooms result (length out.old) }
 {
     if out.len() - at >= explanation::LONGEST_LINES {
-        return Putting::Done(at);
+        return Some(at);
     }
     if !write(rt, &out[..at]) {
-        return Putting::TooShort;
+        return None;
     }
-    Putting::Done(0)
+    Some(0)
 }
 
 // All lines of a field, or of a message of a control stream, after at bytes of text.
@@ -39,7 +38,7 @@ pub fn print(
     mut at: usize,
     field: &[u8],
     mut e: Explaining,
-) -> Putting
+) -> Option<usize>
     requires { at ≤ length out.old }
     ensures { Ends result (length out.old) }
 {
@@ -47,14 +46,12 @@ pub fn print(
     while turns > 0 {
         turns -= 1;
         if e.is_over() {
-            return Putting::Done(at);
+            return Some(at);
         }
-        let Putting::Done(front) = make_room(rt, out, at) else {
-            return Putting::TooShort;
-        };
+        let front = make_room(rt, out, at)?;
         let told = e.next(out, front, field);
         at = told.at;
         e = told.next;
     }
-    Putting::Done(at)
+    Some(at)
 }

@@ -10,7 +10,6 @@ ghost use Rattle.report.specs.Report.{text_of, longest_report};
 use replay::Progress;
 use std::io;
 use std::io::Read;
-use text::Putting;
 
 // A field has at most 65,538 bytes, so what is left of one always leaves room to read into.
 fn main(rt: HostRuntime) {
@@ -52,10 +51,7 @@ fn put(out: &mut [u8], p: Progress, left: usize) -> usize
     requires { longest_report ≤ length out.old }
     ensures { Put (text_of (finish_of p left)) out.old result out.new }
 {
-    let Putting::Done(n) = report::of_progress(p, left, out) else {
-        return 0;
-    };
-    n
+    report::of_progress(p, left, out).unwrap_or(0)
 }
 
 fn print(rt: &(impl Print + Eprint), p: Progress, left: usize) {

@@ -10,7 +10,6 @@ mod hexadecimal;
 use hexadecimal::{decode, say_bytes};
 use std::fs::File;
 use std::io;
-use text::Putting;
 
 // The room for a case's bytes: the longest message has 65,016, and a trace may have it behind its first field.
 const ROOM: usize = 65536;
@@ -47,8 +46,8 @@ fn say_rewritten<R: FnOnce(&[u8], &mut [u8], &mut [u64]) -> u8>(
 }
 
 // What text was put at the front of out, on one line.
-fn say_put(rt: &impl Print, out: &[u8], put: Putting) -> io::Result<()> {
-    let Putting::Done(n) = put else {
+fn say_put(rt: &impl Print, out: &[u8], put: Option<usize>) -> io::Result<()> {
+    let Some(n) = put else {
         return Ok(());
     };
     let Some(text) = out.get(..n) else {

@@ -2,8 +2,8 @@
 use Rattle.std.proofs.Common.{◌-◌, ◌≤◌, length}
 use Rattle.moqanswers.proofs.print_fields.Given as goal
 
-abbrev pub invariant-loop-used : goal.invariant-loop-used
-invariant-loop-used g l = (l.at ≤ length l.out) × (l.used ≤ length l.s)
+abbrev pub invariant-loop-told : goal.invariant-loop-told
+invariant-loop-told g l = (l.at ≤ length l.out) × (l.used ≤ length l.s)
 
-abbrev pub decreases-loop-used : goal.decreases-loop-used
-decreases-loop-used g l = length l.s - l.used
+abbrev pub decreases-loop-told : goal.decreases-loop-told
+decreases-loop-told g l = length l.s - l.used

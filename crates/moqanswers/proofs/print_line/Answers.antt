@@ -5,7 +5,7 @@ use Rattle.moqanswers.proofs.print_line.Goals as goal
 
 pub overflow_add-result : goal.overflow_add-result
 overflow_add-result g c =
-    omega (arith, behind-fits _ c.args.out.now c.args.at c.put.result c.requires c.put.ensures c.in-Done.is)
+    omega (arith, behind-fits _ c.args.out.now c.args.at c.put.result c.requires c.put.ensures c.in-Some.is)
 
 pub returns : goal.returns
-returns g c = behind-ends _ c.args.out.now c.args.at c.put.result c.requires c.put.ensures c.in-Done.is
+returns g c = behind-ends _ c.args.out.now c.args.at c.put.result c.requires c.put.ensures c.in-Some.is

@@ -12,4 +12,4 @@ returns-in_default c =
 
 pub returns : goal.returns
 returns c =
-    text-done _ _ _ (omega (arith, c.if-info-lt1.false)) c.of_trace.result c.of_trace.ensures c.in-Done.is
+    text-done _ _ _ (omega (arith, c.if-info-lt1.false)) c.of_trace.result c.of_trace.ensures c.in-Some.is

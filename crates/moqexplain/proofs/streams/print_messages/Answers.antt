@@ -10,4 +10,4 @@ loop-end-smaller g c =
 pub loop-end-preserved : goal.loop-end-preserved
 loop-end-preserved g c =
     let there = c.find.ensures _ c.in-Whole.is in
-    (omega (arith, c.print_message.ensures _ c.in-Done.is), there.1)
+    (omega (arith, c.print_message.ensures _ c.in-Some.is), there.1)

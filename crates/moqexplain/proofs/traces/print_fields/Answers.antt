@@ -20,4 +20,4 @@ loop-taken-smaller g c =
 pub loop-taken-preserved : goal.loop-taken-preserved
 loop-taken-preserved g c =
     let goes = taken-goes _ _ _ c.tell.ensures c.in-Some.is in
-    (omega (arith, c.print.ensures _ c.in-Done.is), goes.1)
+    (omega (arith, c.print.ensures _ c.in-Some-print.is), goes.1)

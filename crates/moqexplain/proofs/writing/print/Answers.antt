@@ -5,5 +5,5 @@ use Rattle.moqexplain.proofs.writing.print.Goals as goal
 
 pub loop-turns-preserved : goal.loop-turns-preserved
 loop-turns-preserved g c =
-    let room = c.make_room.ensures _ c.in-Done.is in
+    let room = c.make_room.ensures _ c.in_ok-front.was in
     omega (arith, poured-within _ _ _ c.next-told.ensures.puts (omega (arith, room.0)))
