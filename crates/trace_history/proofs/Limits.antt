@@ -13,6 +13,7 @@ use Rattle.common.specs.Lists.{Each}
 use Rattle.common.proofs.Cases.{pick-by}
 use Rattle.layout.specs.Typed.{Typed}
 use Rattle.types.specs.Limits.{longest_body}
+use Rattle.types.proofs.OneAnswer.{refusal_of}
 use Rattle.message.specs.Reading.{read_up_to, read_of}
 use Rattle.message.specs.Limits.{length_over}
 use Rattle.message.proofs.Made.{answer_of}
@@ -40,7 +41,7 @@ control-is field e = rw (eqb-true (number_of_tag field) 2 e)
 
 -- the lower limit reads 3, or the same
 event-by : (value : List ℕ) (over : Bool) (a : Answer Typed) → reading_by value (answer_of (pick over (refused 3) a)) ≡ pick over (Malformed 3) (reading_by value (answer_of a))
-unfolding answer_of number
+unfolding answer_of refusal_of number
 event-by value true a = refl
 event-by value false a = refl
 
