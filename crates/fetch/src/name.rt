@@ -10,17 +10,12 @@ pub fn name_of(m: FetchMessage) -> Span
     ensures { result ≡ name_span m }
 {
     match m {
-        FetchMessage::Fetch(f) => {
-            let range = f.range;
-            match range {
-                Range::Standalone(r) => r.track.name,
-                Range::Joining(_) => Span { start: 0, end: 0 },
-            }
-        }
-        FetchMessage::FetchOk(_) => Span { start: 0, end: 0 },
-        FetchMessage::FetchError(_) => Span { start: 0, end: 0 },
-        FetchMessage::FetchCancel(_) => Span { start: 0, end: 0 },
+        FetchMessage::Fetch(f) => match f.range {
+            Range::Standalone(r) => r.track.name,
+            Range::Joining(_) => Span { start: 0, end: 0 },
+        },
         FetchMessage::TrackStatusRequest(track) => track.name,
         FetchMessage::TrackStatus(t) => t.track.name,
+        _ => Span { start: 0, end: 0 },
     }
 }

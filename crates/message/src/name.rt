@@ -30,7 +30,6 @@ fn name_of(m: Message) -> Span
     match m {
         Message::Subscription(m) => subscription::name_of(m),
         Message::Fetch(m) => fetch::name_of(m),
-        Message::Announce(_) => Span { start: 0, end: 0 },
-        Message::Session(_) => Span { start: 0, end: 0 },
+        _ => Span { start: 0, end: 0 },
     }
 }

@@ -11,12 +11,6 @@ pub fn name_of(m: SubscriptionMessage) -> Span
 {
     match m {
         SubscriptionMessage::Subscribe(s) => s.track.name,
-        SubscriptionMessage::SubscribeUpdate(_) => Span { start: 0, end: 0 },
-        SubscriptionMessage::SubscribeOk(_) => Span { start: 0, end: 0 },
-        SubscriptionMessage::SubscribeError(_) => Span { start: 0, end: 0 },
-        SubscriptionMessage::Unsubscribe(_) => Span { start: 0, end: 0 },
-        SubscriptionMessage::SubscribeDone(_) => Span { start: 0, end: 0 },
-        SubscriptionMessage::MaxSubscribeId(_) => Span { start: 0, end: 0 },
-        SubscriptionMessage::SubscribesBlocked(_) => Span { start: 0, end: 0 },
+        _ => Span { start: 0, end: 0 },
     }
 }
