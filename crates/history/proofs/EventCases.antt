@@ -1,4 +1,5 @@
 -- What an event comes to, one case for each way that a view goes on. Assumes nothing.
+use Rattle.std.specs.Prelude.{Option}
 use Prim.Native.Nat.{ℕ, ◌<◌}
 use mathlib.Core.Path.{◌≡◌, refl, sym, ap}
 use mathlib.Core.Bool.{Bool, false, not}
@@ -11,7 +12,6 @@ use Rattle.common.proofs.Cases.{pick-by}
 use Rattle.common.specs.Choice.{pick}
 use Rattle.field.specs.declared.Arrival.{Arrival}
 use Rattle.field.specs.declared.Place.{Place}
-use Rattle.subscription.specs.declared.Content.{Content}
 use Rattle.subscription.specs.declared.Subscribe.{Subscribe}
 use Rattle.subscription.specs.declared.SubscriptionMessage.{SubscriptionMessage}
 use Rattle.subscription.specs.declared.SubscriptionMessage.TheVariants.{SubscribeUpdate as ASubscribeUpdate, Subscribe as ASubscribe, SubscribeOk as ASubscribeOk, SubscribeError as ASubscribeError, Unsubscribe as AUnsubscribe, SubscribeDone as ASubscribeDone, MaxSubscribeId as AMaxSubscribeId, SubscribesBlocked as ASubscribesBlocked}
@@ -72,7 +72,7 @@ counting place r = now (counted_row r place)
 
 -- what a deed makes of the row of an ID
 pub data Turns : Deed → ℕ → (Row → Change Row) → Type 0 where
-  opens : {id : ℕ} {content : Content} → Turns (opened id content) id (λ r. now (active_row r (settled_of r.range content)))
+  opens : {id : ℕ} {content : Option Place} → Turns (opened id content) id (λ r. now (active_row r (settled_of r.range content)))
   frees : {id : ℕ} → Turns (ended id) id (λ _. gone)
 
 pub data Moves (v : View) : Event → Seen → Type 0 where
@@ -103,7 +103,7 @@ arrival-meets place r =
     arrive-by (λ (x : AtRow). Meets 16 (counting place) r (record { reply = answer x.number; row = now x.row })) place r
     (stays pending) (stays outside) (λ _. turns)
 
-ok-meets : (content : Content) (r : Row) → Meets 8 (λ r. now (active_row r (settled_of r.range content))) r (ok_at content r)
+ok-meets : (content : Option Place) (r : Row) → Meets 8 (λ r. now (active_row r (settled_of r.range content))) r (ok_at content r)
 unfolding ok_at
 ok-meets content r =
     open_by (λ (x : AtRow). Meets 8 (λ r. now (active_row r (settled_of r.range content))) r (record { reply = pick (eqb x.number 8) (answer 8) (broken R6); row = now x.row })) content r
@@ -182,7 +182,7 @@ module _ (v : View) where
   message-moves : (m : SubscriptionMessage) → Moves v (message (Subscription m)) (subscription_step v m)
   message-moves (ASubscribeUpdate m) = stayed not-kept
   message-moves (ASubscribe m) = subscribe-moves m
-  message-moves (ASubscribeOk m) = id-moves (ASubscribeOk m) Publisher refl m.id (ok_at m.content) _ (ok-meets m.content) opens
+  message-moves (ASubscribeOk m) = id-moves (ASubscribeOk m) Publisher refl m.id (ok_at m.largest) _ (ok-meets m.largest) opens
   message-moves (ASubscribeError m) = id-moves (ASubscribeError m) Publisher refl m.id (end_at Erring) _ (end-meets Erring) frees
   message-moves (AUnsubscribe id) = id-moves (AUnsubscribe id) Subscriber refl id (end_at Leaving) _ (end-meets Leaving) frees
   message-moves (ASubscribeDone m) = id-moves (ASubscribeDone m) Publisher refl m.id (end_at Ended) _ (end-meets Ended) frees

@@ -11,7 +11,6 @@ use lib.ListN.{length}
 use Rattle.common.proofs.Cases.{pick-by}
 use Rattle.common.specs.Choice.{pick}
 use Rattle.field.specs.declared.Place.{Place}
-use Rattle.subscription.specs.declared.Content.{Content}
 use Rattle.subscription.specs.declared.Subscribe.{Subscribe}
 use Rattle.row.proofs.Ordering.{greater-either}
 use Rattle.row.specs.Ranges.{settled_of}
@@ -60,7 +59,7 @@ later : List Logged → Row → List Row
 later [] r = r ∷ []
 later (t ∷ ts) r = behind (later ts) (made (deed_of t) r)
 
-state_from : State → List Content → State
+state_from : State → List (Option Place) → State
 state_from s [] = s
 state_from s (content ∷ more) = state_from Active more
 
@@ -72,7 +71,7 @@ count_from : ℕ → List Place → ℕ
 count_from n [] = n
 count_from n (p ∷ ps) = count_from (risen n) ps
 
-shown : Row → List Content → List Place → Row
+shown : Row → List (Option Place) → List Place → Row
 shown r contents places = record {
   id = r.id;
   alias = r.alias;
@@ -90,13 +89,13 @@ Shows : List Logged → Row → Type 0
 Shows ts r = later ts r ≡ unless (is_ended r.id ts) (shown r (given (opens r.id) ts) (given (counts r.alias) ts))
 
 module _ (ts : List Logged) (ih : (r : Row) → Shows ts r) (r : Row) where
-  contents : List Content
+  contents : List (Option Place)
   contents = given (opens r.id) ts
 
   places : List Place
   places = given (counts r.alias) ts
 
-  opened-shows : (content : Content) (b : Bool) → behind (later ts) (pick b (now (active_row r (settled_of r.range content))) (now r)) ≡ unless (is_ended r.id ts) (shown r (pick b (content ∷ []) [] ++ contents) places)
+  opened-shows : (content : Option Place) (b : Bool) → behind (later ts) (pick b (now (active_row r (settled_of r.range content))) (now r)) ≡ unless (is_ended r.id ts) (shown r (pick b (content ∷ []) [] ++ contents) places)
   unfolding Shows contents places shown state_from settled
   opened-shows content true = ih (active_row r (settled_of r.range content))
   opened-shows content false = ih r
@@ -127,12 +126,12 @@ later-shows (t ∷ ts) r = deed-shows ts (later-shows ts) r (deed_of t)
 
 -- ---- a new row
 
-state-active : (contents : List Content) → state_from Active contents ≡ Active
+state-active : (contents : List (Option Place)) → state_from Active contents ≡ Active
 unfolding state_from
 state-active [] = refl
 state-active (content ∷ more) = state-active more
 
-state-is : (contents : List Content) → state_from Pending contents ≡ state_of contents
+state-is : (contents : List (Option Place)) → state_from Pending contents ≡ state_of contents
 unfolding state_from
 state-is [] = refl
 state-is (content ∷ more) = state-active more

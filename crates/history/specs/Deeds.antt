@@ -1,8 +1,8 @@
 -- What an event did to a ledger, by what it was answered: only an 8 or a 16 did anything, rules apart.
-use Rattle.std.specs.Prelude.{ℕ, eqb}
+use Rattle.std.specs.Prelude.{ℕ, eqb, Option}
 use Rattle.common.specs.Choice.{pick}
+use Rattle.field.specs.declared.Place.{Place}
 use Rattle.field.specs.declared.Arrival.{Arrival}
-use Rattle.subscription.specs.declared.Content.{Content}
 use Rattle.subscription.specs.declared.Subscribe.{Subscribe}
 use Rattle.subscription.specs.declared.SubscriptionMessage.{SubscriptionMessage}
 use Rattle.subscription.specs.declared.SubscriptionMessage.TheVariants.{SubscribeUpdate as ASubscribeUpdate, Subscribe as ASubscribe, SubscribeOk as ASubscribeOk, SubscribeError as ASubscribeError, Unsubscribe as AUnsubscribe, SubscribeDone as ASubscribeDone, MaxSubscribeId as AMaxSubscribeId, SubscribesBlocked as ASubscribesBlocked}
@@ -14,7 +14,7 @@ pub data Deed : Type 0 where
   -- a SUBSCRIBE was accepted
   asked : Subscribe → Deed
   -- a SUBSCRIBE_OK made the row of an ID active
-  opened : ℕ → Content → Deed
+  opened : ℕ → Option Place → Deed
   -- a SUBSCRIBE_ERROR, a SUBSCRIBE_DONE or an UNSUBSCRIBE ended the row of an ID
   ended : ℕ → Deed
   -- a MAX_SUBSCRIBE_ID raised the maximum
@@ -28,7 +28,7 @@ pub data Deed : Type 0 where
 abbrev pub deed_by : SubscriptionMessage → Deed
 deed_by (ASubscribeUpdate m) = nothing
 deed_by (ASubscribe m) = asked m
-deed_by (ASubscribeOk m) = opened m.id m.content
+deed_by (ASubscribeOk m) = opened m.id m.largest
 deed_by (ASubscribeError m) = ended m.id
 deed_by (AUnsubscribe id) = ended id
 deed_by (ASubscribeDone m) = ended m.id

@@ -3,7 +3,6 @@
 use Rattle.std.specs.Prelude.{ℕ, min, Bool, true, false, List, [], ◌∷◌, ◌++◌, eqb, length, Option, Some, None}
 use Rattle.common.specs.Choice.{pick}
 use Rattle.field.specs.declared.Place.{Place}
-use Rattle.subscription.specs.declared.Content.{Content}
 use Rattle.subscription.specs.declared.Subscribe.{Subscribe}
 use Rattle.row.specs.Ranges.{asked_of, settled_of}
 use Rattle.row.specs.Rows.{top, greater}
@@ -26,7 +25,7 @@ ends id (counted a) = false
 ends id nothing = false
 
 -- the content by which it made that row active, if it did,
-abbrev pub opens : ℕ → Deed → List Content
+abbrev pub opens : ℕ → Deed → List (Option Place)
 opens id (asked m) = []
 opens id (opened other content) = pick (eqb id other) (content ∷ []) []
 opens id (ended other) = []
@@ -56,12 +55,12 @@ given by [] = []
 given by (t ∷ ts) = by (deed_of t) ++ given by ts
 
 -- a row is active once there is a content,
-abbrev pub state_of : List Content → State
+abbrev pub state_of : List (Option Place) → State
 state_of [] = Pending
 state_of (content ∷ later) = Active
 
 -- by which its range is settled
-unfoldable pub settled : Range → List Content → Range
+unfoldable pub settled : Range → List (Option Place) → Range
 settled range [] = range
 settled range (content ∷ later) = settled (settled_of range content) later
 

@@ -9,8 +9,8 @@ use native.Mathlib.Omega.{arith}
 use borrow.Author.Tests.{lt-ltb, le-ltb, le-leb, lt-leb}
 use lib.Dec.{eqb}
 use Rattle.common.specs.Choice.{pick}
+use Rattle.field.specs.declared.Place.{Place}
 use Rattle.field.specs.declared.Arrival.{Arrival}
-use Rattle.subscription.specs.declared.Content.{Content}
 use Rattle.subscription.specs.declared.Subscribe.{Subscribe}
 use Rattle.subscription.specs.declared.SubscribeOk.{SubscribeOk}
 use Rattle.subscription.specs.declared.SubscribeError.{SubscribeError}
@@ -145,7 +145,7 @@ module _ (l : Ledger) (w : is_ledger l ≡ true) where
 
   -- ---- SUBSCRIBE_OK
 
-  module _ (id : ℕ) (content : Content) {f : Option ℕ} (found : f ≡ find id_of id 0 (held l)) {i : ℕ} (here : f ≡ Some i) {o : Option Row} (opening : told_opening o (row_at l i) ≡ open_of (row_at l i) content) where
+  module _ (id : ℕ) (content : Option Place) {f : Option ℕ} (found : f ≡ find id_of id 0 (held l)) {i : ℕ} (here : f ≡ Some i) {o : Option Row} (opening : told_opening o (row_at l i) ≡ open_of (row_at l i) content) where
     opens_as : {v : Option Row} → o ≡ v → ok_at content (row_at l i) ≡ (let at = told_opening v (row_at l i) in record { reply = pick (eqb at.number 8) (answer 8) (broken R6); row = now at.row })
     unfolding ok_at
     opens_as e =

@@ -1,4 +1,5 @@
 -- What every call leaves is a ledger, where it was handed one; and a start that is done gives one. Assumes nothing.
+use Rattle.std.specs.Prelude.{Option}
 use Prim.Native.Nat.{ℕ, zero, suc, ◌-◌, ◌≤◌}
 use mathlib.Core.Path.{◌≡◌, refl, ap, ◌∙◌}
 use mathlib.Core.Bool.{Bool, true, false}
@@ -13,8 +14,8 @@ use Rattle.common.proofs.Cases.{pick-by}
 use Rattle.common.specs.Choice.{both}
 use Rattle.common.proofs.Tests.{both_first, both-second}
 use Rattle.integer.specs.Integer.{greatest}
+use Rattle.field.specs.declared.Place.{Place}
 use Rattle.field.specs.declared.Arrival.{Arrival}
-use Rattle.subscription.specs.declared.Content.{Content}
 use Rattle.subscription.specs.declared.Subscribe.{Subscribe}
 use Rattle.subscription.specs.declared.SubscriptionMessage.{SubscriptionMessage}
 use Rattle.subscription.specs.declared.SubscriptionMessage.TheVariants.{SubscribeUpdate as ASubscribeUpdate, Subscribe as ASubscribe, SubscribeOk as ASubscribeOk, SubscribeError as ASubscribeError, Unsubscribe as AUnsubscribe, SubscribeDone as ASubscribeDone, MaxSubscribeId as AMaxSubscribeId, SubscribesBlocked as ASubscribesBlocked}
@@ -152,7 +153,7 @@ module _ (v : View) (g : Good v) where
         apart = distinct-last v.rows (new_row m) g.apart fresh;
       }))))
 
-  good-ok : (by : Part) (id : ℕ) (content : Content) → small_content content ≡ true → Good (by_key v (is_own v.standing.part by) id_of id (no_row v.standing id) (ok_at content)).next
+  good-ok : (by : Part) (id : ℕ) (content : Option Place) → small_content content ≡ true → Good (by_key v (is_own v.standing.part by) id_of id (no_row v.standing id) (ok_at content)).next
   unfolding ok_at opened
   good-ok by id content s =
       good-turned (is_own v.standing.part by) id_of id (no_row v.standing id) (ok_at content)
@@ -179,7 +180,7 @@ module _ (v : View) (g : Good v) where
   good-subscription : (m : SubscriptionMessage) → sound_of (Subscription m) ≡ true → Good (subscription_step v m).next
   good-subscription (ASubscribeUpdate m) s = g
   good-subscription (ASubscribe m) s = good-subscribe m (sound-subscribe m s)
-  good-subscription (ASubscribeOk m) s = good-ok Publisher m.id m.content (sound-ok m s)
+  good-subscription (ASubscribeOk m) s = good-ok Publisher m.id m.largest (sound-ok m s)
   good-subscription (ASubscribeError m) s = good-end Publisher m.id Erring
   good-subscription (AUnsubscribe id) s = good-end Subscriber id Leaving
   good-subscription (ASubscribeDone m) s = good-end Publisher m.id Ended

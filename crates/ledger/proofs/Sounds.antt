@@ -1,4 +1,5 @@
 -- What a sound message holds: no number that goes into a row is above the greatest integer. Assumes nothing.
+use Rattle.std.specs.Prelude.{Option, Some, None}
 use Prim.Native.Nat.{ℕ}
 use mathlib.Core.Path.{◌≡◌, refl}
 use mathlib.Core.Bool.{true}
@@ -6,6 +7,7 @@ use mathlib.Core.List.{List, [], ◌∷◌, ◌++◌}
 use lib.Dec.{leb}
 use Rattle.common.proofs.Tests.{both_first, both-second}
 use Rattle.integer.specs.Integer.{greatest}
+use Rattle.field.specs.declared.Place.{Place}
 use Rattle.field.specs.declared.Kind.TheVariants.{Parameters}
 use Rattle.field.specs.declared.Piece.{Piece}
 use Rattle.field.specs.declared.Piece.TheVariants.{Number, List as Listing}
@@ -13,8 +15,6 @@ use Rattle.measure.specs.Small.{small_piece, small_all}
 use Rattle.subscription.specs.Told.{filter_pieces, content_pieces}
 use Rattle.subscription.specs.declared.Filter.{Filter}
 use Rattle.subscription.specs.declared.Filter.TheVariants.{Latest, From, Range as Until}
-use Rattle.subscription.specs.declared.Content.{Content}
-use Rattle.subscription.specs.declared.Content.TheVariants.{Nothing, Largest}
 use Rattle.subscription.specs.declared.Subscribe.{Subscribe}
 use Rattle.subscription.specs.declared.SubscribeOk.{SubscribeOk}
 use Rattle.subscription.specs.declared.SubscriptionMessage.TheVariants.{Subscribe as ASubscribe, SubscribeOk as ASubscribeOk, MaxSubscribeId as AMaxSubscribeId}
@@ -53,9 +53,9 @@ range_small (Until start last) ps e =
     let e₂ = rest-small (Number start.object) _ (rest-small (Number start.group) _ e₁) in
     rw (place-small start.group start.object _ e₁, first_small last ps e₂)
 
-content-small : (content : Content) (ps : List Piece) → small_all (content_pieces content ++ ps) ≡ true → small_content content ≡ true
-content-small Nothing ps e = refl
-content-small (Largest place) ps e = place-small place.group place.object ps (rest-small _ _ e)
+content-small : (content : Option Place) (ps : List Piece) → small_all (content_pieces content ++ ps) ≡ true → small_content content ≡ true
+content-small None ps e = refl
+content-small (Some place) ps e = place-small place.group place.object ps (rest-small _ _ e)
 
 -- SUBSCRIBE
 pub record Asks (m : Subscribe) : Type 0 where
@@ -71,9 +71,9 @@ sound-subscribe m e =
     record { id = first_small m.id _ e₁; alias = first_small m.alias _ e₂; range = range_small m.filter _ e₃ }
 
 -- SUBSCRIBE_OK
-pub sound-ok : (m : SubscribeOk) → sound_of (Subscription (ASubscribeOk m)) ≡ true → small_content m.content ≡ true
+pub sound-ok : (m : SubscribeOk) → sound_of (Subscription (ASubscribeOk m)) ≡ true → small_content m.largest ≡ true
 sound-ok m e =
-    content-small m.content (Listing Parameters m.parameters ∷ [])
+    content-small m.largest (Listing Parameters m.parameters ∷ [])
     (rest-small _ _ (rest-small _ _ (rest-small (Number m.id) _ (all_small (Subscription (ASubscribeOk m)) e))))
 
 -- MAX_SUBSCRIBE_ID

@@ -1,10 +1,9 @@
 -- The ledger's steps, in the order and the words of document 01. A step is said of a view: what stands beside the rows,
 -- and the list of rows held.
-use Rattle.std.specs.Prelude.{ℕ, ◌+◌, Bool, true, false, [], ◌∷◌, ◌++◌, length, leb, ltb, eqb}
+use Rattle.std.specs.Prelude.{ℕ, ◌+◌, Bool, true, false, [], ◌∷◌, ◌++◌, length, leb, ltb, eqb, Option}
 use Rattle.common.specs.Choice.{guard, pick, both}
 use Rattle.field.specs.declared.Arrival.{Arrival}
 use Rattle.field.specs.declared.Place.{Place}
-use Rattle.subscription.specs.declared.Content.{Content}
 use Rattle.subscription.specs.declared.Subscribe.{Subscribe}
 use Rattle.subscription.specs.declared.SubscriptionMessage.{SubscriptionMessage}
 use Rattle.subscription.specs.declared.SubscriptionMessage.TheVariants.{SubscribeUpdate as ASubscribeUpdate, Subscribe as ASubscribe, SubscribeOk as ASubscribeOk, SubscribeError as ASubscribeError, Unsubscribe as AUnsubscribe, SubscribeDone as ASubscribeDone, MaxSubscribeId as AMaxSubscribeId, SubscribesBlocked as ASubscribesBlocked}
@@ -136,7 +135,7 @@ abbrev pub breaks_r6 : Row → RowStep
 breaks_r6 r = record { reply = broken R6; row = now r }
 
 -- "OK on pending makes it active"; "R6: OK or ERROR on active"
-unfoldable pub ok_at : Content → Row → RowStep
+unfoldable pub ok_at : Option Place → Row → RowStep
 ok_at content r =
     let at = open_of r content in
     record { reply = pick (eqb at.number 8) (answer 8) (broken R6); row = now at.row }
@@ -164,7 +163,7 @@ maximum_step v id =
 abbrev pub subscription_step : View → SubscriptionMessage → Seen
 subscription_step v (ASubscribeUpdate m) = unchanged v 9
 subscription_step v (ASubscribe m) = subscribe_step v m
-subscription_step v (ASubscribeOk m) = by_id v (sender (ASubscribeOk m)) m.id (ok_at m.content)
+subscription_step v (ASubscribeOk m) = by_id v (sender (ASubscribeOk m)) m.id (ok_at m.largest)
 subscription_step v (ASubscribeError m) = by_id v (sender (ASubscribeError m)) m.id (end_at Erring)
 subscription_step v (AUnsubscribe id) = by_id v (sender (AUnsubscribe id)) id (end_at Leaving)
 subscription_step v (ASubscribeDone m) = by_id v (sender (ASubscribeDone m)) m.id (end_at Ended)

@@ -69,12 +69,12 @@ pub fn no_row(l: Ledger, sender: Part, id: u64) -> Taken
 
 pub fn accept(l: Ledger, m: SubscribeOk) -> Taken
     requires { is_ledger l ≡ true }
-    ensures { told result ≡ came_of (by_id (view_of l) Publisher m.id (ok_at m.content)) }
+    ensures { told result ≡ came_of (by_id (view_of l) Publisher m.id (ok_at m.largest)) }
 {
     let Some(i) = find_id(&l, m.id) else {
         return no_row(l, Part::Publisher, m.id);
     };
-    let Some(opened) = row::open(l.rows[i], m.content) else {
+    let Some(opened) = row::open(l.rows[i], m.largest) else {
         return breaks(l, Part::Publisher, Rule::R6);
     };
     with_row(l, i, opened).answers(Answer::Done)

@@ -9,7 +9,7 @@ use ledger::{Answer, Ledger, Part, Taken};
 use message::Message;
 use session::SessionMessage;
 use std::io;
-use subscription::{Content, Filter, Subscribe, SubscribeDone, SubscribeError, SubscribeOk};
+use subscription::{Filter, Subscribe, SubscribeDone, SubscribeError, SubscribeOk};
 
 // ---- calls
 
@@ -63,12 +63,12 @@ fn subscribe(l: Ledger, numbers: [u64; 8]) -> Taken {
     })
 }
 
-fn accept(l: Ledger, id: u64, order: u64, content: Content) -> Taken {
+fn accept(l: Ledger, id: u64, order: u64, largest: Option<Place>) -> Taken {
     l.subscribe_ok(SubscribeOk {
         id,
         expires: 0,
         order: (order % 256) as u8,
-        content,
+        largest,
         parameters: entries(0),
     })
 }
@@ -137,14 +137,14 @@ fn take(l: Ledger, call: &[u8]) -> Taken {
         return subscribe(l, numbers);
     }
     if is(call, b"ok") {
-        let content = match third {
-            0 => Content::Nothing,
-            _ => Content::Largest(Place {
+        let largest = match third {
+            0 => None,
+            _ => Some(Place {
                 group: fourth,
                 object: fifth,
             }),
         };
-        return accept(l, first, second, content);
+        return accept(l, first, second, largest);
     }
     if is(call, b"error") {
         return fail(l, first);

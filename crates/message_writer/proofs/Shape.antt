@@ -1,9 +1,11 @@
 -- A message has the shape that its layout asks for exactly where it holds no forbidden value: so where its fields are good, its
 -- layout then permits it. Assumes nothing.
+use Rattle.std.specs.Prelude.{Option, Some, None}
 use Prim.Native.Nat.{ℕ}
 use mathlib.Core.Path.{◌≡◌, refl, ◌∙◌}
 use mathlib.Core.Bool.{true}
 use mathlib.Core.List.{List, [], ◌∷◌, ◌++◌, map}
+use Rattle.field.specs.declared.Place.{Place}
 use Rattle.field.specs.Value.{mean}
 use Rattle.field.specs.declared.Entries.{Entries}
 use Rattle.field.specs.declared.Kind.TheVariants.{Parameters}
@@ -18,8 +20,6 @@ use Rattle.types.specs.Subscriptions.{subscribe_update, ending, filter, delivery
 use Rattle.subscription.specs.Told.{filter_pieces, content_pieces, typed_of as subscription_typed}
 use Rattle.subscription.specs.declared.Filter.{Filter}
 use Rattle.subscription.specs.declared.Filter.TheVariants.{Latest, From, Range}
-use Rattle.subscription.specs.declared.Content.{Content}
-use Rattle.subscription.specs.declared.Content.TheVariants.{Nothing, Largest}
 use Rattle.subscription.specs.declared.SubscriptionMessage.{SubscriptionMessage}
 use Rattle.subscription.specs.declared.SubscriptionMessage.TheVariants.{SubscribeUpdate, Subscribe, SubscribeOk, SubscribeError, Unsubscribe, SubscribeDone, MaxSubscribeId, SubscribesBlocked}
 use Rattle.types.specs.Fetches.{standalone, joining, range, fetch, fetch_ok, fetch_error, fetch_cancel, track_status_request, largest, track_status}
@@ -63,17 +63,17 @@ module _ (s : List ℕ) where
   asking (Range start end_group) e = refl
 
   -- what there is by a SUBSCRIBE_OK, and its parameters,
-  existing : (c : Content) (e : Entries) → fitting content (map (mean s) (content_pieces c ++ Listing Parameters e ∷ [])) ≡ allowed content (content_pieces c ++ Listing Parameters e ∷ [])
+  existing : (c : Option Place) (e : Entries) → fitting content (map (mean s) (content_pieces c ++ Listing Parameters e ∷ [])) ≡ allowed content (content_pieces c ++ Listing Parameters e ∷ [])
   unfolding fitting code mean allowed place parameters content
-  existing Nothing e = refl
-  existing (Largest p) e = refl
+  existing None e = refl
+  existing (Some p) e = refl
 
   -- a message of subscriptions,
   subscription : (m : SubscriptionMessage) → Fitting s (subscription_typed m)
   unfolding fitting code mean allowed known layout_of type_row_of type_row_in messages place failure parameters subscribe_update delivery subscribe subscribe_ok subscribe_error subscribe_done id_only
   subscription (SubscribeUpdate m) = (refl, refl)
   subscription (Subscribe m) = (refl, rw (asking m.filter m.parameters))
-  subscription (SubscribeOk m) = (refl, rw (existing m.content m.parameters))
+  subscription (SubscribeOk m) = (refl, rw (existing m.largest m.parameters))
   subscription (SubscribeError m) = (refl, refl)
   subscription (Unsubscribe id) = (refl, refl)
   subscription (SubscribeDone m) = (refl, refl)

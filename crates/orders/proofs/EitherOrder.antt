@@ -1,5 +1,6 @@
 -- Two events in either order, on any view: two arrivals; two messages that name different subscriptions, or of which the ledger
 -- doesn't keep one, where the session is open after both. Assumes nothing.
+use Rattle.std.specs.Prelude.{Option}
 use Prim.Native.Nat.{ℕ}
 use mathlib.Core.Path.{◌≡◌, refl, sym, ap, subst, ◌∙◌}
 use mathlib.Core.Bool.{Bool, true, false}
@@ -10,8 +11,8 @@ use borrow.Author.Tests.{eqb-true, eqb-false}
 use lib.Dec.{eqb}
 use Rattle.common.specs.Choice.{pick}
 use Rattle.common.proofs.Cases.{pick-by}
+use Rattle.field.specs.declared.Place.{Place}
 use Rattle.field.specs.declared.Arrival.{Arrival}
-use Rattle.subscription.specs.declared.Content.{Content}
 use Rattle.message.specs.declared.Message.{Message}
 use Rattle.row.specs.Rows.{may_end}
 use Rattle.row.specs.declared.Row.{Row}
@@ -225,7 +226,7 @@ record ById (m : Message) (id : ℕ) : Type 0 where
   its : acts.number ≡ id
   knows : (r : Row) → Known id_of r (acts.at r).row
 
-ok-knows : (content : Content) (r : Row) → Known id_of r (ok_at content r).row
+ok-knows : (content : Option Place) (r : Row) → Known id_of r (ok_at content r).row
 unfolding ok_at opened
 ok-knows content r = opened-id content r
 
@@ -243,7 +244,7 @@ names-id m by id at is knows =
     }
 
 by-id : {m : Message} {id : ℕ} → Names m id → NotKept m ⊎ ById m id
-by-id (ok {m}) = inr (names-id _ Publisher m.id (ok_at m.content) (λ _. refl) (ok-knows m.content))
+by-id (ok {m}) = inr (names-id _ Publisher m.id (ok_at m.largest) (λ _. refl) (ok-knows m.largest))
 by-id (error {m}) = inr (names-id _ Publisher m.id (end_at Erring) (λ _. refl) (end-knows Erring))
 by-id (finished {m}) = inr (names-id _ Publisher m.id (end_at Ended) (λ _. refl) (end-knows Ended))
 by-id (left {id}) = inr (names-id _ Subscriber id (end_at Leaving) (λ _. refl) (end-knows Leaving))

@@ -9,8 +9,6 @@ use lib.Dec.{ltb, eqb}
 use Rattle.common.proofs.Cases.{pick-by}
 use Rattle.common.proofs.Tests.{both_first, both-second}
 use Rattle.field.specs.declared.Place.{Place}
-use Rattle.subscription.specs.declared.Content.{Content}
-use Rattle.subscription.specs.declared.Content.TheVariants.{Nothing, Largest}
 use Rattle.row.specs.Places.{before, small, small_place}
 use Rattle.row.specs.Ranges.{in_range, is_known, small_range, latest, moved, settled_of}
 use Rattle.row.specs.Rows.{top, count_agrees, suits, is_row, pending_row, greater, risen, is_pending, counted_row, AtRow, replying, arrive_of, active_row, breaks_r6, open_of}
@@ -91,54 +89,54 @@ after_is place r s w =
 
 -- ---- the row after a SUBSCRIBE_OK
 
-unfoldable pub opened : Content → Row → Row
+unfoldable pub opened : Option Place → Row → Row
 opened content r = (open_of r content).row
 
 -- a rule is broken, or a pending row is active now
-pub open_by : (P : AtRow → Type 0) (content : Content) (r : Row) → P (breaks_r6 r) → P (replying 8 (active_row r (settled_of r.range content))) → P (open_of r content)
+pub open_by : (P : AtRow → Type 0) (content : Option Place) (r : Row) → P (breaks_r6 r) → P (replying 8 (active_row r (settled_of r.range content))) → P (open_of r content)
 unfolding open_of
 open_by P content r refused active = pick-by P (is_pending r.state) (λ _. active) (λ _. refused)
 
 -- so nothing changes, or it is active
-opened-by : (P : Row → Type 0) (content : Content) (r : Row) → P r → P (active_row r (settled_of r.range content)) → P (opened content r)
+opened-by : (P : Row → Type 0) (content : Option Place) (r : Row) → P r → P (active_row r (settled_of r.range content)) → P (opened content r)
 unfolding opened
 opened-by P content r same active = open_by (λ (x : AtRow). P x.row) content r same active
 
-pub opened-id : (content : Content) (r : Row) → (opened content r).id ≡ r.id
+pub opened-id : (content : Option Place) (r : Row) → (opened content r).id ≡ r.id
 opened-id content r = opened-by (λ (x : Row). x.id ≡ r.id) content r refl refl
 
-pub opened-alias : (content : Content) (r : Row) → (opened content r).alias ≡ r.alias
+pub opened-alias : (content : Option Place) (r : Row) → (opened content r).alias ≡ r.alias
 opened-alias content r = opened-by (λ (x : Row). x.alias ≡ r.alias) content r refl refl
 
 -- no number of a content is above the greatest integer
-abbrev pub small_content : Content → Bool
-small_content Nothing = true
-small_content (Largest place) = small_place place
+abbrev pub small_content : Option Place → Bool
+small_content None = true
+small_content (Some place) = small_place place
 
-latest-small : (content : Content) → small_content content ≡ true → small_place (latest content) ≡ true
+latest-small : (content : Option Place) → small_content content ≡ true → small_place (latest content) ≡ true
 unfolding small_place small
-latest-small Nothing s = refl
-latest-small (Largest place) s = s
+latest-small None s = refl
+latest-small (Some place) s = s
 
-moved-small : (start : Place) (content : Content) → small_place start ≡ true → small_content content ≡ true → small_place (moved start content) ≡ true
-moved-small start Nothing a s = a
-moved-small start (Largest place) a s =
+moved-small : (start : Place) (content : Option Place) → small_place start ≡ true → small_content content ≡ true → small_place (moved start content) ≡ true
+moved-small start None a s = a
+moved-small start (Some place) a s =
     pick-by (λ (p : Place). small_place p ≡ true) (ltb start.group place.group) (λ _. s) (λ _. a)
 
-settled-small : (range : Range) (content : Content) → small_range range ≡ true → small_content content ≡ true → small_range (settled_of range content) ≡ true
+settled-small : (range : Range) (content : Option Place) → small_range range ≡ true → small_content content ≡ true → small_range (settled_of range content) ≡ true
 unfolding small_range settled_of
 settled-small Unknown content a s = latest-small content s
 settled-small (Open start) content a s = moved-small start content a s
 settled-small (Closed start last) content a s =
     rw (moved-small start content (both_first (small_place start) (small last) a) s) (both-second (small_place start) (small last) a)
 
-settled-known : (range : Range) (content : Content) → is_known (settled_of range content) ≡ true
+settled-known : (range : Range) (content : Option Place) → is_known (settled_of range content) ≡ true
 unfolding settled_of is_known
 settled-known Unknown content = refl
 settled-known (Open start) content = refl
 settled-known (Closed start last) content = refl
 
-active-is : (content : Content) (r : Row) → small_content content ≡ true → IsRow r → IsRow (active_row r (settled_of r.range content))
+active-is : (content : Option Place) (r : Row) → small_content content ≡ true → IsRow r → IsRow (active_row r (settled_of r.range content))
 unfolding suits
 active-is content r s w =
     record {
@@ -150,7 +148,7 @@ active-is content r s w =
       suited = settled-known r.range content;
     }
 
-pub opened-is : (content : Content) (r : Row) → small_content content ≡ true → is_row r ≡ true → is_row (opened content r) ≡ true
+pub opened-is : (content : Option Place) (r : Row) → small_content content ≡ true → is_row r ≡ true → is_row (opened content r) ≡ true
 opened-is content r s w =
     opened-by (λ (x : Row). is_row x ≡ true) content r w
     (row-whole (active_row r (settled_of r.range content)) (active-is content r s (row-parts r w)))

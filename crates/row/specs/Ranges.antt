@@ -1,11 +1,9 @@
 -- "A range is not known yet, open from a place, or closed at a last group."
-use Rattle.std.specs.Prelude.{Bool, true, false, not, leb, ltb}
+use Rattle.std.specs.Prelude.{Bool, true, false, not, leb, ltb, Option, Some, None}
 use Rattle.common.specs.Choice.{pick, both}
 use Rattle.field.specs.declared.Place.{Place}
 use Rattle.subscription.specs.declared.Filter.{Filter}
 use Rattle.subscription.specs.declared.Filter.TheVariants.{Latest, From, Range as Until}
-use Rattle.subscription.specs.declared.Content.{Content}
-use Rattle.subscription.specs.declared.Content.TheVariants.{Nothing, Largest}
 use Rattle.row.specs.Places.{before, small, small_place}
 use Rattle.row.specs.declared.Range.{Range}
 use Rattle.row.specs.declared.Range.TheVariants.{Unknown, Open, Closed}
@@ -33,17 +31,17 @@ asked_of (From start) = Open start
 asked_of (Until start last) = Closed start last
 
 -- "Range at OK: filter 2 starts at the largest place given, or at (0, 0) when no content exists."
-abbrev pub latest : Content → Place
-latest Nothing = record { group = 0; object = 0 }
-latest (Largest place) = place
+abbrev pub latest : Option Place → Place
+latest None = record { group = 0; object = 0 }
+latest (Some place) = place
 
 -- "Filters 3 and 4 start as asked; if the start group is below the largest group given, at the largest place."
-abbrev pub moved : Place → Content → Place
-moved start Nothing = start
-moved start (Largest place) = pick (ltb start.group place.group) place start
+abbrev pub moved : Place → Option Place → Place
+moved start None = start
+moved start (Some place) = pick (ltb start.group place.group) place start
 
 -- "Filter 4 ends with its end group, all of it; such a range may be empty."
-unfoldable pub settled_of : Range → Content → Range
+unfoldable pub settled_of : Range → Option Place → Range
 settled_of Unknown content = Open (latest content)
 settled_of (Open start) content = Open (moved start content)
 settled_of (Closed start last) content = Closed (moved start content) last

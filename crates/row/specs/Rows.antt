@@ -2,7 +2,6 @@
 use Rattle.std.specs.Prelude.{ℕ, ◌+◌, Bool, true, false, not, leb, ltb, eqb, Option, None, Some, Result, Ok, Err}
 use Rattle.common.specs.Choice.{guard, pick, both}
 use Rattle.field.specs.declared.Place.{Place}
-use Rattle.subscription.specs.declared.Content.{Content}
 use Rattle.row.specs.Places.{before, small, small_place}
 use Rattle.row.specs.Ranges.{in_range, is_known, small_range, settled_of}
 use Rattle.row.specs.declared.State.{State}
@@ -116,7 +115,7 @@ abbrev pub breaks_r6 : Row → AtRow
 breaks_r6 r = record { number = 13; rule = 6; row = r }
 
 -- "OK on pending makes it active"
-unfoldable pub open_of : Row → Content → AtRow
+unfoldable pub open_of : Row → Option Place → AtRow
 open_of r content =
     guard (is_pending r.state) (breaks_r6 r) (replying 8 (active_row r (settled_of r.range content)))
 

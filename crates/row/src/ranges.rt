@@ -5,7 +5,7 @@ ghost use Rattle.row.specs.Ranges.{in_range, is_known, small_range, asked_of, la
 use crate::Range;
 use crate::places::is_small;
 use field::Place;
-use subscription::{Content, Filter};
+use subscription::Filter;
 
 #[tactic(auto, unfolding(crate::specs::Ranges::in_range, crate::specs::Places::before))]
 pub fn contains(range: Range, p: Place) -> bool
@@ -48,41 +48,33 @@ pub fn asked(filter: Filter) -> Range
     }
 }
 
-fn latest_place(content: Content) -> Place
-    ensures { result ≡ latest content }
+fn latest_place(largest: Option<Place>) -> Place
+    ensures { result ≡ latest largest }
 {
-    match content {
-        Content::Nothing => Place {
-            group: 0,
-            object: 0,
-        },
-        Content::Largest(place) => place,
-    }
+    largest.unwrap_or(Place {
+        group: 0,
+        object: 0,
+    })
 }
 
 // Where a range that was asked for starts: what lies in groups before the largest is past.
-fn moved_start(start: Place, content: Content) -> Place
-    ensures { result ≡ moved start content }
+fn moved_start(start: Place, largest: Option<Place>) -> Place
+    ensures { result ≡ moved start largest }
 {
-    match content {
-        Content::Nothing => start,
-        Content::Largest(place) => {
-            if start.group < place.group {
-                return place;
-            }
-            start
-        }
+    match largest {
+        Some(place) if start.group < place.group => place,
+        _ => start,
     }
 }
 
-// What a range becomes by a SUBSCRIBE_OK.
+// What a range becomes by a SUBSCRIBE_OK, whose largest place tells whether content exists.
 #[tactic(auto, unfolding(crate::specs::Ranges::settled_of))]
-pub fn settled(range: Range, content: Content) -> Range
-    ensures { result ≡ settled_of range content }
+pub fn settled(range: Range, largest: Option<Place>) -> Range
+    ensures { result ≡ settled_of range largest }
 {
     match range {
-        Range::Unknown => Range::Open(latest_place(content)),
-        Range::Open(start) => Range::Open(moved_start(start, content)),
-        Range::Closed(start, last) => Range::Closed(moved_start(start, content), last),
+        Range::Unknown => Range::Open(latest_place(largest)),
+        Range::Open(start) => Range::Open(moved_start(start, largest)),
+        Range::Closed(start, last) => Range::Closed(moved_start(start, largest), last),
     }
 }

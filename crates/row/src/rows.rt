@@ -6,7 +6,6 @@ use crate::places::is_small;
 use crate::ranges::{contains, is_known, is_small_range, settled};
 use crate::{Ending, NotCounted, Range, Row, State, TOP};
 use field::Place;
-use subscription::Content;
 
 // ---- what a row is
 
@@ -116,14 +115,14 @@ pub fn arrive(row: Row, place: Place) -> Result<Row, NotCounted>
 
 // What a SUBSCRIBE_OK comes to: an active row, but where it is active already.
 #[tactic(auto, unfolding(crate::specs::Rows::open_of, crate::specs::Rows::is_pending))]
-pub fn open(row: Row, content: Content) -> Option<Row>
-    ensures { told_opening result row ≡ open_of row content }
+pub fn open(row: Row, largest: Option<Place>) -> Option<Row>
+    ensures { told_opening result row ≡ open_of row largest }
 {
     match row.state {
         State::Active => None,
         State::Pending => Some(Row {
             state: State::Active,
-            range: settled(row.range, content),
+            range: settled(row.range, largest),
             ..row
         }),
     }

@@ -1,4 +1,5 @@
 -- What its layout forbids in a message of subscriptions: SUBSCRIBE and SUBSCRIBE_OK can hold it. Assumes nothing.
+use Rattle.std.specs.Prelude.{Option, Some, None}
 use Prim.Native.Nat.{ℕ}
 use mathlib.Core.Path.{◌≡◌, refl, sym, ◌∙◌}
 use mathlib.Core.Bool.{Bool, true, false, not}
@@ -16,8 +17,6 @@ use Rattle.types.specs.Rules.{ends_after}
 use Rattle.types.specs.Subscriptions.{ending, filter, delivery, subscribe, content, subscribe_ok}
 use Rattle.types.specs.Table.{messages, type_row_in, type_row_of, layout_of, allowed_typed}
 use Rattle.subscription.specs.Told.{filter_pieces, content_pieces, subscribe_pieces, typed_of}
-use Rattle.subscription.specs.declared.Content.{Content}
-use Rattle.subscription.specs.declared.Content.TheVariants.{Nothing, Largest}
 use Rattle.subscription.specs.declared.Filter.{Filter}
 use Rattle.subscription.specs.declared.Filter.TheVariants.{Range}
 use Rattle.subscription.specs.declared.Subscribe.{Subscribe}
@@ -45,10 +44,10 @@ module _ (x : Subscribe) {a : Bool} (first : a ≡ askable x.order) where
 
 -- ---- SUBSCRIBE_OK: its order is judged, and nothing is forbidden after it
 
-content-any : (c : Content) (e : Entries) → allowed content (content_pieces c ++ Listing Parameters e ∷ []) ≡ true
+content-any : (c : Option Place) (e : Entries) → allowed content (content_pieces c ++ Listing Parameters e ∷ []) ≡ true
 unfolding allowed place parameters content
-content-any Nothing e = refl
-content-any (Largest p) e = refl
+content-any None e = refl
+content-any (Some p) e = refl
 
 -- ---- a message
 
@@ -58,4 +57,4 @@ judged m = allowed_typed (typed_of m)
 
 pub ok-is : {m : SubscriptionMessage} {x : SubscribeOk} {a : Bool} → m ≡ ASubscribeOk x → a ≡ givable x.order → a ≡ judged m
 unfolding allowed subscribe_ok layout_of type_row_of type_row_in messages
-ok-is {x = x} which h = rw (which, content-any x.content x.parameters, test-alone (givable x.order)) h
+ok-is {x = x} which h = rw (which, content-any x.largest x.parameters, test-alone (givable x.order)) h

@@ -1,10 +1,12 @@
 -- The message that a type and fields say. Made of any fields that the layout of its type reads, it says them. Assumes nothing.
+use Rattle.std.specs.Prelude.{Option, Some, None}
 use Prim.Native.Nat.{ℕ}
 use mathlib.Core.Path.{◌≡◌, refl}
 use mathlib.Core.List.{List}
 use borrow.Author.Tests.{eqb-true}
 use lib.Dec.{eqb}
 use Rattle.common.specs.Choice.{pick}
+use Rattle.field.specs.declared.Place.{Place}
 use Rattle.field.specs.declared.Piece.{Piece}
 use Rattle.layout.proofs.Parts.{number_in, track_in, bytes_in, entries_in, place_in, failure_in}
 use Rattle.layout.specs.Typed.{Typed}
@@ -14,8 +16,6 @@ use Rattle.types.specs.Table.{typed_as, max_subscribe_id_row, subscribe_row, sub
 use Rattle.types.specs.Subscriptions.{subscribe_update, ending, filter, delivery, subscribe, content, subscribe_ok, subscribe_error, subscribe_done, id_only}
 use Rattle.subscription.specs.declared.Filter.{Filter}
 use Rattle.subscription.specs.declared.Filter.TheVariants.{Latest, From, Range}
-use Rattle.subscription.specs.declared.Content.{Content}
-use Rattle.subscription.specs.declared.Content.TheVariants.{Nothing, Largest}
 use Rattle.subscription.specs.declared.Subscribe.{Subscribe}
 use Rattle.subscription.specs.declared.SubscribeOk.{SubscribeOk}
 use Rattle.subscription.specs.declared.SubscriptionMessage.{SubscriptionMessage}
@@ -36,12 +36,12 @@ module _ (ps : List Piece) where
       pick (eqb (number_in ps 5) 2) (subscribe_by Latest 6)
       (pick (eqb (number_in ps 5) 3) (subscribe_by (From (place_in ps 6)) 8) (subscribe_by (Range (place_in ps 6) (number_in ps 8)) 9))
 
-  abbrev pub ok_by : Content → ℕ → SubscribeOk
-  ok_by held i = record { id = number_in ps 0; expires = number_in ps 1; order = number_in ps 2; content = held; parameters = entries_in ps i }
+  abbrev pub ok_by : Option Place → ℕ → SubscribeOk
+  ok_by held i = record { id = number_in ps 0; expires = number_in ps 1; order = number_in ps 2; largest = held; parameters = entries_in ps i }
 
   -- by whether content exists
   abbrev pub ok_in : SubscribeOk
-  ok_in = pick (eqb (number_in ps 3) 0) (ok_by Nothing 4) (ok_by (Largest (place_in ps 4)) 6)
+  ok_in = pick (eqb (number_in ps 3) 0) (ok_by None 4) (ok_by (Some (place_in ps 4)) 6)
 
   -- by the number of its type
   abbrev pub message_in : ℕ → SubscriptionMessage

@@ -1,16 +1,15 @@
 -- One possible answer: a message is put together again from what it says, so what it says, and what an answer says, loses nothing.
 -- Assumes nothing.
 use mathlib.Core.Path.{◌≡◌, refl}
-use Rattle.std.specs.Prelude.{ℕ, Result}
+use Rattle.std.specs.Prelude.{ℕ, Result, Option, Some, None}
 use Rattle.common.proofs.Telling.{once}
+use Rattle.field.specs.declared.Place.{Place}
 use Rattle.field.specs.declared.Fault.{Fault}
 use Rattle.layout.proofs.Family.{told_once}
 use Rattle.subscription.specs.Told.{typed_of, told}
 use Rattle.subscription.proofs.Made.{message_of}
 use Rattle.subscription.specs.declared.Filter.{Filter}
 use Rattle.subscription.specs.declared.Filter.TheVariants.{Latest, From, Range}
-use Rattle.subscription.specs.declared.Content.{Content}
-use Rattle.subscription.specs.declared.Content.TheVariants.{Nothing, Largest}
 use Rattle.subscription.specs.declared.Subscribe.{Subscribe}
 use Rattle.subscription.specs.declared.SubscribeOk.{SubscribeOk}
 use Rattle.subscription.specs.declared.SubscriptionMessage.{SubscriptionMessage}
@@ -24,16 +23,16 @@ subscribe-back m Latest e = rw e
 subscribe-back m (From p) e = rw e
 subscribe-back m (Range p last) e = rw e
 
-ok-back : (m : SubscribeOk) (held : Content) → m.content ≡ held → message_of (typed_of (ASubscribeOk m)) ≡ ASubscribeOk m
+ok-back : (m : SubscribeOk) (held : Option Place) → m.largest ≡ held → message_of (typed_of (ASubscribeOk m)) ≡ ASubscribeOk m
 unfolding message_of
-ok-back m Nothing e = rw e
-ok-back m (Largest p) e = rw e
+ok-back m None e = rw e
+ok-back m (Some p) e = rw e
 
 pub message-back : (m : SubscriptionMessage) → message_of (typed_of m) ≡ m
 unfolding message_of
 message-back (ASubscribeUpdate m) = refl
 message-back (ASubscribe m) = subscribe-back m m.filter refl
-message-back (ASubscribeOk m) = ok-back m m.content refl
+message-back (ASubscribeOk m) = ok-back m m.largest refl
 message-back (ASubscribeError m) = refl
 message-back (AUnsubscribe id) = refl
 message-back (ASubscribeDone m) = refl

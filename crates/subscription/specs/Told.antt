@@ -1,5 +1,6 @@
 -- Each message as the number of its type and its fields, in the order of its layout; and what a reader answers.
-use Rattle.std.specs.Prelude.{ℕ, List, [], ◌∷◌, ◌++◌, Result}
+use Rattle.std.specs.Prelude.{ℕ, List, [], ◌∷◌, ◌++◌, Result, Option, Some, None}
+use Rattle.field.specs.declared.Place.{Place}
 use Rattle.field.specs.Outcome.{Outcome}
 use Rattle.field.specs.declared.Fault.{Fault}
 use Rattle.field.specs.declared.Kind.TheVariants.{Parameters}
@@ -9,8 +10,6 @@ use Rattle.layout.specs.Typed.{Typed, told_typed}
 use Rattle.types.specs.Table.{typed_as, max_subscribe_id_row, subscribes_blocked_row, subscribe_row, subscribe_ok_row, subscribe_error_row, unsubscribe_row, subscribe_update_row, subscribe_done_row}
 use Rattle.subscription.specs.declared.Filter.{Filter}
 use Rattle.subscription.specs.declared.Filter.TheVariants.{Latest, From, Range}
-use Rattle.subscription.specs.declared.Content.{Content}
-use Rattle.subscription.specs.declared.Content.TheVariants.{Nothing, Largest}
 use Rattle.subscription.specs.declared.Subscribe.{Subscribe}
 use Rattle.subscription.specs.declared.SubscribeOk.{SubscribeOk}
 use Rattle.subscription.specs.declared.SubscribeError.{SubscribeError}
@@ -33,14 +32,14 @@ subscribe_pieces m =
 
 -- ---- SUBSCRIBE_OK
 
-abbrev pub content_pieces : Content → List Piece
-content_pieces Nothing = Byte 0 ∷ []
-content_pieces (Largest p) = Byte 1 ∷ Number p.group ∷ Number p.object ∷ []
+abbrev pub content_pieces : Option Place → List Piece
+content_pieces None = Byte 0 ∷ []
+content_pieces (Some p) = Byte 1 ∷ Number p.group ∷ Number p.object ∷ []
 
 abbrev pub ok_pieces : SubscribeOk → List Piece
 ok_pieces m =
     Number m.id ∷ Number m.expires ∷ Byte m.order
-    ∷ (content_pieces m.content ++ Listing Parameters m.parameters ∷ [])
+    ∷ (content_pieces m.largest ++ Listing Parameters m.parameters ∷ [])
 
 -- ---- the others
 

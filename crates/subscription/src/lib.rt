@@ -39,19 +39,13 @@ pub struct Subscribe {
     pub parameters: Entries,
 }
 
-// Whether content exists, and then the largest place.
-#[derive(Clone, Copy)]
-pub enum Content {
-    Nothing,
-    Largest(Place),
-}
-
+// `largest` is the largest place, where content exists.
 #[derive(Clone, Copy)]
 pub struct SubscribeOk {
     pub id: u64,
     pub expires: u64,
     pub order: u8,
-    pub content: Content,
+    pub largest: Option<Place>,
     pub parameters: Entries,
 }
 

@@ -8,10 +8,10 @@ ghost use Rattle.types.specs.SubscriptionKinds.{number_of, layout_of};
 ghost use Rattle.subscription.specs.Told.{filter_pieces, content_pieces, told};
 
 use crate::{
-    Content, Filter, Subscribe, SubscribeDone, SubscribeError, SubscribeOk, SubscribeUpdate,
+    Filter, Subscribe, SubscribeDone, SubscribeError, SubscribeOk, SubscribeUpdate,
     SubscriptionMessage as Message,
 };
-use field::{Fault, Kind};
+use field::{Fault, Kind, Place};
 use types::ends_after;
 use types::kinds::SubscriptionKind;
 
@@ -118,28 +118,28 @@ fn read_ok(s: &[u8], at: usize) -> Result<(Message, usize), Fault>
     if !field::is_givable(order) {
         return Err(Fault::Forbidden);
     }
-    let (content, d) = read_content(s, c)?;
+    let (largest, d) = read_content(s, c)?;
     let parameters = field::read_list(s, Kind::Parameters, d)?;
     let m = SubscribeOk {
         id,
         expires,
         order,
-        content,
+        largest,
         parameters,
     };
     Ok((Message::SubscribeOk(m), parameters.end))
 }
 
 // Whether content exists, and then the largest place.
-fn read_content(s: &[u8], at: usize) -> Result<(Content, usize), Fault>
+fn read_content(s: &[u8], at: usize) -> Result<(Option<Place>, usize), Fault>
     ensures { before_parameters content_pieces s.now result ≡ scan content s.now at }
 {
     let (exists, a) = field::read_byte(s, at)?;
     match exists {
-        0 => Ok((Content::Nothing, a)),
+        0 => Ok((None, a)),
         1 => {
             let (largest, b) = field::read_place(s, a)?;
-            Ok((Content::Largest(largest), b))
+            Ok((Some(largest), b))
         }
         _ => Err(Fault::Forbidden),
     }

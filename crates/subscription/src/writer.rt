@@ -6,7 +6,7 @@ ghost use Rattle.measure.specs.Fields.{placed};
 ghost use Rattle.types.specs.Subscriptions.{subscribe};
 ghost use Rattle.subscription.specs.Told.{subscribe_pieces, ok_pieces, update_pieces, typed_of};
 
-use crate::{Content, Filter, Subscribe, SubscribeOk, SubscribeUpdate, SubscriptionMessage};
+use crate::{Filter, Subscribe, SubscribeOk, SubscribeUpdate, SubscriptionMessage};
 use field::{Kind, Piece};
 use measure::Fields;
 use types::ends_after;
@@ -114,9 +114,9 @@ fn ok_fields(number: u64, x: SubscribeOk) -> Fields
     let expires = Piece::Number(x.expires);
     let order = Piece::Byte(x.order);
     let last = Piece::List(Kind::Parameters, x.parameters);
-    match x.content {
-        Content::Nothing => Fields::of(number, [id, expires, order, Piece::Byte(0), last]),
-        Content::Largest(largest) => {
+    match x.largest {
+        None => Fields::of(number, [id, expires, order, Piece::Byte(0), last]),
+        Some(largest) => {
             let group = Piece::Number(largest.group);
             let object = Piece::Number(largest.object);
             Fields::of(

@@ -22,14 +22,14 @@ pub returns-then-not-is_givable : goal.returns-then-not-is_givable
 unfolding subscribe_ok parameters
 returns-then-not-is_givable c = typed_no _ (search (stopping, c.in_ok-id.ensures, c.in_ok-expires.ensures, c.in_ok-order.ensures) depth 20)
 
-pub returns-in_err-content : goal.returns-in_err-content
+pub returns-in_err-largest : goal.returns-in_err-largest
 unfolding subscribe_ok parameters
-returns-in_err-content c = rw (handed c.from_residual-in_err-content.ensures.1) (typed_no _ (search (stopping, ends, c.in_ok-id.ensures, c.in_ok-expires.ensures, c.in_ok-order.ensures, c.in_err-content.ensures) depth 20))
+returns-in_err-largest c = rw (handed c.from_residual-in_err-largest.ensures.1) (typed_no _ (search (stopping, ends, c.in_ok-id.ensures, c.in_ok-expires.ensures, c.in_ok-order.ensures, c.in_err-largest.ensures) depth 20))
 
 pub returns-in_err-parameters : goal.returns-in_err-parameters
 unfolding subscribe_ok parameters
-returns-in_err-parameters c = rw (handed c.from_residual-in_err-parameters.ensures.1) (typed_no _ (search (stopping, Stops.past, c.in_ok-id.ensures, c.in_ok-expires.ensures, c.in_ok-order.ensures, c.in_ok-content.ensures, c.in_err-parameters.ensures) depth 20))
+returns-in_err-parameters c = rw (handed c.from_residual-in_err-parameters.ensures.1) (typed_no _ (search (stopping, Stops.past, c.in_ok-id.ensures, c.in_ok-expires.ensures, c.in_ok-order.ensures, c.in_ok-largest.ensures, c.in_err-parameters.ensures) depth 20))
 
 pub returns : goal.returns
 unfolding subscribe_ok parameters
-returns c = typed-whole _ (search (going, To.past, c.in_ok-id.ensures, c.in_ok-expires.ensures, c.in_ok-order.ensures, c.in_ok-content.ensures, c.in_ok-parameters.ensures) depth 20)
+returns c = typed-whole _ (search (going, To.past, c.in_ok-id.ensures, c.in_ok-expires.ensures, c.in_ok-order.ensures, c.in_ok-largest.ensures, c.in_ok-parameters.ensures) depth 20)
