@@ -17,7 +17,8 @@ fn answer_line(offset: u64, what: Item, number: u8, rule: u8) -> Line
     Line::of([Item::Number(offset), what, n, Item::Rule(rule as u64)])
 }
 
-// The reader's number stands before the ledger's answer.
+// The reader's number stands before the ledger's answer. (It stays beside `answer_line`: a list of one item more is an
+// array of another size, and a size that is a sum is no const argument.)
 fn malformed_line(offset: u64, refusal: u8, number: u8, rule: u8) -> Line
     ensures { result ≡ malformed_line offset refusal (record { number = number; rule = rule }) }
 {

@@ -1,6 +1,9 @@
 // Lines of text: words and numbers, with a space between two and a newline at the end.
 #![tactic(auto)]
 
+ghost use Rattle.std.specs.Prelude.{◌≡◌};
+ghost use Rattle.text.specs.declared.Item.TheVariants.{Number};
+
 mod digits;
 mod lines;
 mod words;
@@ -42,6 +45,8 @@ pub enum Item {
 }
 
 impl Default for Item {
+    ghost is_default = { λ item. item ≡ Number 0 };
+
     fn default() -> Self {
         Item::Number(0)
     }
