@@ -1,5 +1,4 @@
--- A list's first n elements from the i-th on, as a loop over an array's first n elements sees them; and the rows in use, so.
--- Assumes nothing.
+-- Parts of a list, as slices and loops over them see them; and how many rows are in use. Assumes nothing.
 use Rattle.std.specs.Simd.{first_chunks}
 use native.Mathlib.Nat.{mul-zero, mul-suc, add_comm}
 use Prim.Native.Nat.{ℕ, zero, suc, ◌+◌, ◌*◌, ◌-◌, ◌≤◌, ◌<◌}
@@ -8,8 +7,7 @@ use mathlib.Core.List.{List, [], ◌∷◌}
 use native.Mathlib.Numerals.{add-one}
 use native.Mathlib.Omega.{arith}
 use lib.ListN.{length, take, drop, get_or, drop_of_length-le, length-drop}
-use lib.Seq.{drop-drop, take_all, drop-cons, length-take-le, get_or-take}
-use Rattle.row.specs.declared.Row.{Row}
+use lib.Seq.{drop-drop, take_all, drop-cons, length-take-le}
 use Rattle.ledger.specs.Ledgers.{most_rows, held}
 use Rattle.ledger.specs.declared.Ledger.{Ledger}
 
@@ -32,25 +30,7 @@ chunk m (suc n) (suc k) xs h =
     chunk m n k (drop m xs) (omega arith)
     ∙ ap (take m) (drop-drop (m * k) m xs ∙ ap (λ (i : ℕ). drop i xs) (sym (mul-suc m k ∙ add_comm (m * k) m)))
 
--- the i-th of the first n, and those after it
-module _ {A : Type 0} (xs : List A) (n i : ℕ) (long : n ≤ length xs) where
-  pub part-next : (d : A) → i < n → drop i (take n xs) ≡ get_or xs i d ∷ drop (i + 1) (take n xs)
-  part-next d h =
-      rest-next (take n xs) i d (omega (arith, length-take-le n xs long)) ∙ rw (get_or-take n xs i d h)
-
-  -- after the last there are none
-  pub part_end : n ≤ i → drop i (take n xs) ≡ []
-  part_end h = rest_end (take n xs) i (omega (arith, length-take-le n xs long))
-
-module _ (l : Ledger) (long : length l.rows ≡ most_rows) (few : l.used ≤ most_rows) where
-  pub held-long : length (held l) ≡ l.used
-  unfolding held
-  held-long = length-take-le l.used l.rows (omega arith)
-
-  pub held_next : (i : ℕ) (d : Row) → i < l.used → drop i (held l) ≡ get_or l.rows i d ∷ drop (i + 1) (held l)
-  unfolding held
-  held_next i d h = part-next l.rows l.used i (omega arith) d h
-
-  pub held-end : (i : ℕ) → l.used ≤ i → drop i (held l) ≡ []
-  unfolding held
-  held-end i h = part_end l.rows l.used i (omega arith) h
+-- there are as many rows in use as the ledger says
+pub held-long : (l : Ledger) → length l.rows ≡ most_rows → l.used ≤ most_rows → length (held l) ≡ l.used
+unfolding held
+held-long l long few = length-take-le l.used l.rows (omega arith)

@@ -245,11 +245,6 @@ module _ {start : Ledger} {run before names : List ℕ} {opened : Bool} {used : 
           holds = rw (valid, fits) (g.holds ∙ (λ i. all_told i ++ drop (told i) before));
         }
 
--- the buffer stays as long as it was
-pub same-long : {start : Ledger} {run before names : List ℕ} {opened : Bool} {used : ℕ} {answers : List ℕ} {l : Ledger} {k : ℕ} → Along start run before names opened used answers l k → k ≤ length before → length answers ≡ length before
-same-long {before = before} {k = k} g h =
-    ap length g.holds ∙ length-append g.told (drop k before) ∙ rw (g.so_far, length-drop k before) (omega arith)
-
 -- an arrival's three numbers are there
 pub within : (n k : ℕ) → k < n / 3 → 3 * k + 2 < n
 within n k h = omega (arith, div-mul-le_self n 3)

@@ -36,9 +36,6 @@ module _ (l : Ledger) (places : length l.rows ≡ most_rows) {own : List ℕ} {n
       let zeros : List ℕ = replicate ledger_numbers 0 in
       p.holds ∙ rw (drop_of_length-le zeros {i = length (numbers_of l)} (omega (arith, numbers-length l places)), append-nil)
 
-  pub own-long : length own ≡ ledger_numbers
-  own-long = ap length own_is ∙ numbers-length l places
-
 -- ---- the ledger that is unpacked
 
 pub rows-in-length : (n : ℕ) (ns : List ℕ) (at : ℕ) → length (rows_named n ns at) ≡ n

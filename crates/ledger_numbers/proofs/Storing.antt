@@ -90,14 +90,6 @@ module _ (l : Ledger) {p s : ℕ} (e : p ≡ part_number l.part) (f : s ≡ clos
     pub rows_fit : length (numbers_of_rows l.rows) ≤ length (lent own_numbers (copied ++ drop own_numbers before))
     rows_fit = second_fits front-room front-put
 
-    -- and for both,
-    pub ledger-sum : {n : ℕ} {t : List ℕ} → Put (numbers_of_rows l.rows) (lent own_numbers (copied ++ drop own_numbers before)) n t → own_numbers + n ≤ length before
-    ledger-sum q = both-fit front-room front-put q
-
     -- and then all of them stand there,
     pub ledger-put : {n : ℕ} {t : List ℕ} → Put (numbers_of_rows l.rows) (lent own_numbers (copied ++ drop own_numbers before)) n t → Put (numbers_of l) before (own_numbers + n) (given own_numbers (copied ++ drop own_numbers before) t)
     ledger-put q = put_both front-room front-put q
-
-    -- in a buffer as long as it was
-    pub ledger-length : {n : ℕ} {t : List ℕ} → Put (numbers_of_rows l.rows) (lent own_numbers (copied ++ drop own_numbers before)) n t → length (given own_numbers (copied ++ drop own_numbers before) t) ≡ length before
-    ledger-length q = put-length (ledger-put q) fits

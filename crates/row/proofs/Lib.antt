@@ -1,4 +1,3 @@
-pub mod Checks
 pub mod Facts
 pub mod Keeping
 pub mod OneAnswer
