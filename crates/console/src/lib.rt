@@ -60,6 +60,7 @@ pub fn write(rt: &impl Print, text: &[u8]) -> Result<(), Failed> {
 }
 
 // Text that waits to be written, at the front of a page.
+#[derive(Drop)]
 pub struct Page {
     pub bytes: [u8; 65536],
     pub used: usize,
@@ -67,6 +68,15 @@ pub struct Page {
 }
 
 impl Page {
+    pub fn new() -> Page
+        ensures { result.used ≡ 0 }
+    {
+        Page {
+            bytes: [0u8; 65536],
+            used: 0,
+        }
+    }
+
     // Whatever waits is written.
     pub fn flush(&mut self, rt: &impl Print) -> Result<(), Failed>
         ensures { OnOk result (self.new.used ≡ 0) }

@@ -1,1 +1,1 @@
-pub mod Within
+mod Within

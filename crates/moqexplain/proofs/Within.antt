@@ -1,52 +1,23 @@
--- Text ends within the buffers of the program, and messages within the bytes that were read. Assumes nothing.
+-- Text ends within its page, and messages and fields within the bytes that were read. Assumes nothing.
 use Rattle.std.proofs.Common.{◌≡◌, ℕ, ◌+◌, ◌-◌, ◌<◌, ◌≤◌, Bool, true, false, List, length, take, drop, sym, refl, ap, ◌∙◌, arith, length-drop, length-take-le}
-use Rattle.std.specs.Prelude.{Some, None}
-use Rattle.message.specs.Reading.{read_of, told}
 use Rattle.std.specs.Prelude.{Option, Some, None, Result, Ok}
 use Rattle.types.specs.declared.Refusal.{Refusal}
+use Rattle.message.specs.Reading.{read_of, told}
 use Rattle.message.specs.declared.Message.{Message}
 use Rattle.message_writer.proofs.Theorems.{used-there}
 use Rattle.trace.specs.Fields.{field_size, is_whole}
 use Rattle.trace.proofs.Fed.{size-head, whole-fits}
 use Rattle.replay.specs.declared.Progress.{Progress}
-use Rattle.explanation.specs.Telling.{longest_lines}
 use Rattle.explanation_traces.specs.Traces.{taken_at}
 use Rattle.explanation_traces.specs.declared.FieldTaken.{FieldTaken}
-use Rattle.moqexplain.specs.Ending.{Ends, Rooms, Within}
-use Rattle.moqexplain.specs.declared.Found.TheVariants.{Whole, More, Refused}
 
--- what was not put has no end,
-pub short-ends : (room : ℕ) → Ends None room
-short-ends room n e = absurd (let z : ◌≡◌ {A = ℕ} 0 1 = cc in omega arith)
-
--- and what was put the one that is said
-pub done-ends : {end : ℕ} (room : ℕ) → end ≤ room → Ends (Some end) room
-done-ends {end} room h n e = let same : end ≡ n = cc in omega arith
-
--- there is room behind it
-pub short-rooms : (room : ℕ) → Rooms None room
-short-rooms room n e = absurd (let z : ◌≡◌ {A = ℕ} 0 1 = cc in omega arith)
-
-pub done-rooms : {end : ℕ} (room : ℕ) → end ≤ room → (longest_lines ≤ room → end + longest_lines ≤ room) → Rooms (Some end) room
-done-rooms {end} room h k n e = let same : end ≡ n = cc in (omega arith, λ l. omega (arith, k l))
-
--- a message that is not all there, or is refused, has no end,
-pub more_within : (at size : ℕ) → Within More at size
-more_within at size end e = absurd (let z : ◌≡◌ {A = ℕ} 0 1 = cc in omega arith)
-
-pub refused-within : (at size : ℕ) → Within Refused at size
-refused-within at size end e = absurd (let z : ◌≡◌ {A = ℕ} 0 1 = cc in omega arith)
-
--- and one that was read whole takes some bytes, all of which are there
+-- a message that was read takes some bytes, all of which are there
 pub read-there : (s : List ℕ) (at : ℕ) {r : Result (Message × ℕ) Refusal} {m : Message} {used : ℕ} → at ≤ length s
     → told r ≡ read_of (take (length s - at) (drop at s)) → r ≡ Ok (m, used) → (2 ≤ used) × (at + used ≤ length s)
 read-there s at h said is =
     let rest : length (drop at s) ≡ length s - at = length-drop at s in
     let there = used-there (take (length s - at) (drop at s)) (sym said ∙ ap told is) in
     (there.0, omega (arith, there.1, length-take-le (length s - at) (drop at s) (omega (arith, rest))))
-
-pub whole-within : {at used size : ℕ} → 2 ≤ used → at + used ≤ size → Within (Whole (at + used)) at size
-whole-within {at} {used} h k end e = let same : at + used ≡ end = cc in (omega arith, omega arith)
 
 -- ---- a field that was taken ends within the bytes, behind where it begins
 

@@ -2,48 +2,34 @@
 // time, whatever the trace's length.
 #![tactic(auto)]
 
-ghost use Rattle.std.specs.Prelude.{◌≡◌, ◌+◌, ◌≤◌, IfOk, length, take};
+ghost use Rattle.std.specs.Prelude.{◌≤◌, length};
 ghost use Rattle.common.specs.Buffer.{Put};
 ghost use Rattle.replay.specs.Progressing.{finish_of};
 ghost use Rattle.report.specs.Report.{text_of, longest_report};
 
+use console::Failed;
 use replay::Progress;
-use std::io;
-use std::io::Read;
 
-// A field has at most 65,538 bytes, so what is left of one always leaves room to read into.
 fn main(rt: HostRuntime) {
+    console::say_failed(&rt, "moqreport", report(&rt));
+}
+
+// A field has at most 65,538 bytes, so what is left of one always leaves room to read into. A proved loop has to end,
+// and nothing says that an input does: the turns go up to a number that no run comes to.
+fn report(rt: &(impl Input + Print)) -> Result<(), Failed> {
     let mut buffer = [0u8; 131072];
     let mut progress = replay::begin();
     let mut left: usize = 0;
-    // A proved loop has to end, and nothing says that an input does: the turns go up to a number that no run comes to.
     for _ in 0..u64::MAX {
-        let n = match read_behind(&rt, &mut buffer, left) {
-            Ok(n) => n,
-            Err(e) => return fail(&rt, "moqreport: standard input", e),
-        };
+        let n = console::read_behind(rt, &mut buffer, left)?;
         if n == 0 {
-            print(&rt, progress, left);
-            return;
+            return print(rt, progress, left);
         }
         let advanced = progress.advance(&mut buffer, left + n);
         progress = advanced.progress;
         left = advanced.left;
     }
-}
-
-// Says on standard error what failed, and why.
-fn fail(rt: &impl Eprint, what: &str, e: io::Error) {
-    let _ = eprintln!(rt; "{what}: {e}");
-}
-
-// One read into buffer, after what is left of the bytes before, which stays. It answers how many came.
-fn read_behind(rt: &impl Input, buffer: &mut [u8], left: usize) -> io::Result<usize>
-    requires { left ≤ length buffer.old }
-    ensures count { IfOk result (λ n. left + n ≤ length buffer.old) }
-    ensures front { take left buffer.new ≡ take left buffer.old }
-{
-    rt.reader().read(&mut buffer[left..])
+    Ok(())
 }
 
 // The report, where it has room.
@@ -54,10 +40,8 @@ fn put(out: &mut [u8], p: Progress, left: usize) -> usize
     report::of_progress(p, left, out).unwrap_or(0)
 }
 
-fn print(rt: &(impl Print + Eprint), p: Progress, left: usize) {
+fn print(rt: &impl Print, p: Progress, left: usize) -> Result<(), Failed> {
     let mut out = [0u8; report::LONGEST_REPORT];
     let n = put(&mut out, p, left);
-    if let Err(e) = rt.write_all(&out[..n]) {
-        fail(rt, "moqreport: standard output", e);
-    }
+    console::write(rt, &out[..n])
 }

@@ -9,6 +9,4 @@ loop-told-smaller g c =
     omega (arith, goes.after, goes.within)
 
 pub loop-told-preserved : goal.loop-told-preserved
-loop-told-preserved g c =
-    let goes = told-goes _ _ _ c.tell.ensures c.in-Some.is in
-    (omega (arith, c.print_line.ensures _ c.in-Some-print_line.is), goes.within)
+loop-told-preserved g c = (told-goes _ _ _ c.tell.ensures c.in-Some.is).within

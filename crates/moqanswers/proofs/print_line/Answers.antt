@@ -1,11 +1,14 @@
--- `print_line` meets its contract. Assumes nothing.
+-- A line ends within the page. Assumes nothing.
 use Rattle.std.proofs.Common.{arith}
-use Rattle.moqanswers.proofs.Within.{behind-fits, behind-ends}
+use Rattle.moqanswers.proofs.Within.{behind-fits}
 use Rattle.moqanswers.proofs.print_line.Goals as goal
 
-pub overflow_add-result : goal.overflow_add-result
-overflow_add-result g c =
-    omega (arith, behind-fits _ c.args.out.now c.args.at c.put.result c.requires c.put.ensures c.in-Some.is)
+pub overflow_add-page : goal.overflow_add-page
+overflow_add-page g c =
+    let page = c.make_room.new.self in
+    omega (arith, behind-fits _ page.bytes 65536 page.used c.put.result page.within c.put.ensures c.in-Some.is)
 
-pub returns : goal.returns
-returns g c = behind-ends _ c.args.out.now c.args.at c.put.result c.requires c.put.ensures c.in-Some.is
+pub invariant_of-page : goal.invariant_of-page
+invariant_of-page g c =
+    let page = c.make_room.new.self in
+    record { within = omega (arith, behind-fits _ page.bytes 65536 page.used c.put.result page.within c.put.ensures c.in-Some.is) }

@@ -3,14 +3,14 @@ use Rattle.std.proofs.Common.{arith}
 use Rattle.moqexplain.proofs.Within.{taken-goes}
 use Rattle.moqexplain.proofs.traces.print_fields.Goals as goal
 
-pub slice_bounds-field-count : goal.slice_bounds-field-count
-slice_bounds-field-count g c = omega (arith, (taken-goes _ _ _ c.tell.ensures c.in-Some.is).0)
+pub slice_bounds-print-count : goal.slice_bounds-print-count
+slice_bounds-print-count g c = omega (arith, (taken-goes _ _ _ c.tell.ensures c.in-Some.is).0)
 
-pub slice_bounds-field-start : goal.slice_bounds-field-start
-slice_bounds-field-start g c = omega (arith, (taken-goes _ _ _ c.tell.ensures c.in-Some.is).0)
+pub slice_bounds-print-start : goal.slice_bounds-print-start
+slice_bounds-print-start g c = omega (arith, (taken-goes _ _ _ c.tell.ensures c.in-Some.is).0)
 
-pub slice_bounds-field-end : goal.slice_bounds-field-end
-slice_bounds-field-end g c = (taken-goes _ _ _ c.tell.ensures c.in-Some.is).1
+pub slice_bounds-print-end : goal.slice_bounds-print-end
+slice_bounds-print-end g c = (taken-goes _ _ _ c.tell.ensures c.in-Some.is).1
 
 pub loop-taken-smaller : goal.loop-taken-smaller
 loop-taken-smaller g c =
@@ -18,6 +18,4 @@ loop-taken-smaller g c =
     omega (arith, goes.0, goes.1)
 
 pub loop-taken-preserved : goal.loop-taken-preserved
-loop-taken-preserved g c =
-    let goes = taken-goes _ _ _ c.tell.ensures c.in-Some.is in
-    (omega (arith, c.print.ensures _ c.in-Some-print.is), goes.1)
+loop-taken-preserved g c = (taken-goes _ _ _ c.tell.ensures c.in-Some.is).1

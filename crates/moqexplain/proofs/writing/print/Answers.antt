@@ -1,9 +1,7 @@
--- `print` meets its contract: the text ends within the buffer after each turn. Assumes nothing.
+-- `print` meets its contract: the text ends within the page after each turn. Assumes nothing.
 use Rattle.std.proofs.Common.{arith}
 use Rattle.columns.proofs.Poured.{poured-within}
 use Rattle.moqexplain.proofs.writing.print.Goals as goal
 
-pub loop-turns-preserved : goal.loop-turns-preserved
-loop-turns-preserved g c =
-    let room = c.make_room.ensures _ c.in_ok-front.was in
-    omega (arith, poured-within _ _ _ c.next-told.ensures.puts (omega (arith, room.0)))
+pub invariant_of-page : goal.invariant_of-page
+invariant_of-page g c = record { within = omega (arith, poured-within _ _ _ c.next-told.ensures.puts (omega (arith, c.make_room.new.self.within))) }

@@ -1,6 +1,6 @@
 -- What is left always lies within the buffer.
 use Rattle.std.proofs.Common.{◌≤◌, length}
-use Rattle.moqreport.proofs.main.Given as goal
+use Rattle.moqanswers.proofs.print_trace.Given as goal
 
 abbrev pub invariant-loop : goal.invariant-loop
-invariant-loop l = l.left ≤ length l.buffer
+invariant-loop g l = l.left ≤ length l.buffer
