@@ -42,7 +42,7 @@ fn line(offset: u64, e: Event, number: u8, rule: u8) -> Line
             number,
             rule,
         ),
-        Event::Malformed(refusal) => malformed_line(offset, refusal, number, rule),
+        Event::Malformed(refusal) => malformed_line(offset, refusal.number(), number, rule),
         Event::Arrived(_) => answer_line(offset, Item::Word(Word::Arrival), number, rule),
         Event::Fault => Line::of([]),
     }

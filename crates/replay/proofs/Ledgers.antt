@@ -1,7 +1,6 @@
 -- A ledger stays one, field by field. Assumes nothing.
 use Rattle.std.proofs.Common.{◌≡◌, ℕ, true, eqb, leb, List, length, get_or, refl, le-leb}
 use Rattle.std.specs.Prelude.{Ok, Err}
-use Rattle.common.specs.Answer.{number}
 use Rattle.common.proofs.Cases.{pick-by}
 use Rattle.integer.specs.Integer.{greatest}
 use Rattle.field.specs.Outcome.{Outcome, whole, no, on_found}
@@ -9,9 +8,9 @@ use Rattle.field.specs.Entries.{number_at}
 use Rattle.field.specs.Fields.{place_at}
 use Rattle.field.specs.declared.Place.{Place}
 use Rattle.field.proofs.Found.{number-at}
-use Rattle.message.specs.Reading.{Reading, told, on_whole}
+use Rattle.types.specs.Refusals.{number_of}
+use Rattle.message.specs.Reading.{Reading}
 use Rattle.message.proofs.OneReading.{reading_of}
-use Rattle.message.specs.declared.Message.{Message}
 use Rattle.row.specs.Places.{small}
 use Rattle.ledger.specs.Ledgers.{most_rows, is_ledger}
 use Rattle.ledger.specs.Steps.{start_of}
@@ -19,7 +18,7 @@ use Rattle.ledger.specs.declared.Part.{Part}
 use Rattle.ledger.specs.declared.Part.TheVariants.{Subscriber}
 use Rattle.ledger.proofs.Keeps.{keeps-take, keeps-malformed, keeps-arrival, starts}
 use Rattle.trace.specs.Fields.{number_of_tag, value_of}
-use Rattle.replay.specs.Events.{filling, part_by, started_by, malformed_by, reading_by, control_by, arrived_by, event_of}
+use Rattle.replay.specs.Events.{filling, part_by, started_by, reading_by, control_by, arrived_by, event_of}
 use Rattle.replay.specs.Progressing.{is_start, due_of, heard_of, step_of, step, begun}
 use Rattle.replay.specs.declared.Event.{Event}
 use Rattle.replay.specs.declared.Event.TheVariants.{Start, Control, Malformed, Arrived, Fault}
@@ -32,7 +31,7 @@ use Rattle.replay.specs.declared.Progress.{Progress}
 abbrev pub Startable : Event → Type 0
 Startable (Start part maximum) = small maximum ≡ true
 Startable (Control m) = Unit {0}
-Startable (Malformed number) = Unit {0}
+Startable (Malformed refusal) = Unit {0}
 Startable (Arrived a) = Unit {0}
 Startable Fault = Unit {0}
 
@@ -48,15 +47,9 @@ started-fits value = go (number_at value 1) refl
         (λ _. pick-by Startable (eqb (get_or value 0 0) 0) (λ _. fits) (λ _. pick-by Startable (eqb (get_or value 0 0) 1) (λ _. fits) (λ _. tt)))
         (λ _. tt)
 
-whole-fits : (r : Reading) (taken : Message → ℕ → Event) (rest : Event) → ((m : Message) (used : ℕ) → Startable (taken m used)) → Startable rest → Startable (on_whole r rest taken)
-whole-fits (Ok (m, used)) taken rest f g = f m used
-whole-fits (Err r) taken rest f g = g
-
 reading-fits : (value : List ℕ) (r : Reading) → Startable (reading_by value r)
-reading-fits value r =
-    whole-fits r (λ m used. filling value used (Control m)) (malformed_by (number (told r)))
-    (λ m used. pick-by Startable (eqb used (length value)) (λ _. tt) (λ _. tt))
-    (pick-by Startable (leb 2 (number (told r))) (λ _. tt) (λ _. tt))
+reading-fits value (Ok (m, used)) = pick-by Startable (eqb used (length value)) (λ _. tt) (λ _. tt)
+reading-fits value (Err refusal) = pick-by Startable (leb 2 (number_of refusal)) (λ _. tt) (λ _. tt)
 
 control-fits : (value : List ℕ) → Startable (control_by value)
 unfolding control_by
@@ -95,7 +88,7 @@ started-is part maximum h = starts part most_rows maximum (rw h)
 heard-keeps : (p : Progress) (e : Event) → Startable e → is_ledger p.ledger ≡ true → is_ledger (heard_of p e).ledger ≡ true
 heard-keeps p (Start part maximum) f w = started-is part maximum f
 heard-keeps p (Control m) f w = keeps-take p.ledger w m
-heard-keeps p (Malformed number) f w = keeps-malformed p.ledger w
+heard-keeps p (Malformed refusal) f w = keeps-malformed p.ledger w
 heard-keeps p (Arrived a) f w = keeps-arrival p.ledger w a
 heard-keeps p Fault f w = w
 

@@ -1,7 +1,6 @@
 -- What a field is, by what was read of its value. Assumes nothing.
-use Rattle.std.proofs.Common.{◌≡◌, ℕ, ◌<◌, List, length, get_or, sym, refl, ap, ◌∙◌, arith, eq-eqb, ne_eqb}
+use Rattle.std.proofs.Common.{◌≡◌, ℕ, ◌<◌, List, length, get_or, sym, ap, ◌∙◌, arith, eq-eqb, ne_eqb}
 use Rattle.std.specs.Prelude.{Ok, Err}
-use Rattle.common.specs.Answer.{number}
 use Rattle.field.specs.Outcome.{whole, no}
 use Rattle.field.specs.Fields.{field_at, integer, place_at}
 use Rattle.field.specs.declared.Fault.TheVariants.{Cut}
@@ -10,12 +9,11 @@ use Rattle.field.specs.declared.Place.{Place}
 use Rattle.field.proofs.Found.{number-at}
 use Rattle.field.proofs.TwoReads.{number-missing, number-there}
 use Rattle.types.specs.Limits.{longest_body}
-use Rattle.types.specs.Refusals.{number_of}
 use Rattle.types.specs.declared.Refusal.{Refusal}
 use Rattle.message.specs.Reading.{Reading, read_of, told}
 use Rattle.message.specs.declared.Message.{Message}
 use Rattle.message.proofs.OneReading.{reading-only}
-use Rattle.replay.specs.Events.{filling, part_by, started_by, malformed_by, reading_by, control_by, arrived_by}
+use Rattle.replay.specs.Events.{part_by, started_by, malformed_by, reading_by, control_by, arrived_by}
 use Rattle.replay.specs.declared.Event.{Event}
 use Rattle.replay.specs.declared.Event.TheVariants.{Control, Arrived, Fault}
 
@@ -49,8 +47,7 @@ unfolding control_by
 control-by value r said = ap (reading_by value) (reading-only longest_body value r said)
 
 -- no message,
-pub control-else : (value : List ℕ) (refusal : Refusal) {e : Event} → told (Err refusal) ≡ read_of value → e ≡ malformed_by (number_of refusal) → e ≡ control_by value
-unfolding number
+pub control-else : (value : List ℕ) (refusal : Refusal) {e : Event} → told (Err refusal) ≡ read_of value → e ≡ malformed_by refusal → e ≡ control_by value
 control-else value refusal said is = is ∙ control-by value (Err refusal) said
 
 -- or a message

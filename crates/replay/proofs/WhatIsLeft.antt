@@ -1,12 +1,13 @@
 -- What is left after the whole fields of bytes, and how it is moved to a buffer's front. Assumes nothing.
-use Rattle.std.proofs.Common.{◌≡◌, ℕ, suc, ◌+◌, ◌-◌, ◌<◌, ◌≤◌, Bool, true, false, leb, List, [], ◌∷◌, ◌++◌, length, get_or, take, drop, set, sym, refl, ap, ◌∙◌, add-one, arith, length-drop, length-set, drop_of_length-le, length-take-le, get_or-drop, take_all, drop-cons, take-suc, drop-drop, get_or-append-add, take-add, drop_at, leb-false, leb-true}
-use lib.Seq.{take-length, set_at, append_snoc}
+use Rattle.std.proofs.Common.{◌≡◌, ℕ, ◌+◌, ◌-◌, ◌<◌, ◌≤◌, min, Bool, true, false, leb, List, ◌++◌, length, take, drop, sym, refl, ap, ◌∙◌, arith, length-drop, drop_of_length-le, length-take-le, take_all, drop-drop, take-add, drop_at, leb-false, leb-true}
+use lib.Seq.{take-length}
+use Rattle.std.specs.List.{copy_within}
 use Rattle.common.specs.Buffer.{over}
 use Rattle.trace.specs.Fields.{field_size, is_whole}
 use Rattle.trace.specs.Feeding.{Held}
 use Rattle.trace.proofs.Fed.{whole-fits, fed_by}
 use Rattle.replay.specs.Progressing.{step, fed, fed_of}
-use Rattle.replay.specs.Advancing.{advance_of, Advances, kept_of, at_most}
+use Rattle.replay.specs.Advancing.{advance_of, Advances, kept_of}
 use Rattle.replay.specs.declared.Progress.{Progress}
 use Rattle.replay.specs.declared.Fed.{Fed}
 
@@ -49,51 +50,31 @@ pub rest-none : (p : Progress) (s : List ℕ) → is_whole (fed p s).rest ≡ fa
 unfolding fed
 rest-none = fed_by step (λ (p : Progress) (s : List ℕ) (h : Held Progress). is_whole h.rest ≡ false) (λ p s e. e) (λ p s h e w. w)
 
--- ---- moved to the front
-
-pub record Moved (before : List ℕ) (from : ℕ) (buffer : List ℕ) (i : ℕ) : Type 0 where
-  pub long : length buffer ≡ length before
-  pub holds : buffer ≡ take i (drop from before) ++ drop i before
-
--- one byte more
-one-moved : (before buffer : List ℕ) (from i : ℕ) → from + i < length before → buffer ≡ take i (drop from before) ++ drop i before → set buffer i (get_or buffer (from + i) 0) ≡ take (i + 1) (drop from before) ++ drop (i + 1) before
-one-moved before buffer from i h e =
-    let part = drop from before in
-    let long : length (take i part) ≡ i = length-take-le i part (omega (arith, length-drop from before)) in
-    let swap : from + i ≡ length (take i part) + from = omega (arith, long) in
-    let byte : get_or buffer (from + i) 0 ≡ get_or part i 0 =
-    (λ k. get_or (e k) (swap k) 0) ∙ get_or-append-add (take i part) (drop i before) from 0 ∙ get_or-drop i before from 0 ∙ ap (λ (n : ℕ). get_or before n 0) (omega arith) ∙ sym (get_or-drop from before i 0) in
-    let more : take (suc i) part ≡ take i part ++ (get_or part i 0 ∷ []) = take-suc part i 0 (omega (arith, length-drop from before)) in
-    (λ k. set (e k) i (byte k))
-    ∙ ap (λ (l : List ℕ). set (take i part ++ l) i (get_or part i 0)) (drop-cons before i 0 (omega arith))
-    ∙ set_at (take i part) (get_or before i 0) (drop (suc i) before) (get_or part i 0) i long
-    ∙ sym (append_snoc (take i part) (get_or part i 0) (drop (suc i) before))
-    ∙ (λ k. sym more k ++ drop (suc i) before)
-    ∙ ap (λ (n : ℕ). take n part ++ drop n before) (sym (add-one i))
-
-pub moved_more : {before : List ℕ} {from : ℕ} {buffer : List ℕ} {i : ℕ} → from + i < length before → Moved before from buffer i → Moved before from (set buffer i (get_or buffer (from + i) 0)) (i + 1)
-moved_more {before} {from} {buffer} {i} h m =
-    record { long = length-set buffer i _ ∙ m.long; holds = one-moved before buffer from i h m.holds }
-
 -- ---- a call
 
--- no more bytes than there are
-pub at-most-fits : (n most : ℕ) → at_most n most ≤ most
-at-most-fits n most = go (leb n most) refl
-  where
-    go : (b : Bool) → leb n most ≡ b → at_most n most ≤ most
-    go true e = rw e (leb-true n most e)
-    go false e = rw e (omega arith)
+-- a part that is copied to the front
+pub to_front : (before : List ℕ) (from end : ℕ) → copy_within before from end 0 ≡ take (end - from) (drop from before) ++ drop (end - from) before
+to_front before from end =
+    let none : 0 + (end - from) ≡ end - from = omega arith in
+    ap (λ (n : ℕ). take (end - from) (drop from before) ++ drop n before) none
 
-at-most-take : (n : ℕ) (l : List ℕ) → take (at_most n (length l)) l ≡ take n l
+-- no more bytes than there are
+pub at-most-fits : (n most : ℕ) → min n most ≤ most
+at-most-fits n most = omega arith
+
+at-most-take : (n : ℕ) (l : List ℕ) → take (min n (length l)) l ≡ take n l
 at-most-take n l = go (leb n (length l)) refl
   where
-    go : (b : Bool) → leb n (length l) ≡ b → take (at_most n (length l)) l ≡ take n l
-    go true e = rw e
-    go false e = rw e (take-length l ∙ sym (take_all n l (omega (arith, leb-false n (length l) e))))
+    go : (b : Bool) → leb n (length l) ≡ b → take (min n (length l)) l ≡ take n l
+    go true e =
+        let same : min n (length l) ≡ n = omega (arith, leb-true n (length l) e) in
+        ap (λ (k : ℕ). take k l) same
+    go false e =
+        let same : min n (length l) ≡ length l = omega (arith, leb-false n (length l) e) in
+        ap (λ (k : ℕ). take k l) same ∙ take-length l ∙ sym (take_all n l (omega (arith, leb-false n (length l) e)))
 
 -- bytes up to an offset are kept
-module _ (before : List ℕ) (from end : ℕ) {last : ℕ} (bound : last ≡ at_most end (length before)) where
+module _ (before : List ℕ) (from end : ℕ) {last : ℕ} (bound : last ≡ min end (length before)) where
   last_fits : last ≤ length before
   last_fits = omega (arith, bound, at-most-fits end (length before))
 
@@ -104,9 +85,6 @@ module _ (before : List ℕ) (from end : ℕ) {last : ℕ} (bound : last ≡ at_
   unfolding kept_of
   kept-none h = rw (← up_to, drop_of_length-le (take last before) {i = from} (omega (arith, length-take-le last before last_fits)))
 
-  pub keeps-fit : from < last → from + (last - from) ≤ length before
-  keeps-fit h = omega (arith, last_fits)
-
   pub kept : {after : List ℕ} → from < last → after ≡ take (last - from) (drop from before) ++ drop (last - from) before → after ≡ kept_of before from end
   unfolding kept_of
   kept h e =
@@ -115,7 +93,7 @@ module _ (before : List ℕ) (from end : ℕ) {last : ℕ} (bound : last ≡ at_
       let count : last - from ≡ length (take (last - from) (drop from before)) = sym (length-take-le (last - from) (drop from before) (omega (arith, last_fits, length-drop from before))) in
       e ∙ ap (λ (n : ℕ). take (last - from) (drop from before) ++ drop n before) count ∙ ap (λ (l : List ℕ). over l before) part
 
-module _ (p : Progress) (before : List ℕ) (filled : ℕ) {end : ℕ} {f : Fed} (bound : end ≡ at_most filled (length before)) (fields : f ≡ fed_of p (take end before)) where
+module _ (p : Progress) (before : List ℕ) (filled : ℕ) {end : ℕ} {f : Fed} (bound : end ≡ min filled (length before)) (fields : f ≡ fed_of p (take end before)) where
   abbrev rest : List ℕ
   rest = (fed p (take end before)).rest
 
@@ -131,9 +109,6 @@ module _ (p : Progress) (before : List ℕ) (filled : ℕ) {end : ℕ} {f : Fed}
 
   pub used-fits : f.used ≤ end
   used-fits = omega (arith, used)
-
-  pub moves-fit : f.used + (end - f.used) ≤ length before
-  moves-fit = omega (arith, used, bound, at-most-fits filled (length before))
 
   pub advanced : {after : List ℕ} → after ≡ take (end - f.used) (drop f.used before) ++ drop (end - f.used) before → Advances (advance_of p before filled) (record { progress = f.progress; left = end - f.used }) after
   unfolding advance_of fed_of

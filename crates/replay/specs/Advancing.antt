@@ -1,6 +1,5 @@
 -- A trace that is read into a buffer, piece by piece: each piece goes after what is left of the bytes before.
-use Rattle.std.specs.Prelude.{◌≡◌, ℕ, List, length, take, drop, nat_le}
-use Rattle.common.specs.Choice.{pick}
+use Rattle.std.specs.Prelude.{◌≡◌, ℕ, List, length, take, drop}
 use Rattle.common.specs.Buffer.{over}
 use Rattle.replay.specs.Progressing.{fed}
 use Rattle.replay.specs.declared.Progress.{Progress}
@@ -26,6 +25,3 @@ pub record Advances (w : Onward) (r : Advanced) (after : List ℕ) : Type 0 wher
 -- the bytes from one offset on, up to another, at the front, and every byte after them as it was
 unfoldable pub kept_of : List ℕ → ℕ → ℕ → List ℕ
 kept_of before from end = over (drop from (take end before)) before
-
-abbrev pub at_most : ℕ → ℕ → ℕ
-at_most n most = pick (nat_le n most) n most

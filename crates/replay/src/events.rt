@@ -1,9 +1,8 @@
 // What a field of a trace is, by its tag and its value.
 ghost use Rattle.std.specs.Prelude.{◌≡◌};
-ghost use Rattle.types.specs.Refusals.{number_of};
 ghost use Rattle.replay.specs.Events.{started_by, control_by, malformed_by, arrived_by, as_event, event_of};
 
-use crate::{Event, Next};
+use crate::Event;
 use field::Arrival;
 use ledger::Part;
 use types::Refusal;
@@ -15,8 +14,8 @@ pub fn event_of(tag: u8, value: &[u8]) -> Event
         1 => started(value),
         2 => control(value),
         3 => match arrived(value) {
-            Next::One(a) => Event::Arrived(a),
-            Next::Other => Event::Fault,
+            Some(a) => Event::Arrived(a),
+            None => Event::Fault,
         },
         _ => Event::Fault,
     }
@@ -54,28 +53,28 @@ fn control(value: &[u8]) -> Event
     }
 }
 
-// Bytes that are no message: 1 is a fault, any other number is malformed.
+// Bytes that are no message: a fault where more are needed, and else malformed.
 fn malformed(refusal: Refusal) -> Event
-    ensures { result ≡ malformed_by (number_of refusal) }
+    ensures { result ≡ malformed_by refusal }
 {
     match refusal {
         Refusal::More => Event::Fault,
-        _ => Event::Malformed(refusal.number()),
+        _ => Event::Malformed(refusal),
     }
 }
 
 // Alias, group and object, where that is what the value holds.
-pub fn arrived(value: &[u8]) -> Next
+pub fn arrived(value: &[u8]) -> Option<Arrival>
     ensures { as_event result ≡ arrived_by value.now }
 {
     let Ok((alias, next)) = field::read_number(value, 0) else {
-        return Next::Other;
+        return None;
     };
     let Ok((place, end)) = field::read_place(value, next) else {
-        return Next::Other;
+        return None;
     };
     if end != value.len() {
-        return Next::Other;
+        return None;
     }
-    Next::One(Arrival { alias, place })
+    Some(Arrival { alias, place })
 }

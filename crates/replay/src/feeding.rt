@@ -19,12 +19,11 @@ impl Progress {
         let mut used: usize = 0;
         loop {
             let turned = turn(progress, s, used, &mut run, &mut answers);
-            let next = turned.used;
-            if next == used {
+            if turned.used == used {
                 return Fed { progress, used };
             }
             progress = turned.progress;
-            used = next;
+            used = turned.used;
         }
     }
 }
@@ -34,20 +33,16 @@ fn turn(p: Progress, s: &[u8], at: usize, run: &mut [u64], answers: &mut [u8]) -
     requires { (at ≤ length s.now) × (length run.old ≡ 3 * length answers.old) }
     ensures { Turns p s.now at result }
 {
-    let stage = p.stage;
-    if !is_running(stage) {
+    let Stage::Running = p.stage else {
         return one(p, s, at);
-    }
+    };
     let g = gather(s, at, run);
-    let count = g.count;
-    if count == 0 {
+    if g.count == 0 {
         return one(p, s, at);
     }
-    let end = g.end;
-    let progress = arrive(p, &run[..3 * count], answers, end - at);
     Fed {
-        progress,
-        used: end,
+        progress: arrive(p, &run[..3 * g.count], answers, g.end - at),
+        used: g.end,
     }
 }
 
@@ -62,23 +57,10 @@ fn one(p: Progress, s: &[u8], at: usize) -> Fed
             used: at,
         };
     };
-    let start = f.start;
-    let end = f.end;
-    let stepped = p.step(event_of(f.tag, &s[start..end]), end - at);
-    let progress = stepped.progress;
+    let stepped = p.step(event_of(f.tag, &s[f.start..f.end]), f.end - at);
     Fed {
-        progress,
-        used: end,
-    }
-}
-
-fn is_running(stage: Stage) -> bool
-    ensures { result ≡ is_running stage }
-{
-    match stage {
-        Stage::Empty => false,
-        Stage::Running => true,
-        Stage::Faulty(_) => false,
+        progress: stepped.progress,
+        used: f.end,
     }
 }
 
@@ -87,13 +69,9 @@ fn arrive(p: Progress, run: &[u64], answers: &mut [u8], size: usize) -> Progress
     requires { length run.now ≤ 3 * length answers.old }
     ensures { result ≡ arrived_all p run.now size }
 {
-    let stage = p.stage;
-    let l = p.ledger;
-    let ran = l.arrivals(run, answers);
-    let ledger = ran.ledger;
     Progress {
-        ledger,
-        stage,
-        offset: std::num::wrapping_add_u64(p.offset, size as u64),
+        ledger: p.ledger.arrivals(run, answers).ledger,
+        offset: p.offset.wrapping_add(size as u64),
+        ..p
     }
 }

@@ -3,8 +3,9 @@ ghost use Rattle.std.specs.Prelude.{◌≡◌, ◌≤◌, length};
 ghost use Rattle.replay.specs.Events.{as_event};
 ghost use Rattle.replay.specs.Gathering.{Gathers, arrival_in};
 
+use crate::Gathered;
 use crate::events::arrived;
-use crate::{Gathered, Next};
+use field::Arrival;
 use trace::{Field, field_at};
 
 // Whole fields from an offset on, as long as they are arrivals and run has room: three numbers each.
@@ -19,13 +20,12 @@ pub fn gather(s: &[u8], at: usize, run: &mut [u64]) -> Gathered
         let Some(f) = field_at(s, end) else {
             return Gathered { count, end };
         };
-        let Next::One(a) = arrival_in(s, f) else {
+        let Some(a) = arrival_in(s, f) else {
             return Gathered { count, end };
         };
-        let place = a.place;
         run[3 * count] = a.alias;
-        run[3 * count + 1] = place.group;
-        run[3 * count + 2] = place.object;
+        run[3 * count + 1] = a.place.group;
+        run[3 * count + 2] = a.place.object;
         count += 1;
         end = f.end;
     }
@@ -33,14 +33,12 @@ pub fn gather(s: &[u8], at: usize, run: &mut [u64]) -> Gathered
 }
 
 // Whether a field is an arrival, and which.
-fn arrival_in(s: &[u8], f: Field) -> Next
+fn arrival_in(s: &[u8], f: Field) -> Option<Arrival>
     requires { (f.start ≤ f.end) × (f.end ≤ length s.now) }
     ensures { as_event result ≡ arrival_in s.now f }
 {
     if f.tag != 3 {
-        return Next::Other;
+        return None;
     }
-    let start = f.start;
-    let end = f.end;
-    arrived(&s[start..end])
+    arrived(&s[f.start..f.end])
 }

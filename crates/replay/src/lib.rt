@@ -13,14 +13,15 @@ use field::Arrival;
 use ledger::{Ledger, Part};
 use message::Message;
 pub use steps::begin;
+use types::Refusal;
 
-// What a field of a trace is: the start, with a part and a maximum; a whole message; bytes that are none, with the
-// reader's number; an arrival; or none of these.
+// What a field of a trace is: the start, with a part and a maximum; a whole message; bytes that are none, with why the
+// reader refuses them; an arrival; or none of these.
 #[derive(Clone, Copy)]
 pub enum Event {
     Start(Part, u64),
     Control(Message),
-    Malformed(u8),
+    Malformed(Refusal),
     Arrived(Arrival),
     Fault,
 }
@@ -71,13 +72,6 @@ pub struct Fed {
 pub struct Advanced {
     pub progress: Progress,
     pub left: usize,
-}
-
-// What a field is where an arrival is looked for: one, or another field.
-#[derive(Clone, Copy)]
-enum Next {
-    One(Arrival),
-    Other,
 }
 
 // Arrivals that stand next to each other: how many, and where the last one's field ends.

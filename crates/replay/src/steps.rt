@@ -10,10 +10,8 @@ use ledger::{Ledger, MOST_ROWS, Part, Taken};
 pub fn begin() -> Progress
     ensures { result ≡ begun }
 {
-    let started = ledger::start(Part::Subscriber, MOST_ROWS, 0);
-    let ledger = started.ledger;
     Progress {
-        ledger,
+        ledger: ledger::start(Part::Subscriber, MOST_ROWS, 0).ledger,
         stage: Stage::Empty,
         offset: 0,
     }
@@ -24,19 +22,16 @@ impl Progress {
     pub fn step(self, e: Event, size: usize) -> Stepped
         ensures { told_step result ≡ step_of self e size }
     {
-        let stage = self.stage;
-        let event = due(stage, e);
+        let event = due(self.stage, e);
         let heard = hear(self, event);
-        let ledger = heard.ledger;
-        let next = heard.stage;
         Stepped {
             event,
             number: heard.number,
             rule: heard.rule,
             progress: Progress {
-                ledger,
-                stage: next,
-                offset: std::num::wrapping_add_u64(self.offset, size as u64),
+                ledger: heard.ledger,
+                stage: heard.stage,
+                offset: self.offset.wrapping_add(size as u64),
             },
         }
     }
@@ -45,12 +40,9 @@ impl Progress {
     pub fn finish(self, left: usize) -> Progress
         ensures { result ≡ finish_of self left }
     {
-        let stage = self.stage;
-        let ledger = self.ledger;
         Progress {
-            ledger,
-            stage: last_stage(stage, self.offset, left),
-            offset: self.offset,
+            stage: last_stage(self.stage, self.offset, left),
+            ..self
         }
     }
 }
@@ -59,49 +51,32 @@ impl Progress {
 fn due(stage: Stage, e: Event) -> Event
     ensures { result ≡ due_of stage e }
 {
-    let start = is_start(e);
-    match stage {
-        Stage::Empty => {
-            if start {
-                return e;
-            }
-            return Event::Fault;
-        }
-        Stage::Running => {
-            if start {
-                return Event::Fault;
-            }
-            return e;
-        }
-        Stage::Faulty(_) => return Event::Fault,
+    match (stage, is_start(e)) {
+        (Stage::Empty, true) | (Stage::Running, false) => e,
+        _ => Event::Fault,
     }
 }
 
 fn is_start(e: Event) -> bool
     ensures { result ≡ is_start e }
 {
-    match e {
-        Event::Start(_, _) => true,
-        _ => false,
-    }
+    matches!(e, Event::Start(_, _))
 }
 
 // The ledger takes what is due.
 fn hear(p: Progress, e: Event) -> Heard
     ensures { told_heard result ≡ heard_of p e }
 {
-    let l = p.ledger;
-    let stage = p.stage;
     match e {
-        Event::Start(part, maximum) => return heard(ledger::start(part, MOST_ROWS, maximum)),
-        Event::Control(m) => return heard(l.take(m)),
-        Event::Malformed(_) => return heard(l.malformed()),
-        Event::Arrived(a) => return heard(l.arrival(a)),
-        Event::Fault => return Heard {
+        Event::Start(part, maximum) => heard(ledger::start(part, MOST_ROWS, maximum)),
+        Event::Control(m) => heard(p.ledger.take(m)),
+        Event::Malformed(_) => heard(p.ledger.malformed()),
+        Event::Arrived(a) => heard(p.ledger.arrival(a)),
+        Event::Fault => Heard {
             number: 0,
             rule: 0,
-            ledger: l,
-            stage: first_fault(stage, p.offset),
+            ledger: p.ledger,
+            stage: first_fault(p.stage, p.offset),
         },
     }
 }
@@ -109,12 +84,10 @@ fn hear(p: Progress, e: Event) -> Heard
 fn heard(t: Taken) -> Heard
     ensures { told_heard result ≡ goes_on (told t) }
 {
-    let answer = t.answer;
-    let ledger = t.ledger;
     Heard {
-        number: ledger::number(answer),
-        rule: ledger::broken(answer),
-        ledger,
+        number: ledger::number(t.answer),
+        rule: ledger::broken(t.answer),
+        ledger: t.ledger,
         stage: Stage::Running,
     }
 }
@@ -124,9 +97,8 @@ fn first_fault(stage: Stage, offset: u64) -> Stage
     ensures { result ≡ first_fault stage offset }
 {
     match stage {
-        Stage::Empty => Stage::Faulty(offset),
-        Stage::Running => Stage::Faulty(offset),
-        Stage::Faulty(at) => Stage::Faulty(at),
+        Stage::Empty | Stage::Running => Stage::Faulty(offset),
+        Stage::Faulty(_) => stage,
     }
 }
 
@@ -136,12 +108,7 @@ fn last_stage(stage: Stage, offset: u64, left: usize) -> Stage
 {
     match stage {
         Stage::Empty => Stage::Faulty(0),
-        Stage::Running => {
-            if left == 0 {
-                return Stage::Running;
-            }
-            Stage::Faulty(offset)
-        }
-        Stage::Faulty(at) => Stage::Faulty(at),
+        Stage::Running if left > 0 => Stage::Faulty(offset),
+        Stage::Running | Stage::Faulty(_) => stage,
     }
 }

@@ -10,11 +10,11 @@ pub turn-turned-requires : goal.turn-turned-requires
 turn-turned-requires c =
     (c.loop-used.invariant.within, omega (arith, c.loop-used.invariant.room, c.loop-used.invariant.answer-room))
 
-pub returns-then-next-used : goal.returns-then-next-used
-returns-then-next-used c = last_turn c.loop-used.invariant c.turn-turned.ensures c.if-next-used.true
+pub returns-then-turned-used : goal.returns-then-turned-used
+returns-then-turned-used c = last_turn c.loop-used.invariant c.turn-turned.ensures c.if-turned-used.true
 
 pub loop-used-smaller : goal.loop-used-smaller
-loop-used-smaller c = let t = c.turn-turned.ensures in omega (arith, t.goes_on, t.ends, c.if-next-used.false)
+loop-used-smaller c = let t = c.turn-turned.ensures in omega (arith, t.goes_on, t.ends, c.if-turned-used.false)
 
 pub loop-used-preserved : goal.loop-used-preserved
 loop-used-preserved c =

@@ -1,12 +1,10 @@
 -- `keep` meets its contract. Assumes nothing.
-use Rattle.replay.proofs.WhatIsLeft.{kept-none, keeps-fit, kept}
+use Rattle.std.proofs.Common.{◌∙◌}
+use Rattle.replay.proofs.WhatIsLeft.{to_front, kept-none, kept}
 use Rattle.replay.proofs.advancing.keep.Goals as goal
 
-pub returns-then-last-from : goal.returns-then-last-from
-returns-then-last-from c = kept-none _ _ _ c.at_most-last.ensures c.if-last-from.true
+pub returns-then-from-last : goal.returns-then-from-last
+returns-then-from-last c = kept _ _ _ c.min-last.ensures c.if-from-last.true (c.copy_within.ensures.after ∙ to_front c.args.buffer.now c.args.from c.min-last.result)
 
-pub move_front-requires : goal.move_front-requires
-move_front-requires c = let a = c.args in keeps-fit a.buffer.now _ a.end c.at_most-last.ensures c.if-last-from.false
-
-pub returns : goal.returns
-returns c = kept _ _ _ c.at_most-last.ensures c.if-last-from.false c.move_front.ensures
+pub returns-else-from-last : goal.returns-else-from-last
+returns-else-from-last c = kept-none _ _ _ c.min-last.ensures c.if-from-last.false

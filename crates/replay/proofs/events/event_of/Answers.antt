@@ -11,13 +11,13 @@ pub returns-in-2 : goal.returns-in-2
 unfolding event_of
 returns-in-2 c = c.control.ensures ∙ rw c.in-2.is
 
-pub returns-in-Other : goal.returns-in-Other
+pub returns-in-None : goal.returns-in-None
 unfolding event_of
-returns-in-Other c = sym (ap as_event c.in-Other.is) ∙ c.arrived.ensures ∙ rw c.in-3.is
+returns-in-None c = sym (ap as_event c.in-None.is) ∙ c.arrived.ensures ∙ rw c.in-3.is
 
-pub returns-in-One : goal.returns-in-One
+pub returns-in-Some : goal.returns-in-Some
 unfolding event_of
-returns-in-One c = sym (ap as_event c.in-One.is) ∙ c.arrived.ensures ∙ rw c.in-3.is
+returns-in-Some c = sym (ap as_event c.in-Some.is) ∙ c.arrived.ensures ∙ rw c.in-3.is
 
 pub returns-in_default : goal.returns-in_default
 unfolding event_of

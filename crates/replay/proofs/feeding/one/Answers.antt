@@ -15,8 +15,8 @@ slice_bounds-event_of-start c = (stands _ _ c.field_at.ensures c.in-Some.is).ord
 pub slice_bounds-event_of-end : goal.slice_bounds-event_of-end
 slice_bounds-event_of-end c = (stands _ _ c.field_at.ensures c.in-Some.is).within
 
-pub overflow_sub-end : goal.overflow_sub-end
-overflow_sub-end c = let w = stands _ _ c.field_at.ensures c.in-Some.is in omega (arith, w.ends)
+pub overflow_sub-f : goal.overflow_sub-f
+overflow_sub-f c = let w = stands _ _ c.field_at.ensures c.in-Some.is in omega (arith, w.ends)
 
 pub returns : goal.returns
 returns c = one-turn _ _ _ c.field_at.ensures c.in-Some.is c.event_of.ensures c.step-stepped.ensures

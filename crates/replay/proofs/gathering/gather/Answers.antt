@@ -32,7 +32,7 @@ bounds-run-count-in-loop-count-2 c = simp length-set (omega (arith, c.loop-count
 
 pub loop-count-preserved : goal.loop-count-preserved
 loop-count-preserved c =
-    gathers-more c.loop-count.invariant c.field_at.ensures c.in-Some.is c.arrival_in.ensures (ap as_event c.in-One.is) (search rules)
+    gathers-more c.loop-count.invariant c.field_at.ensures c.in-Some.is c.arrival_in.ensures (ap as_event c.in-Some-arrival_in.is) (search rules)
 
 pub shape_of-run : goal.shape_of-run
 shape_of-run c = c.loop-count.invariant.same-room

@@ -9,4 +9,4 @@ use Rattle.replay.proofs.steps.begin.Goals as goal
 pub returns : goal.returns
 unfolding start_of small
 returns c =
-    ap (λ (came : Came). record { ledger = came.next; stage = Empty; offset = 0 }) c.start-started.ensures
+    ap (λ (came : Came). record { ledger = came.next; stage = Empty; offset = 0 }) c.start.ensures
