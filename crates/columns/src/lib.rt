@@ -1,5 +1,7 @@
 // Lines in columns, put into a lent buffer from an offset on: offsets, bytes in hexadecimal, bytes as text. What
-// doesn't fit the buffer is lost, so that no function asks for room; each hands back where the next byte goes.
+// doesn't fit the buffer is lost, so that no function asks for room; each hands back where the next byte goes. (Buffer
+// and offset stay two parameters: a struct that holds a `&mut` has to say in each contract that it keeps the buffer,
+// `page.new.out.ghost_name ≡ page.old.out.ghost_name`, which is longer than what each says of the text.)
 #![tactic(auto)]
 
 mod bytes;

@@ -39,7 +39,8 @@ pub fn read_behind(rt: &impl Input, buffer: &mut [u8], left: usize) -> Result<us
     rt.reader().read(&mut buffer[left..]).map_err(Failed::Input)
 }
 
-// Fills buffer from a reader, as far as what is read goes. It answers how many bytes came.
+// Fills buffer from a reader, as far as what is read goes. It answers how many bytes came. (No `for`: it counts bytes,
+// and a read brings as many as it likes.)
 pub fn read_full(from: &mut impl Read, buffer: &mut [u8]) -> io::Result<usize>
     ensures { IfOk result (λ n. n ≤ length buffer.old) }
 {

@@ -1,5 +1,7 @@
 // The kinds of field that control messages and data headers are made of, read at an offset of the caller's bytes:
-// numbers as they are, bytes as parts of the caller's. Nothing is copied.
+// numbers as they are, bytes as parts of the caller's. Nothing is copied. (The bytes and an offset stay two parameters,
+// as definitions have them, `field_at integer s at`: a reader that went on by itself would have to say, for each
+// refusal, where it stands then.)
 #![tactic(auto)]
 
 ghost use Rattle.std.specs.Prelude.{◌≡◌};

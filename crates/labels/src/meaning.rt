@@ -5,7 +5,7 @@ ghost use Rattle.labels.specs.Meanings.{meaning_of};
 
 use columns::put_str;
 
-// Another number has no meaning.
+// Another number has no meaning. (A match: of a table of texts that a number looks up the proof doesn't close.)
 fn meaning(number: u8) -> &'static str
     ensures { result.now ≡ meaning_of number }
 {

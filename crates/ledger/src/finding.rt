@@ -1,4 +1,5 @@
-// Where a row in use stands: the first with this ID, or with this alias.
+// Where a row in use stands: the first with this ID, or with this alias. (Two functions of a line: one that is handed
+// the test would say by `F.post` what each says by its equation.)
 ghost use Rattle.std.specs.Prelude.{◌≡◌, ◌≤◌};
 ghost use Rattle.ledger.specs.Ledgers.{most_rows, held};
 ghost use Rattle.ledger.specs.Steps.{id_of, alias_of};

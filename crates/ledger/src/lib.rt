@@ -43,7 +43,8 @@ pub enum Rule {
     R7,
 }
 
-// A session is open, or closed by the rule that a peer's message broke.
+// A session is open, or closed by the rule that a peer's message broke. (It stays an enum of its own: `Some(R6)` would
+// not say that it is closed.)
 #[derive(Clone, Copy)]
 pub enum Session {
     Open,

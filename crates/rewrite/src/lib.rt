@@ -1,4 +1,5 @@
-// One message or header is read from the front of bytes, and written again in its shortest form.
+// One message or header is read from the front of bytes, and written again in its shortest form. (Each call answers
+// document 01's number and lends three places, and no Result: C calls it so.)
 #![tactic(auto)]
 
 mod headers;
