@@ -13,11 +13,10 @@ use Rattle.std.specs.Prelude.{Option, Some, None}
 use Rattle.trace.proofs.Fed.{size-take, size-head, whole-fits, fed-field, fed-none}
 use Rattle.replay.specs.Events.{event_of}
 use Rattle.replay.specs.Progressing.{due_of, heard_of, offset_of, Stepping, step_of, step, fed, fed_of, arrived_all, told_heard, told_step, holding}
-use Rattle.replay.specs.Gathering.{is_running, arrival_in, Gathers, Turns}
+use Rattle.replay.specs.Gathering.{arrival_in, Gathers, Further, Turns}
 use Rattle.replay.specs.declared.Event.{Event}
 use Rattle.replay.specs.declared.Event.TheVariants.{Arrived, Fault}
-use Rattle.replay.specs.declared.Stage.{Stage}
-use Rattle.replay.specs.declared.Stage.TheVariants.{Empty, Running, Faulty}
+use Rattle.replay.specs.declared.Stage.TheVariants.{Running}
 use Rattle.replay.specs.declared.Progress.{Progress}
 use Rattle.replay.specs.declared.Heard.{Heard}
 use Rattle.replay.specs.declared.Stepped.{Stepped}
@@ -124,24 +123,18 @@ module _ {s : List ℕ} {at : ℕ} {f : Field} (w : Stands s at f) where
 
 -- ---- a turn
 
-module _ (p : Progress) (s : List ℕ) (at : ℕ) {r : Option Field} (said : r ≡ field_of s at) where
-  -- nothing is used where no field stands,
-  pub no-turn : at ≤ length s → r ≡ None → Turns p s at (record { progress = p; used = at })
-  no-turn h cut = record { goes_on = omega arith; ends = h; feeds = refl; last = λ _. stands-none s at said cut }
-
-  -- and else a field is
-  module _ {f : Field} (found : r ≡ Some f) where
-    pub one-turn : {e : Event} {t : Stepped} → e ≡ event_of f.tag (take (f.end - f.start) (drop f.start s)) → told_step t ≡ step_of p e (f.end - at) → Turns p s at (record { progress = t.progress; used = f.end })
-    one-turn {e} {t} is went =
-        let w = stands s at said found in
-        let three = size-head (drop at s) in
-        let next : t.progress ≡ (step_of p (event_at w) (f.end - at)).next = ap (λ (x : Stepping). x.next) went ∙ ap (λ (x : Event). (step_of p x (f.end - at)).next) is in
-        record {
-          goes_on = omega (arith, w.ends);
-          ends = w.within;
-          feeds = one_field w p ∙ ap (λ (q : Progress). fed q (drop f.end s)) (sym next);
-          last = λ e. absurd (omega (arith, w.ends));
-        }
+module _ (p : Progress) (s : List ℕ) (at : ℕ) {r : Option Field} (said : r ≡ field_of s at) {f : Field} (found : r ≡ Some f) where
+  -- a field is one
+  pub one-turn : {e : Event} {t : Stepped} → e ≡ event_of f.tag (take (f.end - f.start) (drop f.start s)) → told_step t ≡ step_of p e (f.end - at) → Further p s at (record { progress = t.progress; used = f.end })
+  one-turn {e} {t} is went =
+      let w = stands s at said found in
+      let three = size-head (drop at s) in
+      let next : t.progress ≡ (step_of p (event_at w) (f.end - at)).next = ap (λ (x : Stepping). x.next) went ∙ ap (λ (x : Event). (step_of p x (f.end - at)).next) is in
+      record {
+        goes_on = omega (arith, w.ends);
+        ends = w.within;
+        feeds = one_field w p ∙ ap (λ (q : Progress). fed q (drop f.end s)) (sym next);
+      }
 
 -- ---- arrivals
 
@@ -203,11 +196,6 @@ stored run i x y z h =
     let second : take (i + 2) (set (set run i x) (i + 1) y) ≡ take (i + 1) (set run i x) ++ y ∷ [] = ap (λ (n : ℕ). take n (set (set run i x) (i + 1) y)) (sym two) ∙ take-suc-set (set run i x) (i + 1) y (rw length-set (omega arith)) in
     take-suc-set (set (set run i x) (i + 1) y) (i + 2) z (simp length-set (omega arith)) ∙ rw (second, first) (simp append_assoc)
 
-running : (stage : Stage) → is_running stage ≡ true → stage ≡ Running
-running Empty e = absurd (let n : ◌≡◌ {A = ℕ} 0 1 = cc in omega arith)
-running Running e = refl
-running (Faulty at) e = absurd (let n : ◌≡◌ {A = ℕ} 0 1 = cc in omega arith)
-
 -- none yet
 pub gathers-none : (s : List ℕ) (at : ℕ) (run : List ℕ) → at ≤ length s → Gathers s at (record { count = 0; end = at }) run run
 gathers-none s at run h =
@@ -251,13 +239,12 @@ gathered-fit {g = g} {after = after} answers w e =
     omega (arith, w.fits, length-take-le (3 * g.count) after (omega (arith, w.fits, w.same-room)))
 
 -- gathered arrivals are a turn
-pub run-turn : (p : Progress) (s : List ℕ) (at : ℕ) {g : Gathered} {before after : List ℕ} {q : Progress} → Gathers s at g before after → is_running p.stage ≡ true → p.offset < 2 ^ 64 → 0 < g.count → q ≡ arrived_all p (take (3 * g.count) after) (g.end - at) → Turns p s at (record { progress = q; used = g.end })
+pub run-turn : (p : Progress) (s : List ℕ) (at : ℕ) {g : Gathered} {before after : List ℕ} {q : Progress} → Gathers s at g before after → p.stage ≡ Running → p.offset < 2 ^ 64 → 0 < g.count → q ≡ arrived_all p (take (3 * g.count) after) (g.end - at) → Further p s at (record { progress = q; used = g.end })
 run-turn p s at {g} w run small some is =
     record {
-      goes_on = w.goes_on;
+      goes_on = w.moves some;
       ends = w.ends;
-      feeds = w.feeds p (running p.stage run) small ∙ ap (λ (x : Progress). fed x (drop g.end s)) (sym is);
-      last = λ e. absurd (omega (arith, w.moves some));
+      feeds = w.feeds p run small ∙ ap (λ (x : Progress). fed x (drop g.end s)) (sym is);
     }
 
 -- ---- turn after turn
@@ -268,10 +255,10 @@ pub record Ahead (p₀ : Progress) (s run answers : List ℕ) (p : Progress) (us
   pub within : used ≤ length s
   pub feeds : fed p₀ s ≡ fed p (drop used s)
 
--- where nothing is used, all whole fields were taken
-pub last_turn : {p₀ : Progress} {s run answers : List ℕ} {p : Progress} {used : ℕ} {r : Fed} → Ahead p₀ s run answers p used → Turns p s used r → r.used ≡ used → record { progress = p; used = used } ≡ fed_of p₀ s
+-- where no whole field stands, all were taken
+pub all-taken : {p₀ : Progress} {s run answers : List ℕ} {p : Progress} {used : ℕ} {r : Option Fed} → Ahead p₀ s run answers p used → Turns p s used r → r ≡ None → record { progress = p; used = used } ≡ fed_of p₀ s
 unfolding fed_of fed
-last_turn {p₀} {s} {p = p} {used = used} g t e =
-    let all : fed p₀ s ≡ holding p (drop used s) = g.feeds ∙ fed-none step p (drop used s) (t.last e) in
+all-taken {p₀} {s} {p = p} {used = used} g t e =
+    let all : fed p₀ s ≡ holding p (drop used s) = g.feeds ∙ fed-none step p (drop used s) (rw e at t) in
     let n : used ≡ length s - length (drop used s) = omega (arith, g.within, length-drop used s) in
     (λ i. record { progress = p; used = n i }) ∙ ap (λ (h : Held Progress). record { progress = h.so_far; used = length s - length h.rest }) (sym all)

@@ -1,7 +1,8 @@
 -- What is left after the whole fields of bytes, and how it is moved to a buffer's front. Assumes nothing.
-use Rattle.std.proofs.Common.{◌≡◌, ℕ, ◌+◌, ◌-◌, ◌<◌, ◌≤◌, min, Bool, true, false, leb, List, ◌++◌, length, take, drop, sym, refl, ap, ◌∙◌, arith, length-drop, drop_of_length-le, length-take-le, take_all, drop-drop, take-add, drop_at, leb-false, leb-true}
-use lib.Seq.{take-length}
+use Rattle.std.proofs.Common.{◌≡◌, ℕ, ◌+◌, ◌-◌, ◌<◌, ◌≤◌, min, false, List, ◌++◌, length, take, drop, sym, refl, ap, ◌∙◌, arith, length-drop, drop_of_length-le, length-take-le, drop-drop, take-add, drop_at}
+use native.Mathlib.Nat.{min-le_right}
 use Rattle.std.specs.List.{copy_within}
+use Rattle.std.proofs.lemmas.List.{take_min}
 use Rattle.common.specs.Buffer.{over}
 use Rattle.trace.specs.Fields.{field_size, is_whole}
 use Rattle.trace.specs.Feeding.{Held}
@@ -50,55 +51,37 @@ pub rest-none : (p : Progress) (s : List ℕ) → is_whole (fed p s).rest ≡ fa
 unfolding fed
 rest-none = fed_by step (λ (p : Progress) (s : List ℕ) (h : Held Progress). is_whole h.rest ≡ false) (λ p s e. e) (λ p s h e w. w)
 
--- ---- a call
+-- ---- moved to the front
 
--- a part that is copied to the front
-pub to_front : (before : List ℕ) (from end : ℕ) → copy_within before from end 0 ≡ take (end - from) (drop from before) ++ drop (end - from) before
-to_front before from end =
-    let none : 0 + (end - from) ≡ end - from = omega arith in
-    ap (λ (n : ℕ). take (end - from) (drop from before) ++ drop n before) none
-
--- no more bytes than there are
-pub at-most-fits : (n most : ℕ) → min n most ≤ most
-at-most-fits n most = omega arith
-
-at-most-take : (n : ℕ) (l : List ℕ) → take (min n (length l)) l ≡ take n l
-at-most-take n l = go (leb n (length l)) refl
-  where
-    go : (b : Bool) → leb n (length l) ≡ b → take (min n (length l)) l ≡ take n l
-    go true e =
-        let same : min n (length l) ≡ n = omega (arith, leb-true n (length l) e) in
-        ap (λ (k : ℕ). take k l) same
-    go false e =
-        let same : min n (length l) ≡ length l = omega (arith, leb-false n (length l) e) in
-        ap (λ (k : ℕ). take k l) same ∙ take-length l ∙ sym (take_all n l (omega (arith, leb-false n (length l) e)))
+moved : (before : List ℕ) (from last : ℕ) → copy_within before from last 0 ≡ take (last - from) (drop from before) ++ drop (last - from) before
+moved before from last = ap (λ (n : ℕ). take (last - from) (drop from before) ++ drop n before) (omega arith)
 
 -- bytes up to an offset are kept
 module _ (before : List ℕ) (from end : ℕ) {last : ℕ} (bound : last ≡ min end (length before)) where
-  last_fits : last ≤ length before
-  last_fits = omega (arith, bound, at-most-fits end (length before))
+  pub last-fits : last ≤ length before
+  last-fits = omega (arith, bound, min-le_right end (length before))
 
   up_to : take last before ≡ take end before
-  up_to = ap (λ (n : ℕ). take n before) bound ∙ at-most-take end before
+  up_to = ap (λ (n : ℕ). take n before) bound ∙ take_min end before
 
   pub kept-none : last ≤ from → before ≡ kept_of before from end
   unfolding kept_of
-  kept-none h = rw (← up_to, drop_of_length-le (take last before) {i = from} (omega (arith, length-take-le last before last_fits)))
+  kept-none h = rw (← up_to, drop_of_length-le (take last before) {i = from} (omega (arith, length-take-le last before last-fits)))
 
-  pub kept : {after : List ℕ} → from < last → after ≡ take (last - from) (drop from before) ++ drop (last - from) before → after ≡ kept_of before from end
+  pub kept : {after : List ℕ} → from < last → after ≡ copy_within before from last 0 → after ≡ kept_of before from end
   unfolding kept_of
   kept h e =
       let all : from + (last - from) ≡ last = omega arith in
-      let part : take (last - from) (drop from before) ≡ drop from (take end before) = sym (drop-take from (last - from) before (omega (arith, last_fits))) ∙ ap (λ (n : ℕ). drop from (take n before)) all ∙ ap (drop from) up_to in
-      let count : last - from ≡ length (take (last - from) (drop from before)) = sym (length-take-le (last - from) (drop from before) (omega (arith, last_fits, length-drop from before))) in
-      e ∙ ap (λ (n : ℕ). take (last - from) (drop from before) ++ drop n before) count ∙ ap (λ (l : List ℕ). over l before) part
+      let part : take (last - from) (drop from before) ≡ drop from (take end before) = sym (drop-take from (last - from) before (omega (arith, last-fits))) ∙ ap (λ (n : ℕ). drop from (take n before)) all ∙ ap (drop from) up_to in
+      let count : last - from ≡ length (take (last - from) (drop from before)) = sym (length-take-le (last - from) (drop from before) (omega (arith, last-fits, length-drop from before))) in
+      e ∙ moved before from last ∙ ap (λ (n : ℕ). take (last - from) (drop from before) ++ drop n before) count ∙ ap (λ (l : List ℕ). over l before) part
 
 module _ (p : Progress) (before : List ℕ) (filled : ℕ) {end : ℕ} {f : Fed} (bound : end ≡ min filled (length before)) (fields : f ≡ fed_of p (take end before)) where
   abbrev rest : List ℕ
   rest = (fed p (take end before)).rest
 
   long : length (take end before) ≡ end
-  long = length-take-le end before (omega (arith, bound, at-most-fits filled (length before)))
+  long = length-take-le end before (last-fits before 0 filled bound)
 
   used : f.used ≡ end - length rest
   unfolding fed_of
@@ -110,19 +93,19 @@ module _ (p : Progress) (before : List ℕ) (filled : ℕ) {end : ℕ} {f : Fed}
   pub used-fits : f.used ≤ end
   used-fits = omega (arith, used)
 
-  pub advanced : {after : List ℕ} → after ≡ take (end - f.used) (drop f.used before) ++ drop (end - f.used) before → Advances (advance_of p before filled) (record { progress = f.progress; left = end - f.used }) after
+  pub advanced : {after : List ℕ} → after ≡ copy_within before f.used end 0 → Advances (advance_of p before filled) (record { progress = f.progress; left = end - f.used }) after
   unfolding advance_of fed_of
   advanced {after} e =
-      let first : take end before ≡ take filled before = ap (λ (n : ℕ). take n before) bound ∙ at-most-take filled before in
+      let first : take end before ≡ take filled before = ap (λ (n : ℕ). take n before) bound ∙ take_min filled before in
       let left : end - f.used ≡ length rest = omega (arith, used, few) in
       let all : f.used + (end - f.used) ≡ end = omega (arith, used, few) in
       let is : rest ≡ take (end - f.used) (drop f.used before) =
       rest-is p (take end before)
       ∙ ap (λ (n : ℕ). drop n (take end before)) (ap (λ (n : ℕ). n - length rest) long ∙ sym used)
       ∙ ap (λ (n : ℕ). drop f.used (take n before)) (sym all)
-      ∙ drop-take f.used (end - f.used) before (omega (arith, used, bound, at-most-fits filled (length before))) in
+      ∙ drop-take f.used (end - f.used) before (omega (arith, used, last-fits before 0 filled bound)) in
       record {
         progress = ap (λ (x : Fed). x.progress) fields ∙ ap (λ (l : List ℕ). (fed p l).so_far) first;
         left = left ∙ ap (λ (l : List ℕ). length (fed p l).rest) first;
-        holds = e ∙ (λ i. sym is i ++ drop (left i) before) ∙ ap (λ (l : List ℕ). (fed p l).rest ++ drop (length (fed p l).rest) before) first;
+        holds = e ∙ moved before f.used end ∙ (λ i. sym is i ++ drop (left i) before) ∙ ap (λ (l : List ℕ). (fed p l).rest ++ drop (length (fed p l).rest) before) first;
       }

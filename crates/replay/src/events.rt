@@ -43,17 +43,13 @@ fn control(value: &[u8]) -> Event
     ensures { result ≡ control_by value.now }
 {
     match message::read(value) {
-        Ok((m, used)) => {
-            if used != value.len() {
-                return Event::Fault;
-            }
-            Event::Control(m)
-        }
+        Ok((m, used)) if used == value.len() => Event::Control(m),
+        Ok(_) => Event::Fault,
         Err(refusal) => malformed(refusal),
     }
 }
 
-// Bytes that are no message: a fault where more are needed, and else malformed.
+// Bytes that are no message: where more are needed it is a fault, else they are malformed.
 fn malformed(refusal: Refusal) -> Event
     ensures { result ≡ malformed_by refusal }
 {

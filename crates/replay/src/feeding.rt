@@ -1,7 +1,7 @@
 // A trace is fed in pieces. Whole fields are taken off the front of each; what is left goes in front of the next piece.
 ghost use Rattle.std.specs.Prelude.{◌≡◌, ◌*◌, ◌≤◌, length};
 ghost use Rattle.replay.specs.Progressing.{fed_of, arrived_all};
-ghost use Rattle.replay.specs.Gathering.{Turns, is_running};
+ghost use Rattle.replay.specs.Gathering.{Turns};
 
 use crate::events::event_of;
 use crate::gathering::gather;
@@ -16,52 +16,44 @@ impl Progress {
         let mut run = [0u64; 3072];
         let mut answers = [0u8; 1024];
         let mut progress = self;
-        let mut used: usize = 0;
-        loop {
-            let turned = turn(progress, s, used, &mut run, &mut answers);
-            if turned.used == used {
-                return Fed { progress, used };
-            }
-            progress = turned.progress;
-            used = turned.used;
+        let mut used = 0;
+        while let Some(fed) = turn(progress, s, used, &mut run, &mut answers) {
+            progress = fed.progress;
+            used = fed.used;
         }
+        Fed { progress, used }
     }
 }
 
-// The arrivals that stand at an offset, or else one field. Where no whole field stands there, nothing is used.
-fn turn(p: Progress, s: &[u8], at: usize, run: &mut [u64], answers: &mut [u8]) -> Fed
+// The arrivals that stand at an offset, or else one field, where a whole one stands there.
+fn turn(p: Progress, s: &[u8], at: usize, run: &mut [u64], answers: &mut [u8]) -> Option<Fed>
     requires { (at ≤ length s.now) × (length run.old ≡ 3 * length answers.old) }
     ensures { Turns p s.now at result }
 {
-    let Stage::Running = p.stage else {
+    if !matches!(p.stage, Stage::Running) {
         return one(p, s, at);
-    };
+    }
     let g = gather(s, at, run);
     if g.count == 0 {
         return one(p, s, at);
     }
-    Fed {
+    Some(Fed {
         progress: arrive(p, &run[..3 * g.count], answers, g.end - at),
         used: g.end,
-    }
+    })
 }
 
 // One field.
-fn one(p: Progress, s: &[u8], at: usize) -> Fed
+fn one(p: Progress, s: &[u8], at: usize) -> Option<Fed>
     requires { at ≤ length s.now }
     ensures { Turns p s.now at result }
 {
-    let Some(f) = field_at(s, at) else {
-        return Fed {
-            progress: p,
-            used: at,
-        };
-    };
+    let f = field_at(s, at)?;
     let stepped = p.step(event_of(f.tag, &s[f.start..f.end]), f.end - at);
-    Fed {
+    Some(Fed {
         progress: stepped.progress,
         used: f.end,
-    }
+    })
 }
 
 // Arrivals are taken together, whose fields have size bytes.

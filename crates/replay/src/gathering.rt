@@ -14,9 +14,8 @@ pub fn gather(s: &[u8], at: usize, run: &mut [u64]) -> Gathered
     ensures { Gathers s.now at result run.old run.new }
 {
     let room = run.len() / 3;
-    let mut count: usize = 0;
     let mut end = at;
-    while count < room {
+    for count in 0..room {
         let Some(f) = field_at(s, end) else {
             return Gathered { count, end };
         };
@@ -26,10 +25,9 @@ pub fn gather(s: &[u8], at: usize, run: &mut [u64]) -> Gathered
         run[3 * count] = a.alias;
         run[3 * count + 1] = a.place.group;
         run[3 * count + 2] = a.place.object;
-        count += 1;
         end = f.end;
     }
-    Gathered { count, end }
+    Gathered { count: room, end }
 }
 
 // Whether a field is an arrival, and which.

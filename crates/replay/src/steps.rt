@@ -1,10 +1,10 @@
 // How far a trace was taken, and one event more.
 ghost use Rattle.std.specs.Prelude.{◌≡◌};
-ghost use Rattle.replay.specs.Progressing.{is_start, due_of, first_fault, goes_on, heard_of, step_of, begun, end_stage, finish_of, told_heard, told_step};
+ghost use Rattle.replay.specs.Progressing.{due_of, first_fault, goes_on, heard_of, step_of, begun, end_stage, finish_of, told_heard, told_step};
 ghost use Rattle.ledger.specs.Answers.{told};
 
 use crate::{Event, Heard, Progress, Stage, Stepped};
-use ledger::{Ledger, MOST_ROWS, Part, Taken};
+use ledger::{MOST_ROWS, Part, Taken};
 
 // Before a trace's first byte.
 pub fn begin() -> Progress
@@ -51,16 +51,10 @@ impl Progress {
 fn due(stage: Stage, e: Event) -> Event
     ensures { result ≡ due_of stage e }
 {
-    match (stage, is_start(e)) {
+    match (stage, matches!(e, Event::Start(_, _))) {
         (Stage::Empty, true) | (Stage::Running, false) => e,
         _ => Event::Fault,
     }
-}
-
-fn is_start(e: Event) -> bool
-    ensures { result ≡ is_start e }
-{
-    matches!(e, Event::Start(_, _))
 }
 
 // The ledger takes what is due.
@@ -108,7 +102,7 @@ fn last_stage(stage: Stage, offset: u64, left: usize) -> Stage
 {
     match stage {
         Stage::Empty => Stage::Faulty(0),
-        Stage::Running if left > 0 => Stage::Faulty(offset),
-        Stage::Running | Stage::Faulty(_) => stage,
+        Stage::Running if left != 0 => Stage::Faulty(offset),
+        _ => stage,
     }
 }

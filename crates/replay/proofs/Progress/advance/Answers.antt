@@ -1,6 +1,5 @@
 -- `Progress::advance` meets its contract. Assumes nothing.
-use Rattle.std.proofs.Common.{◌∙◌}
-use Rattle.replay.proofs.WhatIsLeft.{to_front, used-fits, advanced}
+use Rattle.replay.proofs.WhatIsLeft.{used-fits, advanced}
 use Rattle.replay.proofs.Progress.advance.Goals as goal
 
 pub copy_within-requires-clause-start_le_end : goal.copy_within-requires-clause-start_le_end
@@ -10,4 +9,4 @@ pub overflow_sub-result : goal.overflow_sub-result
 overflow_sub-result c = used-fits _ _ _ c.min-end.ensures c.feed-fed.ensures
 
 pub returns : goal.returns
-returns c = advanced _ _ _ c.min-end.ensures c.feed-fed.ensures (c.copy_within.ensures.after ∙ to_front c.args.buffer.now c.feed-fed.result.used c.min-end.result)
+returns c = advanced _ _ _ c.min-end.ensures c.feed-fed.ensures c.copy_within.ensures.after
