@@ -1,5 +1,5 @@
-// What the programs share: bytes come into a lent buffer, text goes to standard output a page at a time, and what failed
-// is said.
+// What the programs share: bytes come into a lent buffer, text goes to standard output a page at a time, and what
+// failed is said.
 #![tactic(auto)]
 
 ghost use Rattle.std.specs.Prelude.{◌≡◌, ◌+◌, ◌≤◌, IfOk, OnOk, length, take};

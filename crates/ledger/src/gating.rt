@@ -5,8 +5,8 @@ ghost use Rattle.ledger.specs.Answers.{no_rule, told_gate, gate_of};
 use crate::checks::is_ledger;
 use crate::{Answer, Ledger, Session};
 
-// What passes is told to each step by its clause `is_ledger l ≡ true`, and not by a type of its own: a step hands back a
-// `Ledger`, so that type would be made here and taken apart in each of them.
+// What passes is told to each step by its clause `is_ledger l ≡ true`, and not by a type of its own: a step hands back
+// a `Ledger`, so that type would be made here and taken apart in each of them.
 // Sound is whether the message or the arrival holds no forbidden value.
 #[tactic(auto, unfolding(crate::specs::Answers::gate_of, crate::specs::Answers::stops))]
 pub fn gate(l: Ledger, sound: bool) -> Result<(), Answer>

@@ -60,8 +60,8 @@ fn decimal(digits: &[u8]) -> usize {
     })
 }
 
-// The bytes that digits spell, put at the front of a buffer; none where there is no room for all of them. A byte followed by
-// `*` and a decimal number stands that many times.
+// The bytes that digits spell, put at the front of a buffer; none where there is no room for all of them. A byte
+// followed by `*` and a decimal number stands that many times.
 pub fn decode<'a>(text: &[u8], bytes: &'a mut [u8]) -> Option<&'a [u8]> {
     let mut held = Held {
         count: 0,
