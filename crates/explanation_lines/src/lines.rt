@@ -106,7 +106,7 @@ pub fn put_left_line(out: &mut [u8], at: usize, offset: u64, s: &[u8], used: usi
     put_faulty_line(out, at, offset, s, left)
 }
 
-// ---- by document 01's number
+// ---- by document 01's number (as numbers, since they are printed: the reader's and the ledger's alike)
 
 fn put_numbered(out: &mut [u8], at: usize, number: u8) -> usize
     ensures { filling out.new result ≡ pour (filling out.old at) (numbered number) }

@@ -51,7 +51,8 @@ pub enum Session {
     Closed(Rule),
 }
 
-// The rows in use stand first, rising by ID. `next` is one more than the highest ID accepted, 0 for none.
+// The rows in use stand first, rising by ID. `next` is one more than the highest ID accepted, 0 for none. (An array and
+// a count, and no type that rules out more rows than there are places: what is no ledger is answered 14.)
 #[derive(Clone, Copy)]
 pub struct Ledger {
     pub rows: [Row; MOST_ROWS],
