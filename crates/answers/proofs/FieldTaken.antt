@@ -8,7 +8,7 @@ use Rattle.trace.specs.Fields.{field_size, field_of}
 use Rattle.trace.specs.declared.Field.{Field}
 use Rattle.std.specs.Prelude.{Option, Some, None}
 use Rattle.replay.specs.Events.{event_of}
-use Rattle.replay.specs.Progressing.{Stepping, step_of, told_step, stepped_by}
+use Rattle.replay.specs.Progressing.{Stepping, step_of, verdict_of, told_step, stepped_by}
 use Rattle.replay.specs.declared.Event.{Event}
 use Rattle.replay.specs.declared.Progress.{Progress}
 use Rattle.replay.specs.declared.Stepped.{Stepped}
@@ -24,9 +24,9 @@ module _ (p : Progress) (s : List ℕ) (at : ℕ) {r : Option Field} (said : r �
 
   -- and else its line is that of the step
   module _ {f : Field} (found : r ≡ Some f) {line : List Item} where
-    pub one-taken : {e : Event} {t : Stepped} → e ≡ event_of f.tag (take (f.end - f.start) (drop f.start s)) → told_step t ≡ step_of p e (f.end - at) → line ≡ line_by p.offset t.event (record { number = t.number; rule = t.rule }) → ◌≡◌ {A = Option FieldLine} (Some (record { line = line; progress = t.progress; used = f.end })) (taken_at p s at)
+    pub one-taken : {e : Event} (t : Stepped) → e ≡ event_of f.tag (take (f.end - f.start) (drop f.start s)) → told_step t ≡ step_of p e (f.end - at) → line ≡ line_by p.offset t.event (verdict_of t.said) → ◌≡◌ {A = Option FieldLine} (Some (record { line = line; progress = t.progress; used = f.end })) (taken_at p s at)
     unfolding taken_at line_in
-    one-taken {e} {t} is went held =
+    one-taken {e} t is went held =
         let w = stands s at said found in
         let field = take (field_size (drop at s)) (drop at s) in
         let all : told_step t ≡ stepped_by p field = went ∙ ap (λ (x : Event). step_of p x (f.end - at)) is ∙ sym (stepped-is w p) in

@@ -3,7 +3,7 @@
 
 ghost use Rattle.std.specs.Prelude.{◌≡◌, []};
 ghost use Rattle.text.specs.Lines.{line_of, fault_line as trace_fault};
-ghost use Rattle.replay.specs.Progressing.{on_fault};
+ghost use Rattle.replay.specs.Progressing.{on_fault, verdict_of};
 ghost use Rattle.columns.specs.Pouring.{filling, pour};
 ghost use Rattle.explanation_traces.specs.Traces.{is_empty, reason_of, ending_by, shown_in, explaining_by, taken_at, ends_inside, end_reason, end_text};
 
@@ -11,6 +11,7 @@ use crate::FieldTaken;
 use columns::{put_byte, put_item, put_spaces};
 use explanation::{Ending, Explaining, Reason, tag_of};
 use explanation_lines::{Word, put_cut_field, put_reason};
+use ledger::Answer;
 use replay::{Event, Progress, Stage};
 use text::Item;
 
@@ -28,12 +29,14 @@ fn reason_of(stage: Stage, tag: u8) -> Reason
     }
 }
 
-fn ending_by(e: Event, number: u8, rule: u8, reason: Reason) -> Ending
-    ensures { result ≡ ending_by e (record { number = number; rule = rule }) reason }
+// Nothing is said to a fault alone, so no other event ends by 0 and 0.
+fn ending_by(e: Event, said: Option<Answer>, reason: Reason) -> Ending
+    ensures { result ≡ ending_by e (verdict_of said) reason }
 {
-    match e {
-        Event::Fault => Ending::Fault(reason),
-        _ => Ending::Answered(number, rule),
+    match (e, said) {
+        (Event::Fault, _) => Ending::Fault(reason),
+        (_, Some(answer)) => Ending::Answered(ledger::number(answer), ledger::broken(answer)),
+        (_, None) => Ending::Answered(0, 0),
     }
 }
 
@@ -48,10 +51,10 @@ fn shown_in(stage: Stage, e: Explaining) -> Explaining
 }
 
 // A field, by the event that it is and the answer to it.
-fn explain(stage: Stage, offset: u64, field: &[u8], e: Event, number: u8, rule: u8) -> Explaining
-    ensures { result ≡ explaining_by stage offset field.now e (record { number = number; rule = rule }) }
+fn explain(stage: Stage, offset: u64, field: &[u8], e: Event, said: Option<Answer>) -> Explaining
+    ensures { result ≡ explaining_by stage offset field.now e (verdict_of said) }
 {
-    let ending = ending_by(e, number, rule, reason_of(stage, tag_of(field)));
+    let ending = ending_by(e, said, reason_of(stage, tag_of(field)));
     shown_in(stage, Explaining::begin_field(field, offset, ending))
 }
 
@@ -67,8 +70,7 @@ pub fn tell(p: Progress, s: &[u8], at: usize) -> Option<FieldTaken>
             p.offset,
             &s[at..f.end],
             stepped.event,
-            stepped.number,
-            stepped.rule,
+            stepped.said,
         ),
         progress: stepped.progress,
         used: f.end,

@@ -27,11 +27,11 @@ use Rattle.replay.proofs.WhatIsLeft.{drop-take}
 -- ---- one event
 
 -- an event's step, by its parts
-pub stepped : (p : Progress) (e : Event) (size : ℕ) {due : Event} {h : Heard} {offset : ℕ} → due ≡ due_of p.stage e → told_heard h ≡ heard_of p due → offset ≡ (p.offset + size) % 2 ^ 64 → told_step (record { event = due; number = h.number; rule = h.rule; progress = record { ledger = h.ledger; stage = h.stage; offset = offset } }) ≡ step_of p e size
+pub stepped : (p : Progress) (e : Event) (size : ℕ) {due : Event} (h : Heard) {offset : ℕ} → due ≡ due_of p.stage e → told_heard h ≡ heard_of p due → offset ≡ (p.offset + size) % 2 ^ 64 → told_step (record { event = due; said = h.said; progress = record { ledger = h.ledger; stage = h.stage; offset = offset } }) ≡ step_of p e size
 unfolding step_of offset_of
-stepped p e size d h o =
-    let heard = h ∙ ap (heard_of p) d in
-    λ i. record { event = d i; says = (heard i).says; next = record { ledger = (heard i).ledger; stage = (heard i).stage; offset = o i } }
+stepped p e size heard d h o =
+    let all = h ∙ ap (heard_of p) d in
+    λ i. record { event = d i; says = (all i).says; next = record { ledger = (all i).ledger; stage = (all i).stage; offset = o i } }
 
 -- arrivals that fit are all taken
 pub taken-all : (p : Progress) (run before : List ℕ) (size : ℕ) {l : Ledger} {offset : ℕ} → length run ≤ 3 * length before → l ≡ (run_of p.ledger run before).next → offset ≡ (p.offset + size) % 2 ^ 64 → record { ledger = l; stage = p.stage; offset = offset } ≡ arrived_all p run size
@@ -125,8 +125,8 @@ module _ {s : List ℕ} {at : ℕ} {f : Field} (w : Stands s at f) where
 
 module _ (p : Progress) (s : List ℕ) (at : ℕ) {r : Option Field} (said : r ≡ field_of s at) {f : Field} (found : r ≡ Some f) where
   -- a field is one
-  pub one-turn : {e : Event} {t : Stepped} → e ≡ event_of f.tag (take (f.end - f.start) (drop f.start s)) → told_step t ≡ step_of p e (f.end - at) → Further p s at (record { progress = t.progress; used = f.end })
-  one-turn {e} {t} is went =
+  pub one-turn : {e : Event} (t : Stepped) → e ≡ event_of f.tag (take (f.end - f.start) (drop f.start s)) → told_step t ≡ step_of p e (f.end - at) → Further p s at (record { progress = t.progress; used = f.end })
+  one-turn {e} t is went =
       let w = stands s at said found in
       let three = size-head (drop at s) in
       let next : t.progress ≡ (step_of p (event_at w) (f.end - at)).next = ap (λ (x : Stepping). x.next) went ∙ ap (λ (x : Event). (step_of p x (f.end - at)).next) is in

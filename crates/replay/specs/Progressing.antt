@@ -1,10 +1,11 @@
 -- A trace is taken field by field by a ledger.
-use Rattle.std.specs.Prelude.{ℕ, ◌-◌, Bool, true, false, List, [], length, ◌==◌}
+use Rattle.std.specs.Prelude.{ℕ, ◌-◌, Bool, true, false, List, [], Option, Some, None, length, ◌==◌}
 use Rattle.common.specs.Choice.{guard, pick}
 use Rattle.ledger.specs.Ledgers.{most_rows, empty_ledger}
-use Rattle.ledger.specs.Answers.{Verdict, Came, no_rule}
+use Rattle.ledger.specs.Answers.{Verdict, Came, no_rule, told_answer}
 use Rattle.ledger.specs.Steps.{start_of, take_of, malformed_of, arrival_of}
 use Rattle.ledger.specs.Runs.{arrivals_in, after_arrivals}
+use Rattle.ledger.specs.declared.Answer.{Answer}
 use Rattle.ledger.specs.declared.Ledger.{Ledger}
 use Rattle.ledger.specs.declared.Part.TheVariants.{Subscriber}
 use Rattle.trace.specs.Fields.{field_size}
@@ -113,11 +114,16 @@ replay_of s = let h = fed begun s in finish_of h.so_far (length h.rest)
 
 -- ---- what the functions answer
 
+-- document 01's number and rule of what is said; 0 and 0 where nothing is
+abbrev pub verdict_of : Option Answer → Verdict
+verdict_of (Some answer) = told_answer answer
+verdict_of None = no_rule 0
+
 abbrev pub told_heard : Heard → Hearing
-told_heard h = record { says = record { number = h.number; rule = h.rule }; ledger = h.ledger; stage = h.stage }
+told_heard h = record { says = verdict_of h.said; ledger = h.ledger; stage = h.stage }
 
 abbrev pub told_step : Stepped → Stepping
-told_step s = record { event = s.event; says = record { number = s.number; rule = s.rule }; next = s.progress }
+told_step s = record { event = s.event; says = verdict_of s.said; next = s.progress }
 
 -- the progress after the whole fields, and how many bytes those took
 unfoldable pub fed_of : Progress → List ℕ → Fed

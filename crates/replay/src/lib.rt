@@ -10,7 +10,7 @@ mod steps;
 pub use advancing::keep;
 pub use events::event_of;
 use field::Arrival;
-use ledger::{Ledger, Part};
+use ledger::{Answer, Ledger, Part};
 use message::Message;
 pub use steps::begin;
 use types::Refusal;
@@ -42,21 +42,19 @@ pub struct Progress {
     pub offset: u64,
 }
 
-// What a ledger said to an event, in document 01's number and rule, and the ledger and the stage after it.
+// What a ledger said to an event, nothing to a fault, and the ledger and the stage after it.
 #[derive(Clone, Copy)]
 struct Heard {
-    number: u8,
-    rule: u8,
+    said: Option<Answer>,
     ledger: Ledger,
     stage: Stage,
 }
 
-// What an event came to: what it was taken for, what was said to it, and the progress after it.
+// What an event came to: what it was taken for, what was said to it, nothing to a fault, and the progress after it.
 #[derive(Clone, Copy)]
 pub struct Stepped {
     pub event: Event,
-    pub number: u8,
-    pub rule: u8,
+    pub said: Option<Answer>,
     pub progress: Progress,
 }
 

@@ -26,8 +26,7 @@ impl Progress {
         let heard = hear(self, event);
         Stepped {
             event,
-            number: heard.number,
-            rule: heard.rule,
+            said: heard.said,
             progress: Progress {
                 ledger: heard.ledger,
                 stage: heard.stage,
@@ -67,8 +66,7 @@ fn hear(p: Progress, e: Event) -> Heard
         Event::Malformed(_) => heard(p.ledger.malformed()),
         Event::Arrived(a) => heard(p.ledger.arrival(a)),
         Event::Fault => Heard {
-            number: 0,
-            rule: 0,
+            said: None,
             ledger: p.ledger,
             stage: first_fault(p.stage, p.offset),
         },
@@ -79,8 +77,7 @@ fn heard(t: Taken) -> Heard
     ensures { told_heard result ≡ goes_on (told t) }
 {
     Heard {
-        number: ledger::number(t.answer),
-        rule: ledger::broken(t.answer),
+        said: Some(t.answer),
         ledger: t.ledger,
         stage: Stage::Running,
     }

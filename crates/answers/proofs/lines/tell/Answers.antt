@@ -21,4 +21,4 @@ overflow_sub-f c = let w = stands _ _ c.field_at.ensures c.in_ok-f.was in omega 
 
 pub returns : goal.returns
 returns c =
-    one-taken _ _ _ c.field_at.ensures c.in_ok-f.was c.event_of.ensures c.step-stepped.ensures c.line.ensures
+    one-taken _ _ _ c.field_at.ensures c.in_ok-f.was _ c.event_of.ensures c.step-stepped.ensures c.line.ensures

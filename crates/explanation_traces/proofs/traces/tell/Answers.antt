@@ -31,4 +31,4 @@ slice_bounds-explain-end c = (stands _ _ c.field_at.ensures c.in_ok-f.was).withi
 
 pub returns : goal.returns
 returns c =
-    one-taken _ _ _ c.field_at.ensures c.in_ok-f.was c.event_of.ensures c.step-stepped.ensures c.explain.ensures
+    one-taken _ _ _ c.field_at.ensures _ c.in_ok-f.was c.event_of.ensures c.step-stepped.ensures c.explain.ensures

@@ -19,4 +19,4 @@ pub overflow_sub-f : goal.overflow_sub-f
 overflow_sub-f c = let w = stands _ _ c.field_at.ensures c.in_ok-f.was in omega (arith, w.ends)
 
 pub returns : goal.returns
-returns c = one-turn _ _ _ c.field_at.ensures c.in_ok-f.was c.event_of.ensures c.step-stepped.ensures
+returns c = one-turn _ _ _ c.field_at.ensures c.in_ok-f.was _ c.event_of.ensures c.step-stepped.ensures
