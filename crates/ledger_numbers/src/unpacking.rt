@@ -65,8 +65,8 @@ fn session_of(n: u64) -> Session
     Session::Closed(rule_of(n))
 }
 
-// The rows that numbers name. (This and the two after it take the slice, and not its front as an array: `ledger_named` is
-// of all the numbers, and that the front names the same ledger didn't close.)
+// The rows that numbers name. (This and the two after it take the slice, and not its front as an array: `ledger_named`
+// is of all the numbers, and that the front names the same ledger didn't close.)
 fn rows_in(numbers: &[u64]) -> [Row; MOST_ROWS]
     requires { ledger_numbers ≤ length numbers.now }
     ensures { result ≡ rows_named most_rows numbers.now own_numbers }
