@@ -13,10 +13,9 @@ use Rattle.common.specs.Answer.{number}
 use Rattle.common.specs.Buffer.{over}
 use Rattle.row.specs.Places.{small}
 use Rattle.types.specs.Limits.{longest_body}
-use Rattle.types.specs.Refusals.{number_of}
 use Rattle.types.specs.declared.Refusal.{Refusal}
 use Rattle.std.specs.Prelude.{Ok, Err}
-use Rattle.message.specs.Reading.{read_of, told as told_reading}
+use Rattle.message.specs.Reading.{Reading, read_of, told as told_reading}
 use Rattle.message.specs.declared.Message.{Message}
 use Rattle.message.proofs.OneReading.{reading_of, reading-only}
 use Rattle.ledger.specs.Ledgers.{most_rows, empty_ledger}
@@ -32,9 +31,9 @@ use Rattle.ledger.specs.declared.Ran.{Ran}
 use Rattle.ledger_numbers.specs.Numbers.{ledger_numbers, numbers_of}
 use Rattle.ledger_numbers.specs.Naming.{part_named, unpack_of, kept_in}
 use Rattle.ledger_numbers.proofs.Storing.{numbers-length}
-use Rattle.rewrite.specs.Rewriting.{Does, refusing}
+use Rattle.rewrite.specs.Rewriting.{Does}
 use Rattle.rewrite.proofs.InfoTold.{two}
-use Rattle.ledger_calls.specs.Calls.{start_call, answered_call, taken_call, taken_by, message_call, arrivals_call}
+use Rattle.ledger_calls.specs.Calls.{start_call, answered_call, taken_call, message_call, arrivals_call}
 
 -- ---- a new ledger
 
@@ -139,11 +138,11 @@ read_as s before info m {used} f d =
     rw e d
 
 -- "every other reading ends there"
-pub read-else : (s before info : List ℕ) (r : Refusal) {n : ℕ} → told_reading (Err r) ≡ read_of s → n ≡ number_of r → Does (message_call s before info) n before info
+pub read-else : (s before info : List ℕ) (r : Refusal) {reading : Reading} {n : ℕ} → told_reading (Err r) ≡ read_of s → reading ≡ Err r → n ≡ number (told_reading reading) → Does (message_call s before info) n before info
 unfolding message_call number
-read-else s before info r f says =
+read-else s before info r f is says =
     let e : reading_of s ≡ Err r = sym (reading-only longest_body s (Err r) f) in
-    rw (e, says) (record { says = refl; leaves = refl; tells = refl })
+    rw (e, says, is) (record { says = refl; leaves = refl; tells = refl })
 
 -- ---- a run of arrivals
 

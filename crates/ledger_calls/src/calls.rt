@@ -2,12 +2,15 @@
 // stays as it is.
 ghost use Rattle.std.specs.Prelude.{◌≡◌, [], Err};
 ghost use Rattle.common.specs.Answer.{number};
+ghost use Rattle.message.specs.Reading.{told};
 ghost use Rattle.ledger.specs.Runs.{told_filled};
 ghost use Rattle.rewrite.specs.Rewriting.{Does};
 ghost use Rattle.ledger_calls.specs.Calls.{start_call, malformed_call, arrival_call, message_call, arrivals_call};
 
 use field::{Arrival, Place};
 use ledger::{Part, RunRefused};
+use message::Message;
+use types::Refusal;
 
 // A new ledger, with no row in use. The part is 0 for the subscriber's end and 1 for the publisher's.
 pub fn start(part: u64, rows: u64, maximum: u64, numbers: &mut [u64]) -> u64
@@ -39,9 +42,9 @@ pub fn take(s: &[u8], numbers: &mut [u64], info: &mut [u64]) -> u64
     ensures { Does (message_call s.now numbers.old info.old) result
         numbers.new info.new }
 {
-    let (m, used) = match message::read(s) {
-        Ok(read) => read,
-        Err(refusal) => return refusal.number() as u64,
+    let reading = message::read(s);
+    let Ok((m, used)) = reading else {
+        return refused(reading);
     };
     let l = ledger_numbers::unpack(numbers);
     let taken = l.take(m);
@@ -56,6 +59,17 @@ pub fn take(s: &[u8], numbers: &mut [u64], info: &mut [u64]) -> u64
     info[1] = ledger::broken(taken.answer) as u64;
     ledger_numbers::keep(numbers, taken.ledger);
     said
+}
+
+// Document 01's number of a reading of no message.
+#[tactic(auto, unfolding(common::specs::Answer::number))]
+fn refused(reading: Result<(Message, usize), Refusal>) -> u64
+    ensures { result ≡ number (told reading) }
+{
+    match reading {
+        Ok(_) => 0,
+        Err(refusal) => refusal.number() as u64,
+    }
 }
 
 // Bytes of the peer's that are no message.

@@ -47,7 +47,7 @@ unfolding control_by
 control-by value r said = ap (reading_by value) (reading-only longest_body value r said)
 
 -- no message,
-pub control-else : (value : List ℕ) (refusal : Refusal) {e : Event} → told (Err refusal) ≡ read_of value → e ≡ malformed_by refusal → e ≡ control_by value
+pub control-else : (value : List ℕ) (refusal : Refusal) {e : Event} → told (Err refusal) ≡ read_of value → e ≡ malformed_by (Err refusal) → e ≡ control_by value
 control-else value refusal said is = is ∙ control-by value (Err refusal) said
 
 -- or a message

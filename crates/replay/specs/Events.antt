@@ -9,8 +9,7 @@ use Rattle.field.specs.Fields.{place_at}
 use Rattle.field.specs.Outcome.{on_found}
 use Rattle.field.specs.declared.Arrival.{Arrival}
 use Rattle.types.specs.Refusals.{number_of}
-use Rattle.types.specs.declared.Refusal.{Refusal}
-use Rattle.message.specs.Reading.{Reading}
+use Rattle.message.specs.Reading.{Reading, on_whole}
 use Rattle.message.proofs.OneReading.{reading_of}
 use Rattle.ledger.specs.declared.Part.TheVariants.{Subscriber, Publisher}
 use Rattle.trace.specs.Fields.{number_of_tag, value_of}
@@ -30,12 +29,12 @@ started_by value =
     on_found (number_at value 1) Fault (λ maximum end. filling value end (part_by (slice_index value 0) maximum))
 
 -- tag 2: "answers 2 to 6 count as malformed"; "a message answering 1" is a fault
-abbrev pub malformed_by : Refusal → Event
-malformed_by refusal = guard (nat_le 2 (number_of refusal)) Fault (Malformed refusal)
+abbrev pub malformed_by : Reading → Event
+malformed_by (Ok read) = Fault
+malformed_by (Err refusal) = guard (nat_le 2 (number_of refusal)) Fault (Malformed refusal)
 
 abbrev pub reading_by : List ℕ → Reading → Event
-reading_by value (Ok (m, used)) = filling value used (Control m)
-reading_by value (Err refusal) = malformed_by refusal
+reading_by value r = on_whole r (malformed_by r) (λ m used. filling value used (Control m))
 
 -- the one reading that `told r ≡ read_of value` names: there is one, and no other (message/proofs/OneReading.antt:
 -- `reading-is`, `reading-only`)

@@ -5,6 +5,7 @@ ghost use Rattle.replay.specs.Events.{started_by, control_by, malformed_by, arri
 use crate::Event;
 use field::Arrival;
 use ledger::Part;
+use message::Message;
 use types::Refusal;
 
 pub fn event_of(tag: u8, value: &[u8]) -> Event
@@ -42,20 +43,23 @@ fn started(value: &[u8]) -> Event
 fn control(value: &[u8]) -> Event
     ensures { result ≡ control_by value.now }
 {
-    match message::read(value) {
-        Ok((m, used)) if used == value.len() => Event::Control(m),
-        Ok(_) => Event::Fault,
-        Err(refusal) => malformed(refusal),
+    let reading = message::read(value);
+    let Ok((m, used)) = reading else {
+        return malformed(reading);
+    };
+    if used != value.len() {
+        return Event::Fault;
     }
+    Event::Control(m)
 }
 
-// Bytes that are no message: where more are needed it is a fault, else they are malformed.
-fn malformed(refusal: Refusal) -> Event
-    ensures { result ≡ malformed_by refusal }
+// A reading of no message: where more bytes are needed it is a fault, else it is malformed.
+fn malformed(reading: Result<(Message, usize), Refusal>) -> Event
+    ensures { result ≡ malformed_by reading }
 {
-    match refusal {
-        Refusal::More => Event::Fault,
-        _ => Event::Malformed(refusal),
+    match reading {
+        Ok(_) | Err(Refusal::More) => Event::Fault,
+        Err(refusal) => Event::Malformed(refusal),
     }
 }
 
