@@ -8,7 +8,7 @@ pub returns-in-Control : goal.returns-in-Control
 returns-in-Control c = rw (c.in-Control.is, ← c.number.ensures) c.answer_line-in-Control.ensures
 
 pub returns-in-Malformed : goal.returns-in-Malformed
-returns-in-Malformed c = rw (c.in-Malformed.is, ← c.number-in-Malformed.ensures) c.malformed_line.ensures
+returns-in-Malformed c = rw c.in-Malformed.is c.malformed_line.ensures
 
 pub returns-in-Arrived : goal.returns-in-Arrived
 returns-in-Arrived c = rw c.in-Arrived.is c.answer_line-in-Arrived.ensures
