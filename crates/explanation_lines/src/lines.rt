@@ -2,7 +2,6 @@
 ghost use Rattle.std.specs.Prelude.{◌≡◌, ◌++◌};
 ghost use Rattle.columns.specs.Pouring.{filling, pour};
 ghost use Rattle.columns.specs.Columns.{size_text};
-ghost use Rattle.types.specs.Refusals.{number_of as refusal_number};
 ghost use Rattle.explanation_lines.specs.Lines.{newline, tag_words, field_line, called, part_line, faulty_line, left_line, numbered, mark_line, rule_text, answer_line, fault_line, cut_field_line};
 
 use crate::Word;
@@ -13,7 +12,6 @@ use labels::{put_label, put_meaning};
 use layout::FieldName;
 use parts::{Part, What};
 use text::Item;
-use types::Refusal;
 
 // ---- a field
 
@@ -117,11 +115,11 @@ fn put_numbered(out: &mut [u8], at: usize, number: u8) -> usize
 }
 
 // The mark under a part that is refused.
-pub fn put_mark(out: &mut [u8], at: usize, why: Refusal) -> usize
-    ensures { filling out.new result ≡ pour (filling out.old at) (mark_line (refusal_number why)) }
+pub fn put_mark(out: &mut [u8], at: usize, number: u8) -> usize
+    ensures { filling out.new result ≡ pour (filling out.old at) (mark_line number) }
 {
     let marked = put_str(out, at, "                                 ^ ");
-    let next = put_numbered(out, marked, why.number());
+    let next = put_numbered(out, marked, number);
     put_byte(out, next, b'\n')
 }
 

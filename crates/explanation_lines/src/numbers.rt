@@ -27,7 +27,7 @@ fn put_cut(out: &mut [u8], at: usize, offset: u64, s: &[u8], name: FieldName, st
         end: s.len(),
     };
     let next = put_faulty_line(out, at, offset, s, part);
-    put_mark(out, next, Refusal::More)
+    put_mark(out, next, Refusal::More.number())
 }
 
 // A number that is there, from start up to end.
@@ -100,7 +100,7 @@ pub fn put_start(out: &mut [u8], at: usize, offset: u64, s: &[u8]) -> usize
     let called = put_str(out, margin, "  Part: ");
     if s.is_empty() {
         let next = put_str(out, called, "cut\n");
-        return put_mark(out, next, Refusal::More);
+        return put_mark(out, next, Refusal::More.number());
     }
     let part = put_item(out, called, Item::Number(first_byte(s) as u64));
     let next = put_byte(out, part, b'\n');

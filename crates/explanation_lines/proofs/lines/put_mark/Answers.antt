@@ -6,4 +6,4 @@ use Rattle.explanation_lines.proofs.lines.put_mark.Goals as goal
 
 pub returns : goal.returns
 unfolding letters mark_line
-returns c = poured-three _ _ _ _ c.put_str-marked.ensures (rw c.number.ensures at c.put_numbered-next.ensures) c.put_byte.ensures
+returns c = poured-three _ _ _ _ c.put_str-marked.ensures c.put_numbered-next.ensures c.put_byte.ensures

@@ -5,4 +5,4 @@ use Rattle.explanation_lines.proofs.numbers.put_cut.Goals as goal
 
 pub returns : goal.returns
 unfolding cut_lines
-returns c = search poured-both
+returns c = search (poured-both, rw c.number.ensures at c.put_mark.ensures)

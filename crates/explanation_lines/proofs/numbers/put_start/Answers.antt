@@ -15,4 +15,4 @@ returns c =
 pub returns-then-is_empty : goal.returns-then-is_empty
 unfolding letters item_of start_lines
 returns-then-is_empty c =
-    rw (eqb-true _ 0 (sym c.is_empty.ensures ∙ c.if-is_empty.true)) (poured-three _ _ _ _ c.put_margin-margin.ensures c.put_str-called.ensures (poured-both _ _ _ c.put_str-next.ensures c.put_mark.ensures))
+    rw (eqb-true _ 0 (sym c.is_empty.ensures ∙ c.if-is_empty.true)) (poured-three _ _ _ _ c.put_margin-margin.ensures c.put_str-called.ensures (poured-both _ _ _ c.put_str-next.ensures (rw c.number.ensures at c.put_mark.ensures)))
