@@ -1,5 +1,6 @@
 // What the programs share: bytes come into a lent buffer, text goes to standard output a page at a time, and what
-// failed is said.
+// failed is said. (The loop that reads stays in each program: what becomes of a piece, and of the end, differs, and a
+// loop that was handed both would have to say in its contract what they do with the buffer.)
 #![tactic(auto)]
 
 ghost use Rattle.std.specs.Prelude.{◌≡◌, ◌+◌, ◌≤◌, IfOk, OnOk, length, take};
