@@ -1,18 +1,15 @@
 -- What the loops meet at a turn: the next byte, and the others. Assumes nothing.
-use Prim.Native.Nat.{ℕ, zero, suc, ◌+◌, ◌-◌, ◌≤◌, ◌<◌}
+use Prim.Native.Nat.{ℕ, suc, ◌+◌, ◌-◌, ◌≤◌, ◌<◌}
 use mathlib.Core.Path.{◌≡◌, refl, ◌∙◌}
 use mathlib.Core.Bool.{Bool, true, false, ◌&&◌}
 use native.Mathlib.Omega.{arith}
 use mathlib.Core.List.{List, [], ◌∷◌}
-use native.Mathlib.Nat.{not-suc-le-zero}
 use native.Mathlib.Numerals.{add-one}
-use borrow.Author.Tests.{le-leb, lt-leb}
 use lib.ListN.{length, get_or, take, drop, drop_of_length-le, length-drop}
 use Rattle.std.proofs.lemmas.List.{take_all}
 use lib.Seq.{drop-cons}
 use Rattle.common.specs.Choice.{both}
 use Rattle.common.proofs.PutLoop.{Next}
-use Rattle.common.proofs.Tests.{both_false}
 use Rattle.columns.specs.Columns.{spaces, hex_byte, hex_after, hex_bytes, is_printable, is_text}
 use Rattle.columns.proofs.HexDigits.{hex-some}
 use Rattle.std.specs.List.{list_all}

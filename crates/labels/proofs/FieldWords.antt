@@ -1,6 +1,6 @@
 -- The words for most fields are made of their names alone; and a label of a field's words is its label. Assumes nothing.
 use mathlib.Core.Path.{◌≡◌, refl, sym}
-use mathlib.Core.List.{[], ◌++◌, append-nil}
+use mathlib.Core.List.{append-nil}
 use Rattle.types.specs.Letters.{letters}
 use Rattle.layout.specs.declared.FieldName.{FieldName}
 use Rattle.layout.specs.declared.FieldName.TheVariants.{MessageType, MessageLength, SupportedVersions, SelectedVersion, Parameters, NewSessionUri, SubscribeId, MaximumSubscribeId, TrackAlias, FullTrackName, SubscriberPriority, GroupOrder, FilterType, StartGroup, StartObject, EndGroup, EndObject, Expires, ContentExists, LargestGroupId, LargestObjectId, ErrorCode, ReasonPhrase, StatusCode, StreamCount, FetchType, JoiningSubscribeId, JoiningStart, EndOfTrack, TrackNamespace, TrackNamespacePrefix, GroupId, SubgroupId, ObjectId, PublisherPriority, ExtensionHeaders, ObjectPayloadLength, ObjectStatus}

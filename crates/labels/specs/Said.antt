@@ -1,5 +1,5 @@
 -- How the words that the code has say those of a field, and of a label.
-use Rattle.std.specs.Prelude.{ℕ, List, [], ◌++◌}
+use Rattle.std.specs.Prelude.{ℕ, List, ◌++◌}
 use Rattle.types.specs.Letters.{letters}
 use Rattle.parts.specs.declared.What.{What}
 use Rattle.parts.specs.declared.What.TheVariants.{Number, Byte, Length, Content, Count, EntryNumber, EntryLength, EntryContent, Left}
