@@ -3,7 +3,8 @@
 // loop that was handed both would have to say in its contract what they do with the buffer.)
 #![tactic(auto)]
 
-ghost use Rattle.std.specs.Prelude.{◌≡◌, ◌+◌, ◌≤◌, IfOk, OnOk, length, take};
+ghost use Rattle.std.specs.Prelude.{◌≡◌, ◌+◌, ◌-◌, ◌≤◌, IfOk, IfErr, OnOk, is_err, length, min, take};
+ghost use Rattle.console.specs.Failures.{IsInput, IsOutput};
 
 use std::io::Read;
 use std::{fmt, io};
@@ -24,19 +25,29 @@ impl fmt::Display for Failed {
     }
 }
 
-// Says on standard error that a program failed, and why.
-pub fn say_failed(rt: &impl Eprint, program: &str, done: Result<(), Failed>) {
-    if let Err(e) = done {
-        let _ = eprintln!(rt; "{program}: {e}");
+// Says on standard error that a program failed, and why. It answers whether it did fail.
+pub fn say_failed(rt: &impl Eprint, program: &str, done: Result<(), Failed>) -> bool
+    ensures { result ≡ is_err done }
+{
+    match done {
+        Ok(()) => false,
+        Err(e) => {
+            let _ = eprintln!(rt; "{program}: {e}");
+            true
+        }
     }
 }
 
-// One read into buffer, after what is left of the bytes before, which stays. It answers how many came.
+// One read into buffer, after what is left of the bytes before, which stays. It answers how many came: none where no
+// room is left.
 pub fn read_behind(rt: &impl Input, buffer: &mut [u8], left: usize) -> Result<usize, Failed>
-    requires { left ≤ length buffer.old }
-    ensures count { IfOk result (λ n. left + n ≤ length buffer.old) }
+    ensures count { IfOk result (λ n. n ≤ length buffer.old - left) }
     ensures front { take left buffer.new ≡ take left buffer.old }
+    ensures failure { IfErr result IsInput }
 {
+    if left > buffer.len() {
+        return Ok(0);
+    }
     rt.reader().read(&mut buffer[left..]).map_err(Failed::Input)
 }
 
@@ -57,7 +68,9 @@ pub fn read_full(from: &mut impl Read, buffer: &mut [u8]) -> io::Result<usize>
 }
 
 // Text is written.
-pub fn write(rt: &impl Print, text: &[u8]) -> Result<(), Failed> {
+pub fn write(rt: &impl Print, text: &[u8]) -> Result<(), Failed>
+    ensures { IfErr result IsOutput }
+{
     rt.write_all(text).map_err(Failed::Output)
 }
 
@@ -90,8 +103,7 @@ impl Page {
 
     // Room for so many bytes more, if a page has so much. Where there is none, what waits is written.
     pub fn make_room(&mut self, rt: &impl Print, size: usize) -> Result<(), Failed>
-        requires { size ≤ 65536 }
-        ensures { OnOk result (self.new.used + size ≤ 65536) }
+        ensures { OnOk result (self.new.used + min size 65536 ≤ 65536) }
     {
         if self.bytes.len() - self.used < size {
             return self.flush(rt);
