@@ -9,16 +9,16 @@ use crate::{Ledger, MOST_ROWS};
 pub fn is_ledger(l: Ledger) -> bool
     ensures { result ≡ is_ledger l }
 {
-    if !is_bounded(l) {
+    if !is_bounded(&l) {
         return false;
     }
-    do_rise(l) && are_distinct(l) && is_rest_unused(l)
+    do_rise(&l) && are_distinct(&l) && is_rest_unused(&l)
 }
 
 // The capacity, the rows in use, and the numbers beside the rows.
 #[tactic(auto, unfolding(crate::specs::Ledgers::bounded, row::specs::Places::small))]
-fn is_bounded(l: Ledger) -> bool
-    ensures { result ≡ bounded l }
+fn is_bounded(l: &Ledger) -> bool
+    ensures { result ≡ bounded l.now }
 {
     l.capacity >= 1
         && l.capacity <= MOST_ROWS
@@ -28,12 +28,12 @@ fn is_bounded(l: Ledger) -> bool
 }
 
 // The rows in use rise strictly by ID, below the next one, and each is a row.
-fn do_rise(l: Ledger) -> bool
-    requires { l.used ≤ most_rows }
-    ensures { result ≡ rising 0 l.next (held l) }
+fn do_rise(l: &Ledger) -> bool
+    requires { l.now.used ≤ most_rows }
+    ensures { result ≡ rising 0 l.now.next (held l.now) }
 {
     let mut low: u64 = 0;
-    for row in held(&l) {
+    for row in held(l) {
         if row.id < low || row.id >= l.next || !row::is_row(*row) {
             return false;
         }
@@ -43,11 +43,11 @@ fn do_rise(l: Ledger) -> bool
 }
 
 // No alias is held by two rows.
-fn are_distinct(l: Ledger) -> bool
-    requires { l.used ≤ most_rows }
-    ensures { result ≡ distinct (held l) }
+fn are_distinct(l: &Ledger) -> bool
+    requires { l.now.used ≤ most_rows }
+    ensures { result ≡ distinct (held l.now) }
 {
-    let rows = held(&l);
+    let rows = held(l);
     for (i, row) in rows.iter().enumerate() {
         if rows[i + 1..].iter().any(|later| later.alias == row.alias) {
             return false;
@@ -56,9 +56,9 @@ fn are_distinct(l: Ledger) -> bool
     true
 }
 
-fn is_rest_unused(l: Ledger) -> bool
-    requires { l.used ≤ most_rows }
-    ensures { result ≡ all_unused (drop l.used l.rows) }
+fn is_rest_unused(l: &Ledger) -> bool
+    requires { l.now.used ≤ most_rows }
+    ensures { result ≡ all_unused (drop l.now.used l.now.rows) }
 {
     l.rows[l.used..].iter().all(|row| row::is_unused(*row))
 }

@@ -17,7 +17,7 @@ returns-then-row-low c =
       | then-row-low-via-else-row-low+then-row-l w ↦ not-below _ _ _ _ a _ (omega arith) w.if-row-low.false w.if-row-l.true
       | then-row-low-via-else-row-low+else-row-l+then-not-is_row w ↦ no-such-row _ _ _ _ a _ (omega arith) w.if-row-low.false w.if-row-l.false w.is_row.ensures w.if-not-is_row.true
     ])
-    ∙ ap (rising 0 c.args.l.next) c.held-row-items.ensures
+    ∙ ap (rising 0 c.args.l.now.next) c.held-row-items.ensures
 
 pub loop-row-preserved : goal.loop-row-preserved
 loop-row-preserved c =
@@ -25,4 +25,4 @@ loop-row-preserved c =
 
 pub returns : goal.returns
 returns c =
-    all-rise _ _ _ _ c.loop-row.invariant (omega arith) ∙ ap (rising 0 c.args.l.next) c.held-row-items.ensures
+    all-rise _ _ _ _ c.loop-row.invariant (omega arith) ∙ ap (rising 0 c.args.l.now.next) c.held-row-items.ensures
