@@ -49,7 +49,8 @@ fn are_distinct(l: &Ledger) -> bool
 {
     let rows = held(l);
     for (i, row) in rows.iter().enumerate() {
-        if rows[i + 1..].iter().any(|later| later.alias == row.alias) {
+        let alias = row.alias;
+        if rows[i + 1..].iter().any(move |later| later.alias == alias) {
             return false;
         }
     }
