@@ -3,18 +3,18 @@ ghost use Rattle.std.specs.Prelude.{◌≡◌};
 ghost use Rattle.row.specs.Ranges.{in_range, is_known, small_range, asked_of, latest, moved, settled_of};
 
 use crate::Range;
-use crate::places::is_small;
+use crate::places::{is_before, is_small};
 use field::Place;
 use subscription::Filter;
 
-#[tactic(auto, unfolding(crate::specs::Ranges::in_range, crate::specs::Places::before))]
+#[tactic(auto, unfolding(crate::specs::Ranges::in_range))]
 pub fn contains(range: Range, p: Place) -> bool
     ensures { result ≡ in_range range p }
 {
     match range {
         Range::Unknown => false,
-        Range::Open(start) => p >= start,
-        Range::Closed(start, last) => p >= start && p.group <= last,
+        Range::Open(start) => !is_before(p, start),
+        Range::Closed(start, last) => !is_before(p, start) && p.group <= last,
     }
 }
 

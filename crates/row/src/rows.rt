@@ -2,7 +2,7 @@
 ghost use Rattle.std.specs.Prelude.{◌≡◌};
 ghost use Rattle.row.specs.Rows.{count_agrees, suits, is_row, unused_row, is_unused, pending_row, greater, risen, counted_row, arrive_of, open_of, may_end, told_arriving, told_opening};
 
-use crate::places::is_small;
+use crate::places::{is_before, is_small};
 use crate::ranges::{contains, is_known, is_small_range, settled};
 use crate::{Ending, NotCounted, Range, Row, State, TOP};
 use field::Place;
@@ -71,13 +71,13 @@ pub fn pending(id: u64, alias: u64, range: Range) -> Row
     }
 }
 
-#[tactic(auto, unfolding(crate::specs::Rows::greater, crate::specs::Places::before))]
+#[tactic(auto, unfolding(crate::specs::Rows::greater))]
 fn greater_of(g: Option<Place>, place: Place) -> Place
     ensures { result ≡ greater g place }
 {
     match g {
-        None => place,
-        Some(held) => held.max(place),
+        Some(held) if !is_before(held, place) => held,
+        _ => place,
     }
 }
 
