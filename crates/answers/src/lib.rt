@@ -10,7 +10,7 @@ use text::Line;
 pub use writing::of_trace;
 
 // A field that was taken: the line that tells what it was answered, the progress after it, and where it ends.
-#[derive(Drop)]
+#[derive(Clone, Copy)]
 pub struct FieldLine {
     pub line: Line,
     pub progress: Progress,

@@ -7,3 +7,4 @@ pub mod Parts
 pub mod Puts
 pub mod PutLoop
 pub mod Exits
+mod BlankPlaces

@@ -4,4 +4,4 @@
 
 mod few;
 
-pub use few::Few;
+pub use few::{Blank, Few};

@@ -13,6 +13,7 @@ mod reader;
 mod rules;
 mod walking;
 
+use common::Blank;
 pub use integer::Cut;
 pub use pairs::{read_failure, read_place};
 pub use reader::{is_few, read_byte, read_bytes, read_list, read_number, read_track};
@@ -74,6 +75,12 @@ impl Default for Piece {
     fn default() -> Self {
         Piece::Number(0)
     }
+}
+
+impl Blank for Piece {
+    ghost blank = { Number 0 };
+
+    ghost only = { λ p is. is };
 }
 
 // A place in a track: a group and an object. Places are ordered by group first.

@@ -28,7 +28,7 @@ pub enum Unfit {
 pub const MOST_PIECES: usize = 10;
 
 // The fields of a message, in their order, and the number of its type.
-#[derive(Drop)]
+#[derive(Clone, Copy)]
 pub struct Fields {
     pub pieces: Few<Piece, MOST_PIECES>,
     pub number: u64,

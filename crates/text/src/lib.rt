@@ -8,7 +8,7 @@ mod digits;
 mod lines;
 mod words;
 
-use common::Few;
+use common::{Blank, Few};
 pub use digits::places;
 pub use lines::{fault_line, measure, put};
 pub use words::name;
@@ -50,6 +50,12 @@ impl Default for Item {
     fn default() -> Self {
         Item::Number(0)
     }
+}
+
+impl Blank for Item {
+    ghost blank = { Number 0 };
+
+    ghost only = { λ item is. is };
 }
 
 // The items of a line, in their order. One of no items has no bytes.
