@@ -43,7 +43,9 @@ pub fn entry_at(s: &[u8], kind: Kind, most: u64, at: usize) -> Result<Entry, Fau
         };
         return Ok(Entry { number, bytes });
     }
-    numbered(s, number, most, next)
+    // Taken apart, so that what is answered is made here and not copied.
+    let entry = numbered(s, number, most, next)?;
+    Ok(entry)
 }
 
 // Whether entries begin with a number, and whether they hold bytes.

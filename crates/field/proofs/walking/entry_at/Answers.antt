@@ -26,6 +26,11 @@ pub returns-then-not-has_bytes : goal.returns-then-not-has_bytes
 returns-then-not-has_bytes c =
     entry-bare _ _ c.args.kind _ (sym c.has_bytes.ensures ∙ c.if-not-has_bytes.true) (lead (goal.at.returns-then-not-has_bytes c).Joined-has_number)
 
+pub returns-in_err-entry : goal.returns-in_err-entry
+returns-in_err-entry c =
+    rw (handed c.from_residual-in_err-entry.ensures.1)
+      (entry-text _ _ c.args.kind _ (sym c.has_bytes.ensures ∙ c.if-not-has_bytes.false) (lead (goal.at.returns-in_err-entry c).Joined-has_number) c.in_err-entry.ensures)
+
 pub returns : goal.returns
 returns c =
-    entry-text _ _ c.args.kind _ (sym c.has_bytes.ensures ∙ c.if-not-has_bytes.false) (lead (goal.at.returns c).Joined-has_number) c.numbered.ensures
+    entry-text _ _ c.args.kind _ (sym c.has_bytes.ensures ∙ c.if-not-has_bytes.false) (lead (goal.at.returns c).Joined-has_number) c.in_ok-entry.ensures
