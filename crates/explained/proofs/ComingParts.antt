@@ -17,9 +17,6 @@ use Rattle.field.specs.declared.Fault.{Fault}
 use Rattle.field.proofs.Found.{number-at}
 use Rattle.layout.specs.declared.FieldName.{FieldName}
 use Rattle.layout.specs.declared.FieldName.TheVariants.{MessageLength}
-use Rattle.types.specs.Refusals.{number_of as refusal_number}
-use Rattle.types.specs.declared.Refusal.{Refusal}
-use Rattle.types.specs.declared.Refusal.TheVariants.{Unfilled}
 use Rattle.outline.specs.declared.Outline.{Outline}
 use Rattle.parts.specs.Advancing.{advanced}
 use Rattle.parts.specs.Telling.{part_of, going, staying, cut_by, cut_in, must_fill, ended_at, tell_number, tell_byte, tell_bytes, tell_in, next_of}
@@ -28,10 +25,10 @@ use Rattle.parts.specs.declared.What.TheVariants.{Byte as AByte, Left}
 use Rattle.parts.specs.declared.Part.{Part}
 use Rattle.parts.specs.declared.Stage.TheVariants.{Field as AtField}
 use Rattle.parts.specs.declared.Cursor.{Cursor}
-use Rattle.parts.specs.declared.Step.TheVariants.{Refused as IsRefused}
+use Rattle.parts.specs.declared.Step.TheVariants.{Refused as IsRefused, Faulty}
 use Rattle.parts.specs.declared.NextPart.{NextPart}
 use Rattle.explained.specs.Grammar.{Parts, end, stop, a_number, a_byte, some_bytes}
-use Rattle.explained.specs.Explaining.{Explained, taking, refusing, first, cut_at, explain}
+use Rattle.explained.specs.Explaining.{Explained, taking, first, cut_at, explain}
 use Rattle.explained.specs.Tiling.{Tells, part, before, here, all}
 use Rattle.explained.proofs.FilledBytes.{ended, ended-refusing, ended-found, ended-guard}
 
@@ -40,7 +37,7 @@ use Rattle.explained.proofs.FilledBytes.{ended, ended-refusing, ended-found, end
 -- a cursor that sees some bytes of those that there are, and what is answered where they end in its part
 pub record Sees (s seen : List ℕ) (cut : ℕ) (c : Cursor) : Type 0 where
   pub seen-is : take c.end s ≡ seen
-  pub cuts : refusal_number (cut_by c.place.outline c.stage) ≡ cut
+  pub cuts : cut_by c.place.outline c.stage ≡ cut
 
 module _ {s seen : List ℕ} {cut : ℕ} {c : Cursor} (sees : Sees s seen cut c) where
   -- the next step is looked for among these bytes
@@ -57,7 +54,7 @@ module _ {s seen : List ℕ} {cut : ℕ} {c : Cursor} (sees : Sees s seen cut c)
   unfolding cut_in
   tells-cut name what h =
       let p = part_of name what 0 c.at (length seen) in
-      subst (λ (n : ℕ). Tells s c (first p (refusing n))) sees.cuts (here {p = p} (step_is h))
+      here {p = p} (step_is (h ∙ ap (λ (n : ℕ). staying (Faulty p n) c) sees.cuts))
 
   -- an integer,
   pub tells-number : (name : FieldName) (what : What) (some : ℕ → ℕ → Explained) → tell_in seen c ≡ tell_number seen c name what → ((n mid : ℕ) → mid ≤ length seen → Tells s (advanced c n mid (length seen)) (some n mid))
@@ -97,7 +94,7 @@ module _ {s seen : List ℕ} {cut : ℕ} {c : Cursor} (sees : Sees s seen cut c)
   unfolding ended_at
   tells-end true m e =
       pick-by (Tells s c) (ltb c.at (length seen))
-      (λ f. here {p = part_of MessageLength Left 0 c.at (length seen)} {why = Unfilled} (step_is (e ∙ rw (m, f))))
+      (λ f. here {p = part_of MessageLength Left 0 c.at (length seen)} {number = 4} (step_is (e ∙ rw (m, f))))
       (λ f. all {used = c.at} (step_is (e ∙ rw (m, f))))
   tells-end false m e = all {used = c.at} (step_is (e ∙ rw (m, both_false (ltb c.at (length seen)))))
 
@@ -105,19 +102,19 @@ module _ {s seen : List ℕ} {cut : ℕ} {c : Cursor} (sees : Sees s seen cut c)
 
 -- the answer for a cut field
 abbrev pub cut_of : Outline → ℕ
-cut_of outline = refusal_number (cut_by outline AtField)
+cut_of outline = cut_by outline AtField
 
 -- a cursor that stands at an offset, in a field of what is laid out, when the bytes that it may take end at another
 pub record Stands (outline : Outline) (last at : ℕ) (c : Cursor) : Type 0 where
   pub laid : c.place.outline ≡ outline
   pub here-at : c.at ≡ at
   pub ends_at : c.end ≡ last
-  pub cuts : refusal_number (cut_by c.place.outline c.stage) ≡ cut_of outline
+  pub cuts : cut_by c.place.outline c.stage ≡ cut_of outline
 
 -- what is to come, among bytes of a size
 pub data Comes (outline : Outline) (last size : ℕ) : Cursor → ℕ → Parts → Type 0 where
   ends : {c : Cursor} {at : ℕ} → Stands outline last at c → ((t : List ℕ) → tell_in t c ≡ ended_at (length t) c) → Comes outline last size c at end
-  stops : {c : Cursor} {at : ℕ} {fault : Fault} {why : Refusal} → refusal_number why ≡ fault_number (cut_of outline) fault → ((t : List ℕ) → tell_in t c ≡ staying (IsRefused why) c) → Comes outline last size c at (stop fault)
+  stops : {c : Cursor} {at : ℕ} {fault : Fault} → ((t : List ℕ) → tell_in t c ≡ staying (IsRefused (fault_number (cut_of outline) fault)) c) → Comes outline last size c at (stop fault)
   reads : {c : Cursor} {at : ℕ} {name : FieldName} {what : What} {next : ℕ → Parts} → Stands outline last at c → ((t : List ℕ) → tell_in t c ≡ tell_number t c name what) → ((n mid : ℕ) → Comes outline last size (advanced c n mid size) mid (next n)) → Comes outline last size c at (a_number name what next)
   looks : {c : Cursor} {at : ℕ} {name : FieldName} {next : ℕ → Parts} → Stands outline last at c → ((t : List ℕ) → tell_in t c ≡ tell_byte t c name) → ((b mid : ℕ) → Comes outline last size (advanced c b mid size) mid (next b)) → Comes outline last size c at (a_byte name next)
   takes : {c : Cursor} {at : ℕ} {name : FieldName} {what : What} {n : ℕ} {next : Parts} → Stands outline last at c → ((t : List ℕ) → tell_in t c ≡ tell_bytes t c name what n) → ((mid : ℕ) → Comes outline last size (advanced c 0 mid size) mid next) → Comes outline last size c at (some_bytes name what n next)
@@ -152,9 +149,8 @@ module _ (outline : Outline) (last : ℕ) (s : List ℕ) where
   pub told : {c : Cursor} {at : ℕ} {ps : Parts} → Comes outline last size c at ps → at ≤ size → Tells s c (telling ps at)
   unfolding explain next_of
   told (ends d e) h = stood d end (tells-end (sees d) must (ap must_fill d.laid) (e seen))
-  told {c} (stops {fault = fault} is e) h =
-      subst (Tells s c) (ended-refusing must size (fault_number cut fault))
-      (subst (λ (n : ℕ). Tells s c (refusing n)) is (before (e (take c.end s))))
+  told {c} (stops {fault = fault} e) h =
+      subst (Tells s c) (ended-refusing must size (fault_number cut fault)) (before (e (take c.end s)))
   told {c} (reads {name = name} {what = what} {next = next} d e k) h =
       stood d (a_number name what next)
       (subst (Tells s c) (ended-found must size (number_at seen c.at) _ cut _ (λ n mid. explain cut (next n) seen mid))

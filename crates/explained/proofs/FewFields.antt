@@ -22,7 +22,6 @@ use Rattle.outline.specs.declared.Outline.{Outline}
 use Rattle.outline.specs.declared.Outline.TheVariants.{Message, Datagram, Stream}
 use Rattle.parts.specs.Cursors.{most_fields}
 use Rattle.parts.specs.Advancing.{behind_type}
-use Rattle.types.specs.declared.Refusal.TheVariants.{Unknown}
 use Rattle.parts.specs.declared.Stage.TheVariants.{Length as AtLength, Refused as Stopped, Field as AtField}
 use Rattle.explained.proofs.PlacesReached.{Shallow}
 
@@ -104,15 +103,15 @@ all_begin (r ∷ rs) = both (begins (ahead_of r.layout)) (all_begin rs)
 
 -- so behind its type stands the Length of a message that stands in a row, and nothing of another
 row-stage : (rows : List TypeRow) (type : ℕ) → all_begin rows ≡ true
-    → behind_type (ahead_of (on_listed (type_row_in rows type) forbidden (λ r. r.layout))) (Message type) ≡ pick (on_listed (type_row_in rows type) false (λ r. true)) AtLength (Stopped Unknown)
+    → behind_type (ahead_of (on_listed (type_row_in rows type) forbidden (λ r. r.layout))) (Message type) ≡ pick (on_listed (type_row_in rows type) false (λ r. true)) AtLength (Stopped 2)
 unfolding type_row_in ahead_of
 row-stage [] type h = refl
 row-stage (r ∷ rs) type h =
-    pick-by (λ (t : InTable). behind_type (ahead_of (on_listed t forbidden (λ r. r.layout))) (Message type) ≡ pick (on_listed t false (λ r. true)) AtLength (Stopped Unknown)) (eqb type r.number)
+    pick-by (λ (t : InTable). behind_type (ahead_of (on_listed t forbidden (λ r. r.layout))) (Message type) ≡ pick (on_listed t false (λ r. true)) AtLength (Stopped 2)) (eqb type r.number)
     (λ e. message-stage type (ahead_of r.layout) (both_first (begins (ahead_of r.layout)) (all_begin rs) h))
     (λ e. row-stage rs type (both-second (begins (ahead_of r.layout)) (all_begin rs) h))
 
-pub type-stage : (type : ℕ) → behind_type (ahead_at (Message type) []) (Message type) ≡ pick (known type) AtLength (Stopped Unknown)
+pub type-stage : (type : ℕ) → behind_type (ahead_at (Message type) []) (Message type) ≡ pick (known type) AtLength (Stopped 2)
 unfolding ahead_at laid_out rest_of ahead_of known layout_of type_row_of messages client_setup server_setup go_away subscribe_update subscribe subscribe_ok subscribe_error subscribe_done id_only fetch fetch_ok fetch_error fetch_cancel track_status_request track_status named
 type-stage type = row-stage messages type refl
 

@@ -18,8 +18,6 @@ use Rattle.field.specs.declared.Kind.{Kind}
 use Rattle.field.specs.declared.Kind.TheVariants.{Namespace, Parameters, Versions}
 use Rattle.layout.specs.Layout.{Layout, done, forbidden, field, when}
 use Rattle.layout.specs.declared.FieldName.{FieldName}
-use Rattle.types.specs.Refusals.{number_of as refusal_number}
-use Rattle.types.specs.declared.Refusal.TheVariants as refusal
 use Rattle.outline.specs.Places.{form_in, ahead_of}
 use Rattle.outline.specs.declared.Form.{Form}
 use Rattle.outline.specs.declared.Form.TheVariants.{Integer, Byte as AByte, Bytes as SomeBytes, List as AList, Track as ATrack}
@@ -46,7 +44,7 @@ use Rattle.explained.proofs.PlacesReached.{Reached, reached-true, reached-false,
 abbrev InField : Stage → Type 0
 InField AtType = ⊥
 InField AtLength = ⊥
-InField (Stopped why) = ⊥
+InField (Stopped number) = ⊥
 InField AtField = Unit {0}
 InField (AtContent size) = Unit {0}
 InField (AtEntry left held) = Unit {0}
@@ -55,10 +53,10 @@ InField (AtEntryContent left held size) = Unit {0}
 InField (AtName held) = Unit {0}
 
 -- there the answer for a cut part is that for a cut field
-cuts-alike : (outline : Outline) (stage : Stage) → InField stage → refusal_number (cut_by outline stage) ≡ cut_of outline
+cuts-alike : (outline : Outline) (stage : Stage) → InField stage → cut_by outline stage ≡ cut_of outline
 cuts-alike (Message type) AtType i = absurd i
 cuts-alike (Message type) AtLength i = absurd i
-cuts-alike (Message type) (Stopped why) i = absurd i
+cuts-alike (Message type) (Stopped number) i = absurd i
 cuts-alike (Message type) AtField i = refl
 cuts-alike (Message type) (AtContent size) i = refl
 cuts-alike (Message type) (AtEntry left held) i = refl
@@ -107,7 +105,7 @@ module _ (outline : Outline) (last size : ℕ) where
       unfolding advanced
       goes AtType at n mid i = absurd i
       goes AtLength at n mid i = absurd i
-      goes (Stopped why) at n mid i = absurd i
+      goes (Stopped number) at n mid i = absurd i
       goes AtField at n mid i = rw ahead
       goes (AtContent size) at n mid i = rw ahead
       goes (AtEntry left held) at n mid i = rw ahead
@@ -120,7 +118,7 @@ module _ (outline : Outline) (last size : ℕ) where
       unfolding tell_in expected_of
       looks-for AtType at t i = absurd i
       looks-for AtLength at t i = absurd i
-      looks-for (Stopped why) at t i = absurd i
+      looks-for (Stopped number) at t i = absurd i
       looks-for AtField at t i = rw ahead
       looks-for (AtContent size) at t i = rw ahead
       looks-for (AtEntry left held) at t i = rw ahead
@@ -148,10 +146,10 @@ module _ (outline : Outline) (last size : ℕ) where
       content-comes n at next k = bytes-come (AtContent n) at Content n next tt (λ t. refl) k
 
       -- where a size that is judged is not over
-      judged : (t : Bool) (c : Cursor) (mid : ℕ) (ps : Parts) → (t ≡ true → Coming c mid ps) → Coming (guard t (cursor (Stopped refusal.Oversize) mid) c) mid (within t ps)
+      judged : (t : Bool) (c : Cursor) (mid : ℕ) (ps : Parts) → (t ≡ true → Coming c mid ps) → Coming (guard t (cursor (Stopped 6) mid) c) mid (within t ps)
       unfolding tell_in expected_of
       judged true c mid ps k = k refl
-      judged false c mid ps k = stops refl (λ t. refl)
+      judged false c mid ps k = stops (λ t. refl)
 
       -- in a track, by how many of its bytes are held,
       bounded : (stage to : Stage) (from held kept n mid : ℕ) (ps : Parts) → held ≡ kept → (n ≤ longest_track - held → Coming (cursor to mid) mid ps) → Coming (bounded_by (cursor stage from) kept n to mid) mid (within (leb n (most_of true Namespace held)) ps)
@@ -247,7 +245,7 @@ module _ (outline : Outline) (last size : ℕ) where
   unfolding parts_of ahead_by ahead_of tell_in expected_of
   layout-comes done ns passed room h k r w at = ends (stands ns passed AtField at tt) (λ t. rw r.ahead)
   layout-comes forbidden ns passed room h k r w at =
-      stops {c = cursor ns passed AtField at} {fault = IsForbidden} {why = refusal.Forbidden} refl (λ t. rw r.ahead)
+      stops {c = cursor ns passed AtField at} {fault = IsForbidden} (λ t. rw r.ahead)
   layout-comes (field name form next) ns passed zero h k r w at = absurd w
   layout-comes (field name form next) ns passed (suc room) h k r w at =
       let few : passed < most_fields = omega arith in

@@ -13,9 +13,6 @@ use Rattle.layout.specs.declared.FieldName.TheVariants.{MessageType, MessageLeng
 use Rattle.types.specs.Table.{known}
 use Rattle.types.specs.Limits.{longest_body}
 use Rattle.header.specs.Layouts.{layout_of as layout_in, InTable, listed, unlisted, on_listed, datagrams, streams}
-use Rattle.types.specs.Refusals.{number_of as refusal_number}
-use Rattle.types.specs.declared.Refusal.{Refusal}
-use Rattle.types.specs.declared.Refusal.TheVariants as refusal
 use Rattle.outline.specs.Places.{rest_of, ahead_of, laid_out, ahead_at}
 use Rattle.outline.specs.declared.Outline.{Outline}
 use Rattle.outline.specs.declared.Outline.TheVariants.{Message, Datagram, Stream, SubgroupObject, FetchObject}
@@ -44,9 +41,9 @@ start outline stage at last =
     record { place = record { outline = outline; numbers = replicate most_fields 0; passed = 0 }; stage = stage; at = at; end = last }
 
 -- what was refused is told
-refusal-told : (s : List ℕ) (outline : Outline) (why : Refusal) (at last : ℕ) → Tells s (start outline (Stopped why) at last) (refusing (refusal_number why))
+refusal-told : (s : List ℕ) (outline : Outline) (number at last : ℕ) → Tells s (start outline (Stopped number) at last) (refusing number)
 unfolding next_of tell_in expected_of
-refusal-told s outline why at last = before refl
+refusal-told s outline number at last = before refl
 
 -- ---- the fields of a layout
 
@@ -75,7 +72,7 @@ fetch-object-told s = all_told s FetchObject 0 fetch-object-shallow zero-le
 
 type-told : (s : List ℕ) (outline : Outline) (some : ℕ → ℕ → Explained)
     → ((type mid : ℕ) → mid ≤ length s → Tells s (start (typed_as outline type) (behind_type (ahead_at (typed_as outline type) []) (typed_as outline type)) mid (length s)) (some type mid))
-    → Tells s (start outline AtType 0 (length s)) (on_found (number_at s 0) (cut_at (refusal_number (cut_by outline AtType)) MessageType Number s 0) (λ type mid. first (part_of MessageType Number type 0 mid) (some type mid)))
+    → Tells s (start outline AtType 0 (length s)) (on_found (number_at s 0) (cut_at (cut_by outline AtType) MessageType Number s 0) (λ type mid. first (part_of MessageType Number type 0 mid) (some type mid)))
 unfolding tell_in expected_of advanced after_type
 type-told s outline some k = tells-number (record { seen-is = take-length s; cuts = refl }) MessageType Number some refl k
 
@@ -88,8 +85,8 @@ header-told s outline mid (listed l) e f h =
     let k : behind_type (ahead_of (laid_out outline)) outline ≡ AtField = rw e f.0 in
     rw k (rw e at (all_told s outline mid (rw e f.1) h))
 header-told s outline mid unlisted e f h =
-    let k : behind_type (ahead_of (laid_out outline)) outline ≡ Stopped refusal.Unknown = rw e in
-    rw k (refusal-told s outline refusal.Unknown mid (length s))
+    let k : behind_type (ahead_of (laid_out outline)) outline ≡ Stopped 2 = rw e in
+    rw k (refusal-told s outline 2 mid (length s))
 
 pub datagram-told : (s : List ℕ) → Tells s (begin_of ADatagram (length s)) (datagram_explained s)
 unfolding begin_of datagram_explained headed_explained laid_out
@@ -108,8 +105,8 @@ module _ (s : List ℕ) (type : ℕ) where
   body-told : (mid size at : ℕ) → at ≤ length s → Tells s (after_length (start (Message type) AtLength mid (length s)) size at (length s)) (body_explained s type size at)
   unfolding after_length body_explained laid_out
   body-told mid size at h =
-      guard-both (Tells s) (leb size longest_body) _ _ _ _ (refusal-told s (Message type) refusal.TooLong at (length s)) (λ short.
-      guard-both (Tells s) (leb size (length s - at)) _ _ _ _ (refusal-told s (Message type) refusal.More at (length s)) (λ fits.
+      guard-both (Tells s) (leb size longest_body) _ _ _ _ (refusal-told s (Message type) 3 at (length s)) (λ short.
+      guard-both (Tells s) (leb size (length s - at)) _ _ _ _ (refusal-told s (Message type) 1 at (length s)) (λ fits.
       let k : at + size ≤ length s = omega (arith, leb-true size (length s - at) fits) in
       let z : length (take (at + size) s) ≡ at + size = length-take-le (at + size) s k in
       rw z at (fields_told s (Message type) at (at + size) (message-shallow type) (rw z (omega arith)))))
@@ -127,4 +124,4 @@ unfolding begin_of message_explained
 message-told s =
     type-told s (Message 0) _ (λ type mid h. rw (type-stage type)
     (guard-both (λ stage e. Tells s (start (Message type) stage mid (length s)) e) (known type) _ _ _ _
-    (refusal-told s (Message type) refusal.Unknown mid (length s)) (λ is_Known. length-told s type mid)))
+    (refusal-told s (Message type) 2 mid (length s)) (λ is_Known. length-told s type mid)))

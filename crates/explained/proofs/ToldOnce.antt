@@ -2,7 +2,6 @@
 use Prim.Native.Nat.{ℕ}
 use mathlib.Core.Path.{◌≡◌, refl, sym, ap, ◌∙◌}
 use mathlib.Core.List.{List}
-use Rattle.types.specs.Refusals.{number_of as refusal_number}
 use Rattle.parts.specs.Telling.{next_of}
 use Rattle.parts.specs.declared.Cursor.{Cursor}
 use Rattle.parts.specs.declared.Step.{Step}
@@ -14,8 +13,8 @@ use Rattle.explained.specs.Tiling.{Tells, part, before, here, all}
 -- what is told by a step
 abbrev StepTells : List ℕ → Cursor → Step → Explained → Type 0
 StepTells s d (APart p) e = (f : Explained) × (Tells s d f) × (e ≡ first p f)
-StepTells s d (IsRefused why) e = e ≡ refusing (refusal_number why)
-StepTells s d (Faulty p why) e = e ≡ first p (refusing (refusal_number why))
+StepTells s d (IsRefused number) e = e ≡ refusing number
+StepTells s d (Faulty p number) e = e ≡ first p (refusing number)
 StepTells s d (Whole used) e = e ≡ taking used
 
 abbrev ToldBy : List ℕ → NextPart → Explained → Type 0

@@ -1,8 +1,6 @@
 -- What is claimed of parts.
 use Rattle.std.specs.Prelude.{ℕ, ◌≤◌, ◌≡◌, List, [], ◌∷◌}
 use Rattle.common.specs.Answer.{Answer, Nothing, whole, refused}
-use Rattle.types.specs.Refusals.{number_of as refusal_number}
-use Rattle.types.specs.declared.Refusal.{Refusal}
 use Rattle.message.specs.Reading.{read_of}
 use Rattle.header.specs.Reading.{datagram_of, stream_of, subgroup_object_of, fetch_object_of}
 use Rattle.parts.specs.Telling.{going, staying, next_of}
@@ -35,8 +33,7 @@ pub data Tiles : ℕ → List Part → ℕ → Type 0 where
 -- what is told from a cursor on, one part at a time
 pub data Tells (s : List ℕ) : Cursor → Explained → Type 0 where
   part : {c d : Cursor} {p : Part} {e : Explained} → next_of s c ≡ going p d → Tells s d e → Tells s c (first p e)
-  before : {c : Cursor} {why : Refusal} → next_of s c ≡ staying (IsRefused why) c
-      → Tells s c (refusing (refusal_number why))
-  here : {c : Cursor} {p : Part} {why : Refusal} → next_of s c ≡ staying (Faulty p why) c
-      → Tells s c (first p (refusing (refusal_number why)))
+  before : {c : Cursor} {number : ℕ} → next_of s c ≡ staying (IsRefused number) c → Tells s c (refusing number)
+  here : {c : Cursor} {p : Part} {number : ℕ} → next_of s c ≡ staying (Faulty p number) c
+      → Tells s c (first p (refusing number))
   all : {c : Cursor} {used : ℕ} → next_of s c ≡ staying (Whole used) c → Tells s c (taking used)

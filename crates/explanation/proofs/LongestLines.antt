@@ -4,13 +4,12 @@ use Rattle.common.proofs.Cases.{pick-by}
 use Rattle.parts.specs.Telling.{next_of}
 use Rattle.parts.specs.declared.Step.{Step}
 use Rattle.parts.specs.declared.Step.TheVariants.{Part as APart, Refused as IsRefused, Faulty, Whole}
-use Rattle.types.specs.Refusals.{number_of as refusal_number}
 use Rattle.trace.specs.Fields.{offset_of}
 use Rattle.columns.specs.Pouring.{filling, pour}
 use Rattle.columns.proofs.Poured.{pour-fits}
 use Rattle.explanation_lines.specs.Lines.{step_lines, value_lines}
 use Rattle.explanation_lines.proofs.LineBounds.{Few, longest_line, longest_value, part-bound, faulty-bound, left-bound, field_bound, mark-bound, answer-bound, fault-line-bound, arrival-bound, start-bound}
-use Rattle.explanation.specs.Telling.{longest_lines, field_told, part_told, reason_word, number_read, ending_line, told_by, next_told}
+use Rattle.explanation.specs.Telling.{longest_lines, field_told, part_told, reason_word, ending_line, told_by, next_told}
 use Rattle.explanation.specs.declared.Ending.{Ending}
 use Rattle.explanation.specs.declared.Ending.TheVariants.{Answered, Fault, Read}
 use Rattle.explanation.specs.declared.Due.{Due}
@@ -28,8 +27,8 @@ value-bound tag offset value =
 
 step-bound : (step : Step) (offset : ℕ) (s : List ℕ) → Few longest_lines (step_lines step offset s)
 step-bound (APart p) offset s = omega (arith, part-bound offset s (eqb p.start 0) p)
-step-bound (IsRefused why) offset s = omega (arith, mark-bound (refusal_number why))
-step-bound (Faulty p why) offset s = rw length-append (omega (arith, faulty-bound offset s p, mark-bound (refusal_number why)))
+step-bound (IsRefused number) offset s = omega (arith, mark-bound number)
+step-bound (Faulty p number) offset s = rw length-append (omega (arith, faulty-bound offset s p, mark-bound number))
 step-bound (Whole used) offset s = omega (arith, left-bound offset s used)
 
 ending-bound : (ending : Ending) (read : ℕ) → Few longest_line (ending_line ending read)
@@ -45,7 +44,7 @@ told-bound AField field e =
 told-bound PartDue field e =
     let value = drop e.start field in
     step-bound (next_of value e.cursor).step (offset_of e.offset e.start) value
-told-bound (TheEnding read) field e = omega (arith, ending-bound e.ending (number_read read))
+told-bound (TheEnding read) field e = omega (arith, ending-bound e.ending read)
 told-bound Nothing field e = omega arith
 
 module _ (field : List ℕ) (e : Explaining) where

@@ -1,8 +1,6 @@
 -- What is told to the end: part by part, and of a field. Assumes nothing.
 use Rattle.std.proofs.Common.{◌≡◌, ℕ, false, eqb, List, ◌++◌, get_or, drop, sym, refl, ap, subst, append_assoc, append-nil, arith}
 use Rattle.common.specs.Answer.{number}
-use Rattle.std.specs.Prelude.{Option, Some, None}
-use Rattle.types.specs.declared.Refusal.{Refusal}
 use Rattle.trace.specs.Fields.{offset_of}
 use Rattle.parts.specs.Telling.{next_of}
 use Rattle.parts.specs.declared.Cursor.{Cursor}
@@ -10,7 +8,7 @@ use Rattle.parts.specs.declared.NextPart.{NextPart}
 use Rattle.explained.specs.Explaining.{Explained}
 use Rattle.explained.specs.Tiling.{Tells, part, before, here, all}
 use Rattle.explanation_lines.specs.Lines.{field_line, step_lines, value_lines}
-use Rattle.explanation.specs.Telling.{Telling, telling, due_after, field_told, after_step, part_told, number_read, ending_line, next_told, is_nothing}
+use Rattle.explanation.specs.Telling.{Telling, telling, due_after, field_told, after_step, part_told, ending_line, next_told, is_nothing}
 use Rattle.explanation.specs.Printing as printing
 use Rattle.explanation.specs.Printing.{Prints, PartLines, over, more}
 use Rattle.explanation.specs.declared.Ending.{Ending}
@@ -40,7 +38,7 @@ module _ (field : List ℕ) (ending : Ending) (offset start : ℕ) where
   value = drop start field
 
   -- the ending
-  ends : (read : Option Refusal) (c : Cursor) → Prints field (explaining (TheEnding read) c) (ending_line ending (number_read read))
+  ends : (read : ℕ) (c : Cursor) → Prints field (explaining (TheEnding read) c) (ending_line ending read)
   unfolding next_told
   ends read c = rw append-nil at (prints {field = field} {e = explaining (TheEnding read) c} refl refl (over refl))
 
@@ -53,9 +51,9 @@ module _ (field : List ℕ) (ending : Ending) (offset start : ℕ) where
   pub shows : {c : Cursor} {x : Explained} → Tells value c x → (t : List ℕ) × (PartLines (offset_of offset start) value x t) × (Prints field (explaining PartDue c) (t ++ ending_line ending (number x.answer)))
   unfolding number
   shows (part {c} h t) = let u = shows t in (_, printing.part u.1, rw append_assoc (prints refl (part-next c h) u.2))
-  shows (before {c} {why} h) = (_, printing.refused, prints refl (part-next c h) (ends (Some why) c))
-  shows (here {c} {why = why} h) = (_, printing.faulty, prints refl (part-next c h) (ends (Some why) c))
-  shows (all {c} h) = (_, printing.whole, prints refl (part-next c h) (ends None c))
+  shows (before {c} h) = (_, printing.refused, prints refl (part-next c h) (ends _ c))
+  shows (here {c} h) = (_, printing.faulty, prints refl (part-next c h) (ends _ c))
+  shows (all {c} h) = (_, printing.whole, prints refl (part-next c h) (ends _ c))
 
   -- a message in a field, with its line before them,
   pub message-shown : {c : Cursor} {x : Explained} → get_or field 0 0 ≡ 2 → Tells value c x → (t : List ℕ) × (PartLines (offset_of offset start) value x t) × (Prints field (explaining AField c) (field_line offset field ++ t ++ ending_line ending (number x.answer)))
@@ -69,5 +67,5 @@ module _ (field : List ℕ) (ending : Ending) (offset start : ℕ) where
   pub value-shown : (c : Cursor) → eqb (get_or field 0 0) 2 ≡ false → Prints field (explaining AField c) (field_line offset field ++ value_lines (get_or field 0 0) (offset_of offset start) value ++ ending_line ending 0)
   unfolding next_told field_told due_after
   value-shown c tag =
-      let line : next_told field (explaining AField c) ≡ telling (field_line offset field ++ value_lines (get_or field 0 0) (offset_of offset start) value) (explaining (TheEnding None) c) = rw tag in
-      prints refl line (ends None c)
+      let line : next_told field (explaining AField c) ≡ telling (field_line offset field ++ value_lines (get_or field 0 0) (offset_of offset start) value) (explaining (TheEnding 0) c) = rw tag in
+      prints refl line (ends 0 c)

@@ -1,8 +1,6 @@
 -- WHICH LINE COMES NEXT: that of a field, those of its parts, and what stands below them.
-use Rattle.std.specs.Prelude.{◌≡◌, ℕ, Option, Some, None, Bool, true, false, List, [], ◌++◌, length, drop, ◌==◌, slice_index_or}
+use Rattle.std.specs.Prelude.{◌≡◌, ℕ, Bool, true, false, List, [], ◌++◌, length, drop, ◌==◌, slice_index_or}
 use Rattle.common.specs.Choice.{pick}
-use Rattle.types.specs.Refusals.{number_of as refusal_number}
-use Rattle.types.specs.declared.Refusal.{Refusal}
 use Rattle.parts.specs.Cursors.{begin_of}
 use Rattle.parts.specs.Telling.{next_of}
 use Rattle.parts.specs.declared.Subject.TheVariants.{Message}
@@ -47,7 +45,7 @@ on_to e c = record { due = e.due; cursor = c; ending = e.ending; offset = e.offs
 
 -- the value of a message is shown part by part
 unfoldable pub due_after : ℕ → Due
-due_after tag = pick (tag == 2) PartDue (TheEnding None)
+due_after tag = pick (tag == 2) PartDue (TheEnding 0)
 
 unfoldable pub field_told : List ℕ → Explaining → Telling
 field_told field e =
@@ -61,9 +59,9 @@ field_told field e =
 -- nothing is shown after a refused part
 abbrev pub after_step : Step → Cursor → Explaining → Explaining
 after_step (APart p) c e = on_to e c
-after_step (IsRefused why) c e = duly e (TheEnding (Some why))
-after_step (Faulty p why) c e = duly e (TheEnding (Some why))
-after_step (Whole used) c e = duly e (TheEnding None)
+after_step (IsRefused number) c e = duly e (TheEnding number)
+after_step (Faulty p number) c e = duly e (TheEnding number)
+after_step (Whole used) c e = duly e (TheEnding 0)
 
 unfoldable pub part_told : List ℕ → Explaining → Telling
 part_told field e =
@@ -81,11 +79,6 @@ reason_word NoStart = SaysNoStart
 reason_word NoMessage = SaysNoMessage
 reason_word NoArrival = SaysNoArrival
 
--- the number of what the reader refused; 0 where it read a whole message
-abbrev pub number_read : Option Refusal → ℕ
-number_read None = 0
-number_read (Some why) = refusal_number why
-
 abbrev pub ending_line : Ending → ℕ → List ℕ
 ending_line (Answered number rule) read = answer_line number rule
 ending_line (Fault reason) read = fault_line (reason_word reason)
@@ -96,7 +89,7 @@ ending_line Read read = answer_line read 0
 abbrev pub told_by : Due → List ℕ → Explaining → Telling
 told_by AField field e = field_told field e
 told_by PartDue field e = part_told field e
-told_by (TheEnding read) field e = telling (ending_line e.ending (number_read read)) (duly e Nothing)
+told_by (TheEnding read) field e = telling (ending_line e.ending read) (duly e Nothing)
 told_by Nothing field e = telling [] e
 
 -- whether nothing is left to be told

@@ -6,7 +6,6 @@ mod telling;
 
 use parts::Cursor;
 pub use telling::tag_of;
-use types::Refusal;
 
 // How many bytes a call puts at most.
 pub const LONGEST_LINES: usize = 2048;
@@ -32,13 +31,13 @@ pub enum Ending {
     Read,
 }
 
-// Which line comes next: that of a field; that of the part at the cursor; the ending, and what the reader refused, if
-// anything; or none.
+// Which line comes next: that of a field; that of the part at the cursor; the ending, and what the reader answered; or
+// none.
 #[derive(Clone, Copy)]
 pub enum Due {
     Field,
     Part,
-    Ending(Option<Refusal>),
+    Ending(u8),
     Nothing,
 }
 

@@ -3,13 +3,12 @@
 
 ghost use Rattle.std.specs.Prelude.{◌≡◌, slice_index};
 ghost use Rattle.columns.specs.Pouring.{filling, pour};
-ghost use Rattle.explanation.specs.Telling.{duly, due_after, field_told, after_step, part_told, number_read, ending_line, next_told, Tells, field_begun, message_begun, is_nothing};
+ghost use Rattle.explanation.specs.Telling.{duly, due_after, field_told, after_step, part_told, ending_line, next_told, Tells, field_begun, message_begun, is_nothing};
 ghost use Rattle.explanation.specs.declared.Due.TheVariants.{Ending as TheEnding, Nothing};
 
 use crate::{Due, Ending, Explaining, NextLines, Reason};
 use explanation_lines::{Word, put_answer, put_field_line, put_field_value, put_reason, put_step};
 use parts::{Cursor, NextPart, Step, Subject};
-use types::Refusal;
 
 impl Explaining {
     // A field, whose tag has that offset.
@@ -111,14 +110,14 @@ impl Explaining {
                 cursor: told.cursor,
                 ..self
             },
-            Step::Refused(why) => self.ending(Some(why)),
-            Step::Faulty(_, why) => self.ending(Some(why)),
-            Step::Whole(_) => self.ending(None),
+            Step::Refused(number) => self.ending(number),
+            Step::Faulty(_, number) => self.ending(number),
+            Step::Whole(_) => self.ending(0),
         }
     }
 
-    // With the ending due, below what the reader refused or not.
-    fn ending(self, read: Option<Refusal>) -> Explaining
+    // With the ending due, below what the reader answered: a refusal's number, or 0 for a whole message.
+    fn ending(self, read: u8) -> Explaining
         ensures { result ≡ duly self (TheEnding read) }
     {
         Explaining {
@@ -132,11 +131,7 @@ impl Explaining {
 fn due_after(tag: u8) -> Due
     ensures { result ≡ due_after tag }
 {
-    if tag == 2 {
-        Due::Part
-    } else {
-        Due::Ending(None)
-    }
+    if tag == 2 { Due::Part } else { Due::Ending(0) }
 }
 
 // The tag of a field, or 0 where there is none.
@@ -166,23 +161,13 @@ impl From<Reason> for Word {
     }
 }
 
-// The number of what the reader refused, or 0.
-fn number_read(read: Option<Refusal>) -> u8
-    ensures { result ≡ number_read read }
-{
-    match read {
-        Some(why) => why.number(),
-        None => 0,
-    }
-}
-
 // What stands below the parts.
-fn put_ending(out: &mut [u8], at: usize, ending: Ending, read: Option<Refusal>) -> usize
-    ensures { filling out.new result ≡ pour (filling out.old at) (ending_line ending (number_read read)) }
+fn put_ending(out: &mut [u8], at: usize, ending: Ending, read: u8) -> usize
+    ensures { filling out.new result ≡ pour (filling out.old at) (ending_line ending read) }
 {
     match ending {
         Ending::Answered(number, rule) => put_answer(out, at, number, rule),
         Ending::Fault(reason) => put_reason(out, at, reason.into()),
-        Ending::Read => put_answer(out, at, number_read(read), 0),
+        Ending::Read => put_answer(out, at, read, 0),
     }
 }

@@ -8,7 +8,6 @@ use Rattle.layout.specs.declared.FieldName.{FieldName}
 use Rattle.layout.specs.declared.FieldName.TheVariants.{MessageLength, MaximumSubscribeId, TrackAlias, GroupId, ObjectId}
 use Rattle.types.specs.Letters.{letters}
 use Rattle.types.specs.Table.{name_of}
-use Rattle.types.specs.Refusals.{number_of as refusal_number}
 use Rattle.parts.specs.Telling.{part_of}
 use Rattle.parts.specs.declared.What.{What}
 use Rattle.parts.specs.declared.What.TheVariants.{Number, Byte, Length, Content, Count, EntryNumber, EntryLength, EntryContent, Left}
@@ -120,8 +119,8 @@ mark_line number = spaces 33 ++ letters "^ " ++ numbered number ++ newline
 -- a message begins with its type; a refused part is marked
 abbrev pub step_lines : Step → ℕ → List ℕ → List ℕ
 step_lines (APart p) offset s = part_line offset s (p.start == 0) p
-step_lines (IsRefused why) offset s = mark_line (refusal_number why)
-step_lines (Faulty p why) offset s = faulty_line offset s p ++ mark_line (refusal_number why)
+step_lines (IsRefused number) offset s = mark_line number
+step_lines (Faulty p number) offset s = faulty_line offset s p ++ mark_line number
 step_lines (Whole used) offset s = left_line offset s used
 
 -- with a 13 stands its rule

@@ -13,10 +13,10 @@ pub fn put_step(out: &mut [u8], at: usize, offset: u64, s: &[u8], step: Step) ->
 {
     match step {
         Step::Part(part) => put_part_line(out, at, offset, s, part.start == 0, part),
-        Step::Refused(why) => put_mark(out, at, why.number()),
-        Step::Faulty(part, why) => {
+        Step::Refused(number) => put_mark(out, at, number),
+        Step::Faulty(part, number) => {
             let line = put_faulty_line(out, at, offset, s, part);
-            put_mark(out, line, why.number())
+            put_mark(out, line, number)
         }
         Step::Whole(used) => put_left_line(out, at, offset, s, used),
     }

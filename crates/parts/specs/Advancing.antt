@@ -17,7 +17,6 @@ use Rattle.parts.specs.Expecting.{kind_in}
 use Rattle.parts.specs.declared.Stage.{Stage}
 use Rattle.parts.specs.declared.Stage.TheVariants.{TypeNumber as AtType, Length as AtLength, Refused as Stopped, Field as AtField, Content, Entry, EntryLength, EntryContent, NameLength}
 use Rattle.parts.specs.declared.Cursor.{Cursor}
-use Rattle.types.specs.declared.Refusal.TheVariants as refusal
 
 -- ---- the type
 
@@ -31,7 +30,7 @@ typed_as FetchObject type = FetchObject
 
 -- "Type, known or not": a type is known that has a layout. A message's Length stands before its fields
 abbrev pub behind_type : Ahead → Outline → Stage
-behind_type Forbidden outline = Stopped refusal.Unknown
+behind_type Forbidden outline = Stopped 2
 behind_type Done outline = AtField
 behind_type (Field name form) (Message _) = AtLength
 behind_type (Field name form) (Datagram _) = AtField
@@ -54,8 +53,8 @@ after_type c type at =
 -- "Length, at most" 65,000; "whole body present", among that many bytes; the fields are looked for in the body alone
 unfoldable pub after_length : Cursor → ℕ → ℕ → ℕ → Cursor
 after_length c size at all =
-    guard (leb size longest_body) (onward c (Stopped refusal.TooLong) at)
-    (guard (leb size (all - at)) (onward c (Stopped refusal.More) at)
+    guard (leb size longest_body) (onward c (Stopped 3) at)
+    (guard (leb size (all - at)) (onward c (Stopped 1) at)
     (record { place = c.place; stage = AtField; at = at; end = at + size }))
 
 -- ---- in a field
@@ -73,13 +72,11 @@ entries_left c form left held at = pick (ltb 0 left) (onward c (Entry left held)
 
 -- "Sizes (6, never 5)": a count is judged before an entry is looked for,
 unfoldable pub counted_by : Cursor → Form → Kind → ℕ → ℕ → Cursor
-counted_by c form kind count at =
-    guard (few kind count) (onward c (Stopped refusal.Oversize) at) (entries_left c form count 0 at)
+counted_by c form kind count at = guard (few kind count) (onward c (Stopped 6) at) (entries_left c form count 0 at)
 
 -- and a length in a track by how many of its bytes are held
 unfoldable pub bounded_by : Cursor → ℕ → ℕ → Stage → ℕ → Cursor
-bounded_by c held n stage at =
-    guard (leb n (most_of true Namespace held)) (onward c (Stopped refusal.Oversize) at) (onward c stage at)
+bounded_by c held n stage at = guard (leb n (most_of true Namespace held)) (onward c (Stopped 6) at) (onward c stage at)
 
 -- how many bytes are held with n more; past the size of a track it makes no difference
 abbrev pub held_with : ℕ → ℕ → ℕ
@@ -105,7 +102,7 @@ after_entry c form left held n at = after_entry_of (kind_in form) c form left he
 abbrev pub advanced_by : Stage → Cursor → Form → ℕ → ℕ → Cursor
 advanced_by AtType c form n at = c
 advanced_by AtLength c form n at = c
-advanced_by (Stopped why) c form n at = c
+advanced_by (Stopped number) c form n at = c
 advanced_by AtField c form n at = after_first c form n at
 advanced_by (Content size) c form n at = hand_on c 0 at
 advanced_by (Entry left held) c form n at = after_entry c form left held n at
@@ -126,7 +123,7 @@ advanced_ahead Forbidden c n at = c
 abbrev pub advanced_at : Stage → Cursor → ℕ → ℕ → ℕ → Cursor
 advanced_at AtType c n at all = after_type c n at
 advanced_at AtLength c n at all = after_length c n at all
-advanced_at (Stopped why) c n at all = c
+advanced_at (Stopped number) c n at all = c
 advanced_at AtField c n at all = advanced_ahead (ahead_by c.place) c n at
 advanced_at (Content size) c n at all = advanced_ahead (ahead_by c.place) c n at
 advanced_at (Entry left held) c n at all = advanced_ahead (ahead_by c.place) c n at

@@ -13,7 +13,6 @@ use Rattle.parts.specs.declared.Stage.{Stage}
 use Rattle.parts.specs.declared.Stage.TheVariants.{TypeNumber as AtType, Length as AtLength, Refused as Stopped, Field as AtField, Content, Entry, EntryLength, EntryContent, NameLength}
 use Rattle.parts.specs.declared.Cursor.{Cursor}
 use Rattle.parts.specs.declared.Expected.{Expected}
-use Rattle.types.specs.declared.Refusal.TheVariants as refusal
 use Rattle.parts.specs.declared.Expected.TheVariants.{Number, Byte, Bytes, End, Refused}
 
 -- what a field begins with, by its form
@@ -42,7 +41,7 @@ entry_first name Versions = Number name TheEntryNumber
 abbrev pub expected_in : FieldName → Form → Stage → Expected
 expected_in name form AtType = first_of name form
 expected_in name form AtLength = first_of name form
-expected_in name form (Stopped why) = first_of name form
+expected_in name form (Stopped number) = first_of name form
 expected_in name form AtField = first_of name form
 expected_in name form (Content size) = Bytes name TheContent size
 expected_in name form (Entry left held) = entry_first name (kind_in form)
@@ -54,12 +53,12 @@ expected_in name form (NameLength held) = Number name ALength
 abbrev pub expected_ahead : Ahead → Stage → Expected
 expected_ahead (Field name form) stage = expected_in name form stage
 expected_ahead Done stage = End
-expected_ahead Forbidden stage = Refused refusal.Forbidden
+expected_ahead Forbidden stage = Refused 5
 
 abbrev pub expected_at : Ahead → Stage → Expected
 expected_at ahead AtType = Number MessageType ANumber
 expected_at ahead AtLength = Number MessageLength ALength
-expected_at ahead (Stopped why) = Refused why
+expected_at ahead (Stopped number) = Refused number
 expected_at ahead AtField = expected_ahead ahead AtField
 expected_at ahead (Content size) = expected_ahead ahead (Content size)
 expected_at ahead (Entry left held) = expected_ahead ahead (Entry left held)

@@ -8,8 +8,6 @@ use Rattle.layout.specs.declared.FieldName.{FieldName}
 use Rattle.layout.specs.declared.FieldName.TheVariants.{MessageLength}
 use Rattle.outline.specs.declared.Outline.{Outline}
 use Rattle.outline.specs.declared.Outline.TheVariants.{Message, Datagram, Stream, SubgroupObject, FetchObject}
-use Rattle.types.specs.declared.Refusal.{Refusal}
-use Rattle.types.specs.declared.Refusal.TheVariants.{More, Unfilled}
 use Rattle.parts.specs.Expecting.{expected_of}
 use Rattle.parts.specs.Advancing.{advanced}
 use Rattle.parts.specs.declared.What.{What}
@@ -37,24 +35,24 @@ staying step c = record { step = step; cursor = c }
 
 -- ---- where the bytes end in a part
 
--- more bytes can come on a stream, and before the body of a message; none in a body, and in a datagram
-abbrev pub in_body : Stage → Refusal
-in_body AtType = More
-in_body AtLength = More
-in_body (Stopped why) = Unfilled
-in_body AtField = Unfilled
-in_body (Content size) = Unfilled
-in_body (Entry left held) = Unfilled
-in_body (EntryLength left held) = Unfilled
-in_body (EntryContent left held size) = Unfilled
-in_body (NameLength held) = Unfilled
+-- 1 where more bytes can come: on a stream, and before the body of a message; 4 in a body, and in a datagram
+abbrev pub in_body : Stage → ℕ
+in_body AtType = 1
+in_body AtLength = 1
+in_body (Stopped number) = 4
+in_body AtField = 4
+in_body (Content size) = 4
+in_body (Entry left held) = 4
+in_body (EntryLength left held) = 4
+in_body (EntryContent left held size) = 4
+in_body (NameLength held) = 4
 
-abbrev pub cut_by : Outline → Stage → Refusal
+abbrev pub cut_by : Outline → Stage → ℕ
 cut_by (Message type) stage = in_body stage
-cut_by (Datagram type) stage = Unfilled
-cut_by (Stream type) stage = More
-cut_by SubgroupObject stage = More
-cut_by FetchObject stage = More
+cut_by (Datagram type) stage = 4
+cut_by (Stream type) stage = 1
+cut_by SubgroupObject stage = 1
+cut_by FetchObject stage = 1
 
 unfoldable pub cut_in : ℕ → Cursor → FieldName → What → NextPart
 cut_in end c name what = staying (Faulty (part_of name what 0 c.at end) (cut_by c.place.outline c.stage)) c
@@ -72,7 +70,7 @@ must_fill FetchObject = false
 unfoldable pub ended_at : ℕ → Cursor → NextPart
 ended_at all c =
     pick (both (ltb c.at all) (must_fill c.place.outline))
-    (staying (Faulty (part_of MessageLength Left 0 c.at all) Unfilled) c) (staying (Whole c.at) c)
+    (staying (Faulty (part_of MessageLength Left 0 c.at all) 4) c) (staying (Whole c.at) c)
 
 -- ---- a part
 
@@ -100,7 +98,7 @@ tell_as (Number name what) s c = tell_number s c name what
 tell_as (Byte name) s c = tell_byte s c name
 tell_as (Bytes name what size) s c = tell_bytes s c name what size
 tell_as End s c = ended_at (length s) c
-tell_as (Refused why) s c = staying (IsRefused why) c
+tell_as (Refused number) s c = staying (IsRefused number) c
 
 unfoldable pub tell_in : List ℕ → Cursor → NextPart
 tell_in s c = tell_as (expected_of c) s c

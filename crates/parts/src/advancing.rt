@@ -28,7 +28,7 @@ fn behind_type(ahead: Ahead, outline: Outline) -> Stage
     ensures { result ≡ behind_type ahead outline }
 {
     match ahead {
-        Ahead::Forbidden => Stage::Refused(Refusal::Unknown),
+        Ahead::Forbidden => Stage::Refused(Refusal::Unknown.number()),
         Ahead::Done => Stage::Field,
         Ahead::Field(_, _) => match outline {
             Outline::Message(_) => Stage::Length,
@@ -68,10 +68,10 @@ impl Cursor {
         ensures { result ≡ after_length self size at len }
     {
         if size > LONGEST_BODY as u64 {
-            return self.onward(Stage::Refused(Refusal::TooLong), at);
+            return self.onward(Stage::Refused(Refusal::TooLong.number()), at);
         }
         if size > len.saturating_sub(at) as u64 {
-            return self.onward(Stage::Refused(Refusal::More), at);
+            return self.onward(Stage::Refused(Refusal::More.number()), at);
         }
         Cursor {
             stage: Stage::Field,
@@ -98,7 +98,7 @@ impl Cursor {
         ensures { result ≡ counted_by self form kind count at }
     {
         if !field::is_few(kind, count) {
-            return self.onward(Stage::Refused(Refusal::Oversize), at);
+            return self.onward(Stage::Refused(Refusal::Oversize.number()), at);
         }
         self.entries_left(form, count, 0, at)
     }
@@ -132,7 +132,7 @@ impl Cursor {
         ensures { result ≡ bounded_by self held n stage at }
     {
         if n > field::most(true, Kind::Namespace, held) {
-            return self.onward(Stage::Refused(Refusal::Oversize), at);
+            return self.onward(Stage::Refused(Refusal::Oversize.number()), at);
         }
         self.onward(stage, at)
     }

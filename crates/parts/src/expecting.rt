@@ -27,7 +27,7 @@ impl Cursor {
         match self.stage {
             Stage::TypeNumber => Expected::Number(FieldName::MessageType, What::Number),
             Stage::Length => Expected::Number(FieldName::MessageLength, What::Length),
-            Stage::Refused(why) => Expected::Refused(why),
+            Stage::Refused(number) => Expected::Refused(number),
             _ => expected_ahead(self.place.ahead(), self.stage),
         }
     }
@@ -39,7 +39,7 @@ fn expected_ahead(ahead: Ahead, stage: Stage) -> Expected
     match ahead {
         Ahead::Field(name, form) => expected_in(name, form, stage),
         Ahead::Done => Expected::End,
-        Ahead::Forbidden => Expected::Refused(Refusal::Forbidden),
+        Ahead::Forbidden => Expected::Refused(Refusal::Forbidden.number()),
     }
 }
 

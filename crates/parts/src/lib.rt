@@ -9,7 +9,6 @@ mod telling;
 
 use layout::FieldName;
 use outline::Outline;
-use types::Refusal;
 
 // How many fields a layout has at most.
 pub const MOST_FIELDS: usize = 10;
@@ -65,7 +64,7 @@ pub struct Place {
 pub enum Stage {
     TypeNumber,
     Length,
-    Refused(Refusal),
+    Refused(u8),
     Field,
     Content(u64),
     Entry(u64, usize),
@@ -83,13 +82,13 @@ pub struct Cursor {
     pub end: usize,
 }
 
-// What is told: a part; that the part before is refused; a part that is refused itself, since the bytes
+// What is told: a part; that the part before is refused, by 01's number; a part that is refused itself, since the bytes
 // end in it or no field takes it; or that all is told, and how many bytes it took.
 #[derive(Clone, Copy)]
 pub enum Step {
     Part(Part),
-    Refused(Refusal),
-    Faulty(Part, Refusal),
+    Refused(u8),
+    Faulty(Part, u8),
     Whole(usize),
 }
 
@@ -107,5 +106,5 @@ enum Expected {
     Byte(FieldName),
     Bytes(FieldName, What, u64),
     End,
-    Refused(Refusal),
+    Refused(u8),
 }

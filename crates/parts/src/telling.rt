@@ -2,6 +2,7 @@
 #![tactic(auto, unfolding(crate::specs::Telling::cut_in, crate::specs::Telling::ended_at, crate::specs::Telling::tell_number, crate::specs::Telling::tell_byte, crate::specs::Telling::tell_bytes, crate::specs::Telling::tell_in, crate::specs::Telling::next_of))]
 
 ghost use Rattle.std.specs.Prelude.{◌≡◌};
+ghost use Rattle.types.specs.Refusals.{number_of};
 ghost use Rattle.parts.specs.Advancing.{advanced};
 ghost use Rattle.parts.specs.Telling.{cut_by, cut_in, must_fill, ended_at, going, tell_number, tell_byte, tell_bytes, tell_in, next_of};
 
@@ -13,7 +14,7 @@ use types::Refusal;
 
 // More bytes can come on a stream, and before the body of a message; none in a body, and in a datagram.
 fn why_cut(outline: Outline, stage: Stage) -> Refusal
-    ensures { result ≡ cut_by outline stage }
+    ensures { number_of result ≡ cut_by outline stage }
 {
     match outline {
         Outline::Message(_) => match stage {
@@ -52,8 +53,8 @@ impl Cursor {
             Expected::Byte(name) => self.tell_byte(s, name),
             Expected::Bytes(name, what, size) => self.tell_bytes(s, name, what, size),
             Expected::End => self.ended(s.len()),
-            Expected::Refused(why) => NextPart {
-                step: Step::Refused(why),
+            Expected::Refused(number) => NextPart {
+                step: Step::Refused(number),
                 cursor: self,
             },
         }
@@ -139,7 +140,7 @@ impl Cursor {
             end,
         };
         NextPart {
-            step: Step::Faulty(part, why_cut(self.place.outline, self.stage)),
+            step: Step::Faulty(part, why_cut(self.place.outline, self.stage).number()),
             cursor: self,
         }
     }
@@ -157,7 +158,7 @@ impl Cursor {
                 start: at,
                 end: len,
             };
-            Step::Faulty(left, Refusal::Unfilled)
+            Step::Faulty(left, Refusal::Unfilled.number())
         } else {
             Step::Whole(at)
         };

@@ -8,4 +8,4 @@ pub returns-in-Fault : goal.returns-in-Fault
 returns-in-Fault c = rw (c.in-Fault.is, ← c.into.ensures) c.put_reason.ensures
 
 pub returns-in-Read : goal.returns-in-Read
-returns-in-Read c = rw (c.in-Read.is, ← c.number_read.ensures) c.put_answer-in-Read.ensures
+returns-in-Read c = rw c.in-Read.is c.put_answer-in-Read.ensures
