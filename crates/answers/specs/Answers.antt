@@ -1,7 +1,6 @@
 -- The answers of a trace: a line for each field as it goes, with the offset of its tag, what it is, and the answer.
 use Rattle.std.specs.Prelude.{ℕ, ◌+◌, List, [], ◌∷◌, ◌++◌, Option, Some, None, length, drop, take, eqb}
 use Rattle.common.specs.Choice.{pick}
-use Rattle.types.specs.Refusals.{number_of}
 use Rattle.message.specs.Types.{typed_of}
 use Rattle.ledger.specs.Answers.{Verdict}
 use Rattle.trace.specs.Fields.{field_size, is_whole}
@@ -34,7 +33,7 @@ malformed_line offset refusal said = Number offset ∷ Word AMalformed ∷ Numbe
 abbrev pub line_by : ℕ → Event → Verdict → List Item
 line_by offset (Start part maximum) said = offset_line offset (Word AStart) said
 line_by offset (Control m) said = offset_line offset (Name (typed_of m).type) said
-line_by offset (Malformed refusal) said = malformed_line offset (number_of refusal) said
+line_by offset (Malformed refusal) said = malformed_line offset refusal said
 line_by offset (Arrived a) said = offset_line offset (Word AnArrival) said
 line_by offset Fault said = []
 

@@ -1,6 +1,5 @@
 // The line of a field.
 ghost use Rattle.std.specs.Prelude.{◌≡◌};
-ghost use Rattle.types.specs.Refusals.{number_of};
 ghost use Rattle.replay.specs.Progressing.{verdict_of};
 ghost use Rattle.answers.specs.Answers.{offset_line, malformed_line, line_by, fault_items, end_items, taken_at};
 
@@ -8,7 +7,6 @@ use crate::FieldLine;
 use ledger::Answer;
 use replay::{Event, Progress, Stage};
 use text::{Item, Line, Word};
-use types::Refusal;
 
 // Document 01's number of what was said, 0 where nothing was.
 fn number(said: Option<Answer>) -> u8
@@ -43,11 +41,11 @@ fn answer_line(offset: u64, what: Item, said: Option<Answer>) -> Line
 
 // The reader's number stands before the ledger's answer. (It stays beside `answer_line`: a list of one item more is an
 // array of another size, and a size that is a sum is no const argument.)
-fn malformed_line(offset: u64, refusal: Refusal, said: Option<Answer>) -> Line
-    ensures { result ≡ malformed_line offset (number_of refusal) (verdict_of said) }
+fn malformed_line(offset: u64, refusal: u8, said: Option<Answer>) -> Line
+    ensures { result ≡ malformed_line offset refusal (verdict_of said) }
 {
     let what = Item::Word(Word::Malformed);
-    let why = Item::Number(refusal.number() as u64);
+    let why = Item::Number(refusal as u64);
     let n = Item::Number(number(said) as u64);
     match rule(said) {
         0 => Line::of([Item::Number(offset), what, why, n]),

@@ -1,6 +1,7 @@
 -- A ledger stays one, field by field. Assumes nothing.
 use Rattle.std.proofs.Common.{◌≡◌, ℕ, true, eqb, leb, List, length, get_or, refl, le-leb}
 use Rattle.std.specs.Prelude.{Ok, Err}
+use Rattle.common.specs.Answer.{number}
 use Rattle.common.proofs.Cases.{pick-by}
 use Rattle.integer.specs.Integer.{greatest}
 use Rattle.field.specs.Outcome.{Outcome, whole, no, on_found}
@@ -8,8 +9,7 @@ use Rattle.field.specs.Entries.{number_at}
 use Rattle.field.specs.Fields.{place_at}
 use Rattle.field.specs.declared.Place.{Place}
 use Rattle.field.proofs.Found.{number-at}
-use Rattle.types.specs.Refusals.{number_of}
-use Rattle.message.specs.Reading.{Reading}
+use Rattle.message.specs.Reading.{Reading, told}
 use Rattle.message.proofs.OneReading.{reading_of}
 use Rattle.row.specs.Places.{small}
 use Rattle.ledger.specs.Ledgers.{most_rows, is_ledger}
@@ -31,7 +31,7 @@ use Rattle.replay.specs.declared.Progress.{Progress}
 abbrev pub Startable : Event → Type 0
 Startable (Start part maximum) = small maximum ≡ true
 Startable (Control m) = Unit {0}
-Startable (Malformed refusal) = Unit {0}
+Startable (Malformed number) = Unit {0}
 Startable (Arrived a) = Unit {0}
 Startable Fault = Unit {0}
 
@@ -49,7 +49,7 @@ started-fits value = go (number_at value 1) refl
 
 reading-fits : (value : List ℕ) (r : Reading) → Startable (reading_by value r)
 reading-fits value (Ok (m, used)) = pick-by Startable (eqb used (length value)) (λ _. tt) (λ _. tt)
-reading-fits value (Err refusal) = pick-by Startable (leb 2 (number_of refusal)) (λ _. tt) (λ _. tt)
+reading-fits value (Err refusal) = pick-by Startable (leb 2 (number (told (Err refusal)))) (λ _. tt) (λ _. tt)
 
 control-fits : (value : List ℕ) → Startable (control_by value)
 unfolding control_by
@@ -88,7 +88,7 @@ started-is part maximum h = starts part most_rows maximum (rw h)
 heard-keeps : (p : Progress) (e : Event) → Startable e → is_ledger p.ledger ≡ true → is_ledger (heard_of p e).ledger ≡ true
 heard-keeps p (Start part maximum) f w = started-is part maximum f
 heard-keeps p (Control m) f w = keeps-take p.ledger w m
-heard-keeps p (Malformed refusal) f w = keeps-malformed p.ledger w
+heard-keeps p (Malformed number) f w = keeps-malformed p.ledger w
 heard-keeps p (Arrived a) f w = keeps-arrival p.ledger w a
 heard-keeps p Fault f w = w
 

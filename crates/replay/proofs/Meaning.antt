@@ -1,6 +1,7 @@
 -- What a field is, by what was read of its value. Assumes nothing.
 use Rattle.std.proofs.Common.{◌≡◌, ℕ, ◌<◌, List, length, get_or, sym, ap, ◌∙◌, arith, eq-eqb, ne_eqb}
 use Rattle.std.specs.Prelude.{Ok, Err}
+use Rattle.common.specs.Answer.{number}
 use Rattle.field.specs.Outcome.{whole, no}
 use Rattle.field.specs.Fields.{field_at, integer, place_at}
 use Rattle.field.specs.declared.Fault.TheVariants.{Cut}
@@ -47,7 +48,7 @@ unfolding control_by
 control-by value r said = ap (reading_by value) (reading-only longest_body value r said)
 
 -- no message,
-pub control-else : (value : List ℕ) (refusal : Refusal) {e : Event} → told (Err refusal) ≡ read_of value → e ≡ malformed_by (Err refusal) → e ≡ control_by value
+pub control-else : (value : List ℕ) (refusal : Refusal) {e : Event} → told (Err refusal) ≡ read_of value → e ≡ malformed_by (number (told (Err refusal))) → e ≡ control_by value
 control-else value refusal said is = is ∙ control-by value (Err refusal) said
 
 -- or a message

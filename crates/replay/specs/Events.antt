@@ -2,14 +2,14 @@
 -- Tag 2: one control message; answers 2 to 6 count as malformed, whichever end would send it. Tag 3: alias, group,
 -- object as integers." "Any other shape ..., a message answering 1, or a whole message or an arrival that leaves bytes
 -- of its field" is a fault.
-use Rattle.std.specs.Prelude.{ℕ, List, Option, Some, None, Ok, Err, length, ◌==◌, nat_le, slice_index}
+use Rattle.std.specs.Prelude.{ℕ, List, Option, Some, None, length, ◌==◌, nat_le, slice_index}
 use Rattle.common.specs.Choice.{guard, pick}
+use Rattle.common.specs.Answer.{number}
 use Rattle.field.specs.Entries.{number_at}
 use Rattle.field.specs.Fields.{place_at}
 use Rattle.field.specs.Outcome.{on_found}
 use Rattle.field.specs.declared.Arrival.{Arrival}
-use Rattle.types.specs.Refusals.{number_of}
-use Rattle.message.specs.Reading.{Reading, on_whole}
+use Rattle.message.specs.Reading.{Reading, told, on_whole}
 use Rattle.message.proofs.OneReading.{reading_of}
 use Rattle.ledger.specs.declared.Part.TheVariants.{Subscriber, Publisher}
 use Rattle.trace.specs.Fields.{number_of_tag, value_of}
@@ -29,12 +29,11 @@ started_by value =
     on_found (number_at value 1) Fault (λ maximum end. filling value end (part_by (slice_index value 0) maximum))
 
 -- tag 2: "answers 2 to 6 count as malformed"; "a message answering 1" is a fault
-abbrev pub malformed_by : Reading → Event
-malformed_by (Ok read) = Fault
-malformed_by (Err refusal) = guard (nat_le 2 (number_of refusal)) Fault (Malformed refusal)
+abbrev pub malformed_by : ℕ → Event
+malformed_by answer = guard (nat_le 2 answer) Fault (Malformed answer)
 
 abbrev pub reading_by : List ℕ → Reading → Event
-reading_by value r = on_whole r (malformed_by r) (λ m used. filling value used (Control m))
+reading_by value r = on_whole r (malformed_by (number (told r))) (λ m used. filling value used (Control m))
 
 -- the one reading that `told r ≡ read_of value` names: there is one, and no other (message/proofs/OneReading.antt:
 -- `reading-is`, `reading-only`)

@@ -26,7 +26,7 @@ use Rattle.replay.specs.declared.Fed.{Fed}
 abbrev pub is_start : Event → Bool
 is_start (Start part maximum) = true
 is_start (Control m) = false
-is_start (Malformed refusal) = false
+is_start (Malformed number) = false
 is_start (Arrived a) = false
 is_start Fault = false
 
@@ -55,7 +55,7 @@ goes_on came = record { says = came.says; ledger = came.next; stage = Running }
 abbrev pub heard_of : Progress → Event → Hearing
 heard_of p (Start part maximum) = goes_on (start_of part most_rows maximum)
 heard_of p (Control m) = goes_on (take_of p.ledger m)
-heard_of p (Malformed refusal) = goes_on (malformed_of p.ledger)
+heard_of p (Malformed number) = goes_on (malformed_of p.ledger)
 heard_of p (Arrived a) = goes_on (arrival_of p.ledger a)
 heard_of p Fault = record { says = no_rule 0; ledger = p.ledger; stage = first_fault p.stage p.offset }
 

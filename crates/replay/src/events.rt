@@ -1,5 +1,7 @@
 // What a field of a trace is, by its tag and its value.
 ghost use Rattle.std.specs.Prelude.{◌≡◌};
+ghost use Rattle.common.specs.Answer.{number};
+ghost use Rattle.message.specs.Reading.{told};
 ghost use Rattle.replay.specs.Events.{started_by, control_by, malformed_by, arrived_by, as_event, event_of};
 
 use crate::Event;
@@ -53,13 +55,14 @@ fn control(value: &[u8]) -> Event
     Event::Control(m)
 }
 
-// A reading of no message: where more bytes are needed it is a fault, else it is malformed.
+// A reading of no message: where more bytes are needed it is a fault, else it is malformed, with the reader's number.
+#[tactic(auto, unfolding(common::specs::Answer::number))]
 fn malformed(reading: Result<(Message, usize), Refusal>) -> Event
-    ensures { result ≡ malformed_by reading }
+    ensures { result ≡ malformed_by (number (told reading)) }
 {
     match reading {
         Ok(_) | Err(Refusal::More) => Event::Fault,
-        Err(refusal) => Event::Malformed(refusal),
+        Err(refusal) => Event::Malformed(refusal.number()),
     }
 }
 

@@ -13,15 +13,14 @@ use field::Arrival;
 use ledger::{Answer, Ledger, Part};
 use message::Message;
 pub use steps::begin;
-use types::Refusal;
 
-// What a field of a trace is: the start, with a part and a maximum; a whole message; bytes that are none, with why the
-// reader refuses them; an arrival; or none of these.
+// What a field of a trace is: the start, with a part and a maximum; a whole message; bytes that are none, with the
+// reader's number; an arrival; or none of these.
 #[derive(Clone, Copy)]
 pub enum Event {
     Start(Part, u64),
     Control(Message),
-    Malformed(Refusal),
+    Malformed(u8),
     Arrived(Arrival),
     Fault,
 }

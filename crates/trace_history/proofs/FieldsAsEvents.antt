@@ -67,7 +67,7 @@ follows (field ∷ fields) l offset text h = go (event_in field) h (λ m o t. fo
     go (Control m) k ih =
         let f = ih _ _ _ k in
         record { ledger = f.ledger; lines = f.lines ∙ append_assoc text _ _ }
-    go (Malformed refusal) k ih =
+    go (Malformed number) k ih =
         let f = ih _ _ _ k in
         record { ledger = f.ledger; lines = f.lines ∙ append_assoc text _ _ }
     go (Arrived a) k ih =
@@ -90,7 +90,7 @@ from_first (field ∷ fields) h = go (event_in field) h
     go : (e : FieldEvent) → Unbroken fields (tell_by (with_text begun []) e (field_size field)) → Follows (steps add_line (tell_by (with_text begun []) e (field_size field)) fields) (ledger_after (heard_of begun e).ledger (happens e ++ happening_in fields)) (lines_by 0 e (field_size field) fields ((heard_of begun e).says ∷ map verdict_in (log_of (heard_of begun e).ledger (happens e ++ happening_in fields))))
     go (Start part maximum) k = follows fields _ _ _ k
     go (Control m) k = no-fault fields _ _ _ _ k
-    go (Malformed refusal) k = no-fault fields _ _ _ _ k
+    go (Malformed number) k = no-fault fields _ _ _ _ k
     go (Arrived a) k = no-fault fields _ _ _ _ k
     go Fault k = no-fault fields _ _ _ _ k
 
@@ -109,7 +109,7 @@ starts (field ∷ fields) h = go (event_in field) (event-fits (number_of_tag fie
         let accepted = small-starts part maximum fits in
         (record { part = part; maximum = maximum; accepted = accepted; ledger = refl }, accepted)
     go (Control m) fits k = no-fault fields _ _ _ _ k
-    go (Malformed refusal) fits k = no-fault fields _ _ _ _ k
+    go (Malformed number) fits k = no-fault fields _ _ _ _ k
     go (Arrived a) fits k = no-fault fields _ _ _ _ k
     go Fault fits k = no-fault fields _ _ _ _ k
 

@@ -7,14 +7,13 @@ use mathlib.Core.List.{List, [], ◌∷◌}
 use borrow.Author.Tests.{eqb-true}
 use lib.ListN.{length}
 use lib.Dec.{eqb}
-use Rattle.common.specs.Answer.{Answer, refused}
+use Rattle.common.specs.Answer.{Answer, refused, number}
 use Rattle.common.specs.Choice.{pick, both}
 use Rattle.common.specs.Lists.{Each}
 use Rattle.common.proofs.Cases.{pick-by}
 use Rattle.layout.specs.Typed.{Typed}
 use Rattle.types.specs.Limits.{longest_body}
 use Rattle.types.proofs.OneAnswer.{refusal_of}
-use Rattle.types.specs.declared.Refusal.TheVariants.{TooLong}
 use Rattle.message.specs.Reading.{read_up_to, read_of}
 use Rattle.message.specs.Limits.{length_over}
 use Rattle.message.proofs.Made.{answer_of}
@@ -41,24 +40,24 @@ unfolding event_of control_by
 control-is field e = rw (eqb-true (number_of_tag field) 2 e)
 
 -- the lower limit reads 3, or the same
-event-by : (value : List ℕ) (over : Bool) (a : Answer Typed) → reading_by value (answer_of (pick over (refused 3) a)) ≡ pick over (Malformed TooLong) (reading_by value (answer_of a))
-unfolding answer_of refusal_of
+event-by : (value : List ℕ) (over : Bool) (a : Answer Typed) → reading_by value (answer_of (pick over (refused 3) a)) ≡ pick over (Malformed 3) (reading_by value (answer_of a))
+unfolding answer_of refusal_of number
 event-by value true a = refl
 event-by value false a = refl
 
 -- so what a field was under a lower limit follows from what it is
-pub event-under : (low : ℕ) → low ≤ longest_body → (field : List ℕ) → event_up_to low field ≡ pick (field_over low field) (Malformed TooLong) (event_in field)
+pub event-under : (low : ℕ) → low ≤ longest_body → (field : List ℕ) → event_up_to low field ≡ pick (field_over low field) (Malformed 3) (event_in field)
 unfolding event_up_to field_over reading_up_to
 event-under low rises field = go (eqb (number_of_tag field) 2) refl
   where
     value : List ℕ
     value = value_of field
 
-    go : (b : Bool) → eqb (number_of_tag field) 2 ≡ b → pick b (reading_by value (answer_of (read_up_to low value))) (event_in field) ≡ pick (both b (length_over low value)) (Malformed TooLong) (event_in field)
+    go : (b : Bool) → eqb (number_of_tag field) 2 ≡ b → pick b (reading_by value (answer_of (read_up_to low value))) (event_in field) ≡ pick (both b (length_over low value)) (Malformed 3) (event_in field)
     go true e =
         ap (λ (a : Answer Typed). reading_by value (answer_of a)) (under-lower low longest_body rises value)
         ∙ event-by value (length_over low value) (read_of value)
-        ∙ ap (pick (length_over low value) (Malformed TooLong)) (sym (control-is field e))
+        ∙ ap (pick (length_over low value) (Malformed 3)) (sym (control-is field e))
     go false e = refl
 
 -- with the limit that there is, it is what it is

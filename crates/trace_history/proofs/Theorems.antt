@@ -21,7 +21,6 @@ use Rattle.history.proofs.Theorems.{exchanged-histories-agree, rows-told-by-thei
 use Rattle.trace.specs.Fields.{field_size}
 use Rattle.replay.specs.Events.{event_in}
 use Rattle.replay.specs.Progressing.{replay_of}
-use Rattle.types.specs.declared.Refusal.TheVariants.{TooLong}
 use Rattle.replay.specs.declared.Event.TheVariants.{Control, Malformed}
 use Rattle.report.specs.Report.{ledger_text, text_of, report_of}
 use Rattle.answers.specs.Answers.{answers_of}
@@ -77,7 +76,7 @@ answers-as-before s none = sym (limits.answers-under s former_body (omega arith)
 
 -- A field that reads such a Length was malformed, with 3; every other field is what it was.
 pub field-before : (field : List ℕ)
-    → event_up_to former_body field ≡ pick (field_over former_body field) (Malformed TooLong) (event_in field)
+    → event_up_to former_body field ≡ pick (field_over former_body field) (Malformed 3) (event_in field)
 field-before = limits.event-under former_body (omega arith)
 
 -- The limit is all that those definitions change: with the one that there is, they are the report and the answers.

@@ -53,7 +53,7 @@ pub record Started (l : Ledger) : Type 0 where
 abbrev pub happens : FieldEvent → List Event
 happens (Start part maximum) = []
 happens (Control m) = message m ∷ []
-happens (Malformed refusal) = malformed ∷ []
+happens (Malformed number) = malformed ∷ []
 happens (Arrived a) = arrival a ∷ []
 happens Fault = []
 
