@@ -31,8 +31,12 @@ impl<T: Blank, const MOST: usize> Model for Few<T, MOST> {
 
     ghost inverse = { λ items. record { at = items ++ replicate (MOST - length items) T.blank; used = length items } };
 
-    ghost inverse_ok = { λ f fits. Prim.search (rules, length-take-le f.used f.at, take-append-drop f.used f.at,
-        fits) };
+    ghost inverse_ok = { λ f fits. Prim.search (
+      rules,
+      length-take-le f.used f.at,
+      take-append-drop f.used f.at,
+      fits,
+    ) };
 }
 
 impl<T: Blank, const MOST: usize> Clone for Few<T, MOST> {

@@ -29,7 +29,7 @@ returns-then-not-has_bytes c =
 pub returns-in_err-entry : goal.returns-in_err-entry
 returns-in_err-entry c =
     rw (handed c.from_residual-in_err-entry.ensures.1)
-      (entry-text _ _ c.args.kind _ (sym c.has_bytes.ensures ∙ c.if-not-has_bytes.false) (lead (goal.at.returns-in_err-entry c).Joined-has_number) c.in_err-entry.ensures)
+    (entry-text _ _ c.args.kind _ (sym c.has_bytes.ensures ∙ c.if-not-has_bytes.false) (lead (goal.at.returns-in_err-entry c).Joined-has_number) c.in_err-entry.ensures)
 
 pub returns : goal.returns
 returns c =
