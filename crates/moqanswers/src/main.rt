@@ -3,7 +3,9 @@
 // length.
 #![tactic(auto)]
 
-ghost use Rattle.std.specs.Prelude.{◌≤◌, IfOk, length};
+ghost use Rattle.std.specs.Prelude.{◌≤◌, IfOk, OnOk, length};
+ghost use Rattle.moqanswers.specs.Waiting.{EndsIn};
+ghost use Rattle.text.specs.Lines.{line_of};
 
 use console::{Failed, Page};
 use replay::{Fed, Progress};
@@ -48,7 +50,13 @@ fn print_fields(rt: &impl Print, mut progress: Progress, s: &[u8]) -> Result<Fed
     Ok(Fed { progress, used })
 }
 
-fn print_line(rt: &impl Print, page: &mut Page, line: &Line) -> Result<(), Failed> {
+// A line goes to the page, whole, behind what waits there.
+fn print_line(rt: &impl Print, page: &mut Page, line: &Line) -> Result<(), Failed>
+    ensures { OnOk result (EndsIn page.new.bytes page.new.used (line_of line.now)) }
+{
+    if line.as_slice().is_empty() {
+        return Ok(());
+    }
     page.make_room(rt, text::LONGEST_LINE)?;
     if let Some(n) = text::put(&mut page.bytes[page.used..], line) {
         page.used += n;
