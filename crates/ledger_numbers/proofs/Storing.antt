@@ -8,7 +8,7 @@ use native.Mathlib.Omega.{arith}
 use lib.ListN.{length, get_or, drop, length-append, drop_of_length-le}
 use lib.Seq.{drop-cons}
 use Rattle.common.specs.Buffer.{Put}
-use Rattle.common.proofs.Puts.{Room, lent, given, second_fits, both-fit, put_both, put-length}
+use Rattle.common.proofs.Puts.{Room, lent, given, second_fits, put_both}
 use Rattle.common.proofs.PutLoop.{Going, Next}
 use Rattle.field.specs.declared.Place.{Place}
 use Rattle.row.specs.declared.Range.{Range}

@@ -8,6 +8,7 @@ ghost use Rattle.ledger_numbers.specs.Naming.{kept_in};
 use crate::rows::put_row;
 use crate::{LEDGER_NUMBERS, OWN_NUMBERS};
 use ledger::{Ledger, Part, Session};
+use row::Row;
 
 fn part_number(part: Part) -> u64
     ensures { result ≡ part_number part }
@@ -28,21 +29,21 @@ fn session_number(session: Session) -> u64
 }
 
 // The rows, one after the other.
-fn put_rows(out: &mut [u64], l: Ledger) -> usize
-    requires { length (numbers_of_rows l.rows) ≤ length out.old }
-    ensures { Put (numbers_of_rows l.rows) out.old result out.new }
+fn put_rows(out: &mut [u64], rows: &[Row]) -> usize
+    requires { length (numbers_of_rows rows.now) ≤ length out.old }
+    ensures { Put (numbers_of_rows rows.now) out.old result out.new }
 {
     let mut at: usize = 0;
-    for row in &l.rows {
+    for row in rows {
         at += put_row(&mut out[at..], *row);
     }
     at
 }
 
 // All of them, at the front of out.
-pub fn put_ledger(out: &mut [u64], l: Ledger) -> usize
-    requires { length (numbers_of l) ≤ length out.old }
-    ensures { Put (numbers_of l) out.old result out.new }
+pub fn put_ledger(out: &mut [u64], l: &Ledger) -> usize
+    requires { length (numbers_of l.now) ≤ length out.old }
+    ensures { Put (numbers_of l.now) out.old result out.new }
 {
     let own = [
         part_number(l.part),
@@ -53,7 +54,7 @@ pub fn put_ledger(out: &mut [u64], l: Ledger) -> usize
         l.used as u64,
     ];
     out[..OWN_NUMBERS].copy_from_slice(&own);
-    OWN_NUMBERS + put_rows(&mut out[OWN_NUMBERS..], l)
+    OWN_NUMBERS + put_rows(&mut out[OWN_NUMBERS..], &l.rows)
 }
 
 // The numbers of the ledger that a call left; where it is none, or there is no room for it, what was there stays.
@@ -61,6 +62,6 @@ pub fn keep(numbers: &mut [u64], next: Ledger)
     ensures { numbers.new ≡ kept_in numbers.old next }
 {
     if next.capacity != 0 && numbers.len() >= LEDGER_NUMBERS {
-        put_ledger(numbers, next);
+        put_ledger(numbers, &next);
     }
 }

@@ -20,7 +20,10 @@ pub fn unpack(numbers: &[u64]) -> Ledger
         return none();
     }
     let l = ledger_in(numbers);
-    if has_numbers(l, numbers) { l } else { none() }
+    if !has_numbers(l, numbers) {
+        return none();
+    }
+    l
 }
 
 #[tactic(auto, unfolding(ledger::specs::Steps::start_of))]
@@ -97,6 +100,6 @@ fn has_numbers(l: Ledger, numbers: &[u64]) -> bool
     ensures { result ≡ are_same (numbers_of l) (take ledger_numbers numbers.now) }
 {
     let mut own = [0u64; LEDGER_NUMBERS];
-    put_ledger(&mut own, l);
+    put_ledger(&mut own, &l);
     own[..] == numbers[..LEDGER_NUMBERS]
 }

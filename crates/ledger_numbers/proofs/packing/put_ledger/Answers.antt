@@ -21,8 +21,8 @@ copy_from_slice-requires c = rw length-take (omega arith)
 
 pub put_rows-requires : goal.put_rows-requires
 put_rows-requires c =
-    rows_fit c.args.l c.part_number.ensures c.session_number.ensures c.args.out.now c.requires c.copy_from_slice.ensures.after
+    rows_fit c.args.l.now c.part_number.ensures c.session_number.ensures c.args.out.now c.requires c.copy_from_slice.ensures.after
 
 pub returns : goal.returns
 returns c =
-    ledger-put c.args.l c.part_number.ensures c.session_number.ensures c.args.out.now c.requires c.copy_from_slice.ensures.after c.put_rows.ensures
+    ledger-put c.args.l.now c.part_number.ensures c.session_number.ensures c.args.out.now c.requires c.copy_from_slice.ensures.after c.put_rows.ensures
