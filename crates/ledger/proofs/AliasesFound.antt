@@ -1,10 +1,13 @@
 -- The aliases of rows, one after the other; a number found among them is a row found by its alias. Assumes nothing.
-use Prim.Native.Nat.{ℕ, zero, suc, ◌+◌, ◌<◌}
-use mathlib.Core.Path.{◌≡◌, refl, ap}
+use Prim.Native.Nat.{ℕ, zero, suc, ◌+◌, ◌≤◌, ◌<◌}
+use mathlib.Core.Path.{◌≡◌, refl, sym, ap, ◌∙◌}
 use mathlib.Core.List.{List, [], ◌∷◌, map}
+use native.Mathlib.Numerals.{add-one}
 use native.Mathlib.Omega.{arith}
-use lib.ListN.{length, take, get_or}
+use lib.ListN.{length, take, get_or, set, length-set, length-map, get_or-map}
+use lib.Seq.{take_all, take-suc, take-suc-set}
 use Rattle.row.specs.declared.Row.{Row}
+use Rattle.ledger.specs.Ledgers.{most_rows}
 use Rattle.ledger.specs.Steps.{alias_of}
 use Rattle.ledger.specs.Arrays.{find}
 use Rattle.ledger.specs.Runs.{itself}
@@ -19,11 +22,23 @@ unfolding find
 find-map n from [] = refl
 find-map n from (r ∷ rs) = rw (find-map n (from + 1) rs)
 
--- a list whose every element is made of that at its place
-pub mapped : {A B : Type 0} (f : A → B) (xs : List A) (ys : List B) (n : ℕ) → length xs ≡ n → length ys ≡ n → ((i : ℕ) (d : A) (e : B) → i < n → get_or ys i e ≡ f (get_or xs i d)) → ys ≡ map f xs
-mapped f [] [] n l m each = refl
-mapped f [] (y ∷ ys) n l m each = absurd (omega arith)
-mapped f (x ∷ xs) [] n l m each = absurd (omega arith)
-mapped f (x ∷ xs) (y ∷ ys) zero l m each = absurd (omega arith)
-mapped f (x ∷ xs) (y ∷ ys) (suc n) l m each =
-    rw (each zero x y (omega arith), mapped f xs ys n (omega arith) (omega arith) (λ i d e h. each (suc i) d e (omega arith)))
+-- the first i of the names are those of the rows
+pub record Named (rs : List Row) (names : List ℕ) (i : ℕ) : Type 0 where
+  pub to : i ≤ most_rows
+  pub long : length names ≡ most_rows
+  pub so_far : take i names ≡ map alias_of (take i rs)
+
+module _ (rs : List Row) (names : List ℕ) (i : ℕ) (k : length rs ≡ most_rows) (n : Named rs names i) where
+  pub named-next : (d : Row) → i < most_rows → Named rs (set names i (get_or rs i d).alias) (i + 1)
+  named-next d h =
+      record {
+        to = omega arith;
+        long = length-set names i _ ∙ n.long;
+        so_far =
+            rw (add-one, take-suc-set names i (get_or rs i d).alias (omega (arith, n.long)), n.so_far, ← take-map alias_of i rs, ← take-map alias_of (suc i) rs)
+            (sym (rw (take-suc (map alias_of rs) i d.alias (rw length-map (omega arith)), get_or-map alias_of rs i d)));
+      }
+
+  pub all_named : most_rows ≤ i → names ≡ map alias_of rs
+  all_named h =
+      sym (take_all i names (omega (arith, n.long))) ∙ n.so_far ∙ ap (map alias_of) (take_all i rs (omega arith))

@@ -6,13 +6,13 @@ use crate::finding::held;
 use crate::{Ledger, MOST_ROWS};
 
 #[tactic(auto, unfolding(crate::specs::Ledgers::is_ledger))]
-pub fn is_ledger(l: Ledger) -> bool
-    ensures { result ≡ is_ledger l }
+pub fn is_ledger(l: &Ledger) -> bool
+    ensures { result ≡ is_ledger l.now }
 {
-    if !is_bounded(&l) {
+    if !is_bounded(l) {
         return false;
     }
-    do_rise(&l) && are_distinct(&l) && is_rest_unused(&l)
+    do_rise(l) && are_distinct(l) && is_rest_unused(l)
 }
 
 // The capacity, the rows in use, and the numbers beside the rows.

@@ -9,8 +9,8 @@ use crate::{Answer, Ledger, Session};
 // a `Ledger`, so that type would be made here and taken apart in each of them.
 // Sound is whether the message or the arrival holds no forbidden value.
 #[tactic(auto, unfolding(crate::specs::Answers::gate_of, crate::specs::Answers::stops))]
-pub fn gate(l: Ledger, sound: bool) -> Result<(), Answer>
-    ensures { told_gate result ≡ no_rule (gate_of l sound) }
+pub fn gate(l: &Ledger, sound: bool) -> Result<(), Answer>
+    ensures { told_gate result ≡ no_rule (gate_of l.now sound) }
 {
     if !is_ledger(l) {
         return Err(Answer::NotALedger);

@@ -24,7 +24,7 @@ impl Ledger {
     pub fn is_ledger(self) -> bool
         ensures { result ≡ is_ledger self }
     {
-        crate::checks::is_ledger(self)
+        crate::checks::is_ledger(&self)
     }
 
     pub fn subscribe(self, x: Subscribe) -> Taken
@@ -67,7 +67,7 @@ impl Ledger {
     pub fn malformed(self) -> Taken
         ensures { told result ≡ malformed_of self }
     {
-        if let Err(answer) = gate(self, true) {
+        if let Err(answer) = gate(&self, true) {
             return self.answers(answer);
         }
         break_rule(self, false, Rule::R1)
@@ -76,7 +76,7 @@ impl Ledger {
     pub fn arrival(self, a: Arrival) -> Taken
         ensures { told result ≡ arrival_of self a }
     {
-        if let Err(answer) = gate(self, is_small(a)) {
+        if let Err(answer) = gate(&self, is_small(a)) {
             return self.answers(answer);
         }
         count(self, a)
@@ -86,7 +86,7 @@ impl Ledger {
     pub fn take(self, m: Message) -> Taken
         ensures { told result ≡ take_of self m }
     {
-        if let Err(answer) = gate(self, message_writer::is_sound(m)) {
+        if let Err(answer) = gate(&self, message_writer::is_sound(m)) {
             return self.answers(answer);
         }
         match m {

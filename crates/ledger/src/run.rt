@@ -20,7 +20,7 @@ impl Ledger {
     pub fn arrivals(self, run: &[u64], answers: &mut [u8]) -> Ran
         ensures { Runs (run_of self run.now answers.old) result answers.new }
     {
-        if !is_ledger(self) {
+        if !is_ledger(&self) {
             return Ran {
                 answer: Err(RunRefused::NotALedger),
                 ledger: self,
@@ -34,7 +34,7 @@ impl Ledger {
             };
         }
         let opened = is_open(self.session);
-        let names = aliases(self);
+        let names = aliases(&self);
         let mut l = self;
         for (k, [alias, group, object]) in came.iter().enumerate() {
             let place = Place {
@@ -87,10 +87,14 @@ fn first(opened: bool, a: Arrival) -> u8
 }
 
 // The aliases of all rows.
-fn aliases(l: Ledger) -> [u64; MOST_ROWS]
-    ensures { result ≡ map alias_of l.rows }
+fn aliases(l: &Ledger) -> [u64; MOST_ROWS]
+    ensures { result ≡ map alias_of l.now.rows }
 {
-    l.rows.map(|row| row.alias)
+    let mut names = [0u64; MOST_ROWS];
+    for (i, row) in l.rows.iter().enumerate() {
+        names[i] = row.alias;
+    }
+    names
 }
 
 fn find_name(names: &[u64], alias: u64) -> Option<usize>

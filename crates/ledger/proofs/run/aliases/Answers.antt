@@ -1,15 +1,14 @@
--- `aliases` meets its contract. Assumes nothing.
-use Rattle.std.proofs.Common.{◌≡◌, length, rules, tests}
-use Rattle.ledger.specs.Ledgers.{most_rows}
-use Rattle.ledger.specs.Steps.{alias_of}
-use Rattle.ledger.proofs.AliasesFound.{mapped}
+-- `aliases` meets its contract: the names so far are those of the rows. Assumes nothing.
+use mathlib.Core.Path.{refl}
+use native.Mathlib.Omega.{arith}
+use Rattle.ledger.proofs.AliasesFound.{named-next, all_named}
 use Rattle.ledger.proofs.run.aliases.Goals as goal
-use Rattle.ledger.proofs.run.aliases.Goals.{Start}
 
--- there are 64 places
-places : (c : Start) → length c.args.l.rows ≡ most_rows
-places c = c.well_formed.0.1.1.0.1.0.1
+pub loop-i-init : goal.loop-i-init
+loop-i-init c = record { to = omega arith; long = refl; so_far = refl }
+
+pub loop-i-preserved : goal.loop-i-preserved
+loop-i-preserved c = named-next _ _ _ (omega arith) c.loop-i.invariant _ (omega arith)
 
 pub returns : goal.returns
-returns c =
-    mapped alias_of c.args.l.rows _ _ (places (goal.at.returns c).Start) c.map.ensures.items.long (λ i d e h. let k = (c.map.ensures.items.at i d e h).2 in search (rules, tests))
+returns c = all_named _ _ _ (omega arith) c.loop-i.invariant (omega arith)
