@@ -26,9 +26,10 @@ pub fn count(l: Ledger, a: Arrival) -> Taken
     let Some(i) = find_alias(&l, a.alias) else {
         return l.answers(Answer::NoRow);
     };
-    match row::arrive(l.rows[i], a.place) {
-        Err(NotCounted::Waiting) => l.answers(Answer::StillPending),
-        Err(NotCounted::Outside) => l.answers(Answer::Outside),
-        Ok(counted) => with_row(l, i, counted).answers(Answer::Counted),
-    }
+    let counted = match row::arrive(l.rows[i], a.place) {
+        Err(NotCounted::Waiting) => return l.answers(Answer::StillPending),
+        Err(NotCounted::Outside) => return l.answers(Answer::Outside),
+        Ok(counted) => counted,
+    };
+    with_row(l, i, counted).answers(Answer::Counted)
 }

@@ -89,10 +89,10 @@ impl Ledger {
         if let Err(answer) = gate(&self, message_writer::is_sound(m)) {
             return self.answers(answer);
         }
-        match m {
-            Message::Subscription(x) => keep(self, x),
-            _ => other(self),
-        }
+        let Message::Subscription(x) = m else {
+            return other(self);
+        };
+        keep(self, x)
     }
 }
 

@@ -14,9 +14,9 @@ pub keep-requires : goal.keep-requires
 unfolding take_of
 keep-requires c = went-ledger _ c.is_sound.ensures c.gate.ensures c.in_default.is
 
-pub returns-in-Subscription : goal.returns-in-Subscription
+pub returns : goal.returns
 unfolding take_of
-returns-in-Subscription c =
+returns c =
     went _ c.is_sound.ensures c.gate.ensures c.in_default.is (of_part _ c.keep.ensures c.in-Subscription.is)
 
 pub other-requires : goal.other-requires

@@ -29,6 +29,6 @@ returns-in-Err-Outside c =
 pub with_row-requires : goal.with_row-requires
 with_row-requires c = omega (arith, ledger-used _ c.requires, found-used alias_of _ _ c.find_alias.ensures c.in-Some.is)
 
-pub returns-in-Ok : goal.returns-in-Ok
-returns-in-Ok c =
-    rw c.answers-in-Ok.ensures (counted _ c.requires _ c.find_alias.ensures c.in-Some.is c.arrive.ensures c.in-Ok.is c.with_row.ensures)
+pub returns : goal.returns
+returns c =
+    rw c.answers-2.ensures (counted _ c.requires _ c.find_alias.ensures c.in-Some.is c.arrive.ensures c.in-Ok.is c.with_row.ensures)
