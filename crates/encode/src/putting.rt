@@ -40,9 +40,7 @@ fn put_bytes(out: &mut [u8], bytes: &[u8], p: Span) -> usize
     requires in_bounds { p.end - p.start ≤ length out.old }
     ensures { Put (part bytes.now p) out.old result out.new }
 {
-    let n = p.end - p.start;
-    out[..n].copy_from_slice(&bytes[p.start..p.end]);
-    n
+    common::put_bytes(out, &bytes[p.start..p.end])
 }
 
 // A length and the bytes of a part.

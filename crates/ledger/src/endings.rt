@@ -35,7 +35,7 @@ fn without(l: Ledger, at: usize) -> Ledger
     ensures { result ≡ freed l at }
 {
     let mut next = l;
-    next.rows[at..].rotate_left(1);
+    next.rows[at..LAST].copy_from_slice(&l.rows[at + 1..]);
     next.rows[LAST] = row::unused();
     next.used = l.used - 1;
     next

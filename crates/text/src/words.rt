@@ -67,7 +67,5 @@ pub fn put_str(out: &mut [u8], s: &str) -> usize
     requires { length s.now ≤ length out.old }
     ensures { Put s.now out.old result out.new }
 {
-    let n = s.len();
-    out[..n].copy_from_slice(s.as_bytes());
-    n
+    common::put_bytes(out, s.as_bytes())
 }
