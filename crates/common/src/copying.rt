@@ -1,5 +1,5 @@
-// Bytes put at the front of what is lent. A loop, and not the library's copy, which would ask the C library for one call
-// more than the rest of the code needs.
+// Bytes put at the front of what is lent. A loop, and not the library's copy: that would ask the C library for one call
+// more than the rest of the code does.
 ghost use Rattle.std.specs.Prelude.{length, take};
 ghost use Rattle.common.specs.Buffer.{Put};
 

@@ -50,7 +50,7 @@ pub enum Subject {
 }
 
 // A place in a layout: what is laid out, and the numbers that the fields so far handed on.
-// They stay an array and a count: a cursor is Copy, and a Few, whose view forgets its unused places, can't be.
+// They stay an array and a count: a cursor may have any numbers behind those passed, which a Few would exclude.
 #[derive(Clone, Copy)]
 pub struct Place {
     pub outline: Outline,
