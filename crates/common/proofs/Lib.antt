@@ -8,3 +8,4 @@ pub mod Puts
 pub mod PutLoop
 pub mod Exits
 mod BlankPlaces
+mod Reaching

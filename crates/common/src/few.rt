@@ -51,6 +51,7 @@ impl<T: Blank, const MOST: usize> Clone for Few<T, MOST> {
 
 impl<T: Blank, const MOST: usize> Few<T, MOST> {
     // The first MOST of these items: all of them, where they are no more.
+    #[tactic(auto, using(crate::proofs::BlankPlaces::places, crate::proofs::BlankPlaces::blank_behind))]
     pub fn of<const N: usize>(items: [T; N]) -> Self
         ensures { result ≡ take MOST items }
     {
