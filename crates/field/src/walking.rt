@@ -8,7 +8,9 @@ ghost use Rattle.field.specs.Told.{told_entry, told_walk};
 use crate::{Entry, Fault, Kind, LONGEST_TRACK, Span, Sums};
 
 // A length and as many bytes, of an entry that has a number. The length is judged before the bytes are looked for: over
-// most it is a size, though they may be missing.
+// most it is a size, though they may be missing. (This and entry_at are compiled into their callers: handed back from a
+// call, an entry would be copied through memory.)
+#[inline(always)]
 fn numbered(s: &[u8], number: u64, most: u64, at: usize) -> Result<Entry, Fault>
     ensures { told_entry result ≡ numbered_at number most s.now at }
 {
@@ -27,6 +29,7 @@ fn numbered(s: &[u8], number: u64, most: u64, at: usize) -> Result<Entry, Fault>
 }
 
 // The entry at an offset, which may hold most bytes.
+#[inline(always)]
 pub fn entry_at(s: &[u8], kind: Kind, most: u64, at: usize) -> Result<Entry, Fault>
     ensures { told_entry result ≡ entry_at kind most s.now at }
 {
